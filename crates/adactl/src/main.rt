@@ -14,7 +14,8 @@ use std::io::{BufWriter, ErrorKind};
 use std::process::ExitCode;
 use std::{env, fs, io};
 
-/// What words that cannot be had come to: memory was refused, or a word is not UTF-8.
+/// Returns the fault for words that cannot be read: `Memory` if memory was refused, else `Usage`, as for a word that is
+/// not UTF-8.
 fn fault_of_words(error: &io::Error) -> UsageFault
     ensures { (result ≡ UsageFault.Memory) ↔ (error_kind error.now ≡ ErrorKind.OutOfMemory) }
 {
@@ -24,14 +25,14 @@ fn fault_of_words(error: &io::Error) -> UsageFault
     }
 }
 
-/// The job that the words after the program's name ask for.
+/// Returns the job that the words after the program's name ask for.
 fn asked_job(rt: &HostRuntime) -> Result<Job, UsageFault> {
     let args = env::args(rt).map_err(|error| fault_of_words(&error))?;
     let words: Vec<String> = args.skip(1).collect(rt.alloc())?;
     job_of(rt.alloc(), words.as_slice())
 }
 
-/// The file that a job names.
+/// Returns the name of the file of a job.
 fn file_of(job: &Job) -> &str
     ensures { result.now ≡ file_named job.now }
 {
@@ -40,7 +41,7 @@ fn file_of(job: &Job) -> &str
     }
 }
 
-/// Does what the words ask for, and answers the exit status.
+/// Does the job that the words ask for, and returns the exit status.
 ///
 /// Standard output is buffered; standard error is not.
 fn perform(rt: &HostRuntime) -> u8 {

@@ -1,4 +1,4 @@
-//! Blocks of one size in one region. The free ones form a list that is kept in their own words.
+//! Pools of blocks of one size, each in one region (RM 13.11). The free blocks are linked by their own first words.
 #![tactic(auto)]
 
 mod pool;

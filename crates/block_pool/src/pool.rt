@@ -6,7 +6,9 @@ use raw_region::{Block, PoolFault, RawRegion};
 use std::alloc::{Allocator, Global};
 use std::marker::Model;
 
-/// A pool of blocks of one size. It ends by `close`, once all its blocks are back.
+/// A pool of blocks of one size in one region (RM 13.11).
+///
+/// It has to be closed by `close`, once all its blocks are back.
 pub struct BlockPool<A: Allocator = Global> {
     region: RawRegion<A>,
     block_words: usize,
@@ -34,11 +36,12 @@ impl<A: Allocator> Model for BlockPool<A> {
 }
 
 impl<A: Allocator> BlockPool<A> {
-    /// A pool of `count` blocks, from 1 to 65,536, of `block_words` words each, from 1 to 512. All are free.
+    /// Opens a pool of `count` blocks, from 1 to 65,536, of `block_words` 64-bit words each, from 1 to 512. All blocks
+    /// are free.
     ///
     /// # Errors
     ///
-    /// `Size` where one of the two is out of range, and `Memory` where the allocator refuses the region.
+    /// Returns `Size` if one of the two is out of range, and `Memory` if the allocator refuses the region.
     pub fn new(alloc: A, block_words: usize, count: usize) -> Result<BlockPool<A>, PoolFault>
         ensures ok { IfOk result (λ p. IsPoolSize block_words count × (p.block_words ≡ block_words)
             × (p.count ≡ count) × (p.free ≡ count)) }
@@ -58,36 +61,37 @@ impl<A: Allocator> BlockPool<A> {
         })
     }
 
-    /// How many blocks are free.
+    /// Counts the free blocks.
     pub fn free(&self) -> u64
         ensures { result ≡ self.now.free }
     {
         self.free as u64
     }
 
-    /// How many blocks there are, free or out.
+    /// Counts all blocks, free or out.
     pub fn count(&self) -> u64
         ensures { result ≡ self.now.count }
     {
         self.count as u64
     }
 
-    /// How many words a block has.
+    /// Returns the number of words of a block.
     pub fn block_words(&self) -> usize
         ensures { result ≡ self.now.block_words }
     {
         self.block_words
     }
 
-    /// Whether all blocks are back.
+    /// Returns whether all blocks are back.
     pub fn is_whole(&self) -> bool
         ensures { IsTrue result ↔ self.now.free ≡ self.now.count }
     {
         self.free == self.count
     }
 
-    /// A whole free block, for a request of `words` words, or `None` where no block is free or none is large
-    /// enough. What its words are is left open.
+    /// Takes a free block, the whole of it, for a request of `words` words. The values of its words are unspecified.
+    ///
+    /// Returns `None` if no block is free, or if a block has fewer words than that. Nothing changes then.
     pub fn take(&mut self, words: usize) -> Option<Block>
         ensures { MatchOption result (IsRefused self.old words × (self.new ≡ self.old))
             (λ b. (¬ IsRefused self.old words) × IsBlockOf self.old b × (words ≤ length b.words)
@@ -102,7 +106,7 @@ impl<A: Allocator> BlockPool<A> {
         Some(self.region.cut(start, self.block_words))
     }
 
-    /// Takes a block of this pool back. It is free from now on.
+    /// Gives a block of this pool back. It is free after the call.
     pub fn give(&mut self, block: Block)
         requires { IsBlockOf self.old block }
         ensures { self.new ≡ with_free self.old (self.old.free + 1) }
@@ -114,7 +118,7 @@ impl<A: Allocator> BlockPool<A> {
         self.free += 1;
     }
 
-    /// Frees the region. All blocks are back.
+    /// Closes the pool and frees its region. All blocks are back.
     pub fn close(self)
         requires { self.free ≡ self.count }
     {
@@ -129,7 +133,7 @@ impl<A: Allocator> BlockPool<A> {
     }
 }
 
-// Makes all blocks of a new region free, and gives the first place of the list's first.
+// Links all blocks of a new region as free, and returns the first place of the list's first block.
 fn link_all<A: Allocator>(region: &mut RawRegion<A>, block_words: usize, count: usize) -> usize
     requires { IsPoolSize block_words count
         × (region.old.places ≡ held (replicate (count * block_words) 0)) }

@@ -11,7 +11,7 @@ use Rattle.ctl_meaning.specs.Lists.{opened_lists}
 use Rattle.ctl_meaning.specs.Objects.{first_cells, opened_objects}
 use Rattle.ctl_meaning.specs.Activations.{master_of}
 use Rattle.ctl_meaning.specs.Choice.{Ask}
-use Rattle.ctl_meaning.specs.Outcome.{constraint_error, ByRaise, Result, Goes, Leaves, Out, Gives, Act, add, bind, on_goes, ◌>>=◌, done, ticked, opened_outcome}
+use Rattle.ctl_meaning.specs.Outcome.{ByRaise, Result, Goes, Leaves, Out, Gives, Act, add, bind, on_goes, ◌>>=◌, done, ticked, opened_outcome}
 use Rattle.ctl_meaning.specs.Types.{Tables, Category, Elementary, Composite, category_of, cells_of}
 use Rattle.ctl_meaning.specs.Names.{Alone, InVariable, Found, Call, Default, Tools, opened_names}
 use Rattle.ctl_meaning.specs.Expressions.{Formal, Naming, Passed, Supplied, copied, no_actuals, going_back, pass_each, with_formal}
@@ -25,17 +25,18 @@ use Rattle.ctl_code.specs.States.{Word, Scalar, Located, Frame, State}
 use Rattle.ctl_code.specs.Table.{formal_of, formals_of}
 use Rattle.ctl_code.specs.Windows.{depth}
 use Rattle.ctl_layout.specs.Around.{Line, local_at, new_operand}
-use Rattle.ctl_layout.specs.Parts.{Reached, Object, Part, Variable, are_walked, part_code, part_runs}
+use Rattle.ctl_layout.specs.Parts.{Reached, Object, Part, Variable, are_followed, is_begun, part_code, part_runs}
 use Rattle.ctl_layout.specs.Values.{ActualCode, ValueCode, actuals_code, begins_code, by_copy, by_reference, goes_back, with_actuals}
 use Rattle.ctl_gen.proofs.Known.{IsScalar, scalar_elementary, scalar_if}
 use Rattle.ctl_gen.proofs.Values.{scalar_cells}
 use Rattle.ctl_gen.proofs.Place.{Laid, laid_front, laid_back}
 use Rattle.ctl_gen.proofs.Each.{Each, each_and}
-use Rattle.ctl_gen.proofs.Worlds.{IsPlainSlot, Since, no_copy_at}
+use Rattle.ctl_gen.proofs.Worlds.{IsPlainSlot, Since}
 use Rattle.ctl_gen.proofs.Setting.{Setting, tools_with, IsSeen}
 use Rattle.ctl_gen.proofs.Cells.{Any, by_code, landed, put_is, value_of}
-use Rattle.ctl_gen.proofs.Parts.{Leads, agree_part, composite_leads, find_by, part_then}
-use Rattle.ctl_gen.proofs.Walked.{steps_before, steps_of, variable_of}
+use Rattle.ctl_gen.proofs.Parts.{Leads, agree_part, composite_leads, find_by}
+use Rattle.ctl_gen.proofs.Begun.{Starts, part_then}
+use Rattle.ctl_gen.proofs.Walked.{part_begun, start_of, steps_before, steps_of}
 use Rattle.ctl_gen.proofs.Worth.{both_cell}
 use Rattle.ctl_gen.proofs.Expressions.{Uses, Value, read_step, value_runs}
 use Rattle.ctl_gen.proofs.Follow.{IsRaise, RunsTo, by_raise, at, transferred, added_to, both_to, last_step_to, no_step_to, within_to, bind_add, bind_bind}
@@ -171,31 +172,30 @@ module _ (ask : Ask) (k : Tables) (code : Code) (setting : Setting k code) (call
   value_passes x act ty scalar value = subst (λ (c : Category). Puts (λ s. x.code (new_operand s) ty s) None (λ d. (act d >>= (λ v. done (Alone v))) >>= takes_value c)) (sym (scalar_elementary ty scalar)) (value_puts x act ty value)
 
   -- a part, by reference
-  reference_puts : (x : Reached) (t : ℕ) → are_walked false (steps_before x) ≡ true → part_runs x k.records ≡ true → Puts (part_code x t) None (λ d. ticked (find_by K (steps_of x) (variable_of x) d) >>= takes_reference)
+  reference_puts : (x : Reached) (t : ℕ) (act : List ℕ → Act (List ℕ)) → Starts ask k code bound w0 (start_of x) act → are_followed (start_of x) (steps_before x) ≡ true → part_runs x k.records ≡ true → Puts (part_code x t) None (λ d. ticked (find_by K act (steps_of x) (start_of x) d) >>= takes_reference)
   unfolding opened_outcome takes_reference bound_slot
-  reference_puts x t walked runs s d place ks ops c l w le fits long has =
+  reference_puts x t act begun walked runs s d place ks ops c l w le fits long has =
       let Ends = OneFormal k code w0 None in
-      let v = variable_of x in
-      let o = find_by K (steps_of x) v d c l w in
+      let o = find_by K act (steps_of x) (start_of x) d c l w in
       let next = put_there d (place + length (part_code x t s)) ks ops in
       subst (RunsTo ask code Ends 0 0 (at d place ks ops l w) c next)
       (sym (bind_add 1 o (on_goes takes_reference)))
       (added_to ask code Ends 1 0 0 0 0 _ c next _ (omega arith) (omega arith)
-      (part_then ask code K Ends next (on_goes takes_reference) d ks ops c l w 0 0 x t s place walked (agree_part k code setting.places x runs) (no_copy_at k code (master_of d v) v.slot w fits.0) long.2 has
-      (λ p. no_step_to ask code Ends 0 0 _ c 0 next (Goes (formal (Located p) None)) l w (fits, (Located p, refl)) refl)
-      (no_step_to ask code Ends 0 0 _ c 0 next (Leaves (ByRaise constraint_error)) l w (fits, tt) refl)))
+      (part_then ask k code bound w0 call default Ends next (on_goes takes_reference) d ks ops 0 0 x act begun t s place c l w walked (agree_part k code setting.places x runs) le fits long has
+      (λ c1 l1 w1 lo fits1 p. no_step_to ask code Ends 0 0 _ c1 0 next (Goes (formal (Located p) None)) l1 w1 (fits1, (Located p, refl)) refl)
+      (λ y c1 l1 w1 lo fits1. no_step_to ask code Ends 0 0 _ c1 0 next (Leaves (ByRaise y)) l1 w1 (fits1, tt) refl)))
 
-  pub reference_passes : (o : Option Reached) (ty : Ty) (find : Naming) → ((x : Reached) → o ≡ Some x → Leads K x find) → (by_reference o ty).runs k.records ≡ true → Puts (by_reference o ty).code (by_reference o ty).back (λ d. ticked (find Composite K d) >>= takes_reference)
-  reference_passes None ty find leads runs = absurd (cc)
-  reference_passes (Some x) (Record t) find leads runs =
+  pub reference_passes : (o : Option Reached) (ty : Ty) (act : List ℕ → Act (List ℕ)) (find : Naming) → ((x : Reached) → o ≡ Some x → Leads K x act find) → ((x : Reached) → o ≡ Some x → is_begun (start_of x) k.records ≡ true → Starts ask k code bound w0 (start_of x) act) → (by_reference o ty).runs k.records ≡ true → Puts (by_reference o ty).code (by_reference o ty).back (λ d. ticked (find Composite K d) >>= takes_reference)
+  reference_passes None ty act find leads begun runs = absurd (cc)
+  reference_passes (Some x) (Record t) act find leads begun runs =
       let h = leads x refl in
-      subst (λ (g : List ℕ → Act Found). Puts (part_code x t) None (λ d. ticked (g d) >>= takes_reference)) (sym (composite_leads K x find h)) (reference_puts x t h.walked runs)
-  reference_passes (Some x) Integer find leads runs = absurd (cc)
-  reference_passes (Some x) Count find leads runs = absurd (cc)
-  reference_passes (Some x) Boolean find leads runs = absurd (cc)
-  reference_passes (Some x) Address find leads runs = absurd (cc)
-  reference_passes (Some x) Handle find leads runs = absurd (cc)
-  reference_passes (Some x) (Access a) find leads runs = absurd (cc)
+      subst (λ (g : List ℕ → Act Found). Puts (part_code x t) None (λ d. ticked (g d) >>= takes_reference)) (sym (composite_leads K x act find h)) (reference_puts x t act (begun x refl (part_begun k.records x runs)) h.walked runs)
+  reference_passes (Some x) Integer act find leads begun runs = absurd (cc)
+  reference_passes (Some x) Count act find leads begun runs = absurd (cc)
+  reference_passes (Some x) Boolean act find leads begun runs = absurd (cc)
+  reference_passes (Some x) Address act find leads begun runs = absurd (cc)
+  reference_passes (Some x) Handle act find leads begun runs = absurd (cc)
+  reference_passes (Some x) (Access a) act find leads begun runs = absurd (cc)
 
   -- a copy of a variable: what its formal takes
   copy_gives : (begins : CopyStart) (v : Var) (d : List ℕ) (c : ℕ) (l : Log) (w : World) → takes_copy 1 begins (InVariable (master_of d v) v.slot) c l w ≡ Gives (Goes (formal (Scalar (begins_with begins d v w)) (back_found d (Some v)))) 0 c l w

@@ -1,5 +1,5 @@
 -- Components of objects: the code that reads one and the code that assigns to one does what the program means (4.1.3, 5.2).
-use Rattle.std.proofs.Common.{◌≡◌, ℕ, ◌+◌, ◌≤◌, List, [], ◌∷◌, ◌++◌, length, drop, Option, Some, None, true, false, refl, sym, ap, ◌∙◌, subst, arith, length-append}
+use Rattle.std.proofs.Common.{◌≡◌, ℕ, ◌+◌, ◌≤◌, List, [], ◌∷◌, ◌++◌, length, drop, Option, Some, None, true, refl, sym, ap, ◌∙◌, subst, arith, length-append}
 use Rattle.std.specs.Prelude.{slice_get}
 use Rattle.ctl_program.specs.declared.types.Ty.{Ty}
 use Rattle.ctl_program.specs.declared.types.Ty.TheVariants.{Record}
@@ -12,7 +12,7 @@ use Rattle.ctl_meaning.specs.Activations.{master_of}
 use Rattle.ctl_meaning.specs.Objects.{cells_at}
 use Rattle.ctl_meaning.specs.Changes.{object_at, slot_at, write_cells}
 use Rattle.ctl_meaning.specs.Choice.{Ask}
-use Rattle.ctl_meaning.specs.Outcome.{constraint_error, ByRaise, Result, Goes, Leaves, Out, Act, Done, add, bind, on_goes, ◌>>=◌, done, change, ticked, on_some, opened_outcome}
+use Rattle.ctl_meaning.specs.Outcome.{ByRaise, Result, Goes, Leaves, Out, Act, Done, add, bind, on_goes, ◌>>=◌, done, change, ticked, on_some, opened_outcome}
 use Rattle.ctl_meaning.specs.Types.{Tables, cells_of, offset_in, placed}
 use Rattle.ctl_meaning.specs.Names.{Found, Call, Default, Tools, gone, existing, moved as found_behind, read_found, read_part, scalar_of, write_found, write_part}
 use Rattle.ctl_meaning.specs.Finalization.{Spot}
@@ -27,18 +27,19 @@ use Rattle.ctl_code.specs.Steps.{moved, step}
 use Rattle.ctl_code.specs.Table.{by_fetch_part, fetch_from, fetched, holder_at, locating, offset_of, spot_of, store_into, stored}
 use Rattle.ctl_code.specs.Windows.{depth}
 use Rattle.ctl_layout.specs.Around.{out_to}
-use Rattle.ctl_layout.specs.Parts.{Part, are_walked, component_code, located_code, parts_run}
+use Rattle.ctl_layout.specs.Parts.{Start, OfVariable, OfValue, Part, are_followed, component_code, located_code, parts_run, taken_code}
 use Rattle.ctl_layout.specs.Values.{ValueCode, held, read, value_type}
 use Rattle.ctl_layout.specs.Layout.{assign_part_code, store_part_code}
 use Rattle.ctl_gen.proofs.Known.{IsScalar}
 use Rattle.ctl_gen.proofs.Place.{Laid, laid_front, laid_back}
-use Rattle.ctl_gen.proofs.Worlds.{HoldsNoCopy, IsNoCopy, Since, Kept, since_written, no_copy_at}
+use Rattle.ctl_gen.proofs.Worlds.{Since, Kept, since_written, no_copy_at}
 use Rattle.ctl_gen.proofs.Setting.{ArePlaced, IsSeen, seen, tools_with}
 use Rattle.ctl_gen.proofs.Cells.{Any, OneCell, Stays, by_code, here, landed, landed_leaves, out_is, put_there, taking_is, waiting}
 use Rattle.ctl_gen.proofs.Values.{one_cell, scalar_cells}
 use Rattle.ctl_gen.proofs.Expressions as X
 use Rattle.ctl_gen.proofs.Expressions.{Value, held_holds, held_then}
-use Rattle.ctl_gen.proofs.Parts.{Agree, agree_run, component_found, content_of, find_by, finds_object, found_at, located_then, object_found, stepping}
+use Rattle.ctl_gen.proofs.Parts.{Agree, agree_run, component_found, content_of, find_by, finds_object, found_at, object_found, stepping}
+use Rattle.ctl_gen.proofs.Begun.{Starts, located_then}
 use Rattle.ctl_gen.proofs.Does.{Does}
 use Rattle.ctl_gen.proofs.Follow.{Runs, Target, added, added_to, arrives, at, bind_bind, lands, last_step, last_step_to, no_step, no_step_to, stop_step, stop_step_to, transferred}
 
@@ -46,7 +47,8 @@ module _ (ask : Ask) (k : Tables) (code : Code) (placed_so : ArePlaced k code) (
   abbrev K : Tools
   K = tools_with ask k call default
 
-  module _ (v : Var) (steps : List Step) (t position : ℕ) (runs : parts_run k.records steps t ≡ true) (walked : are_walked false steps ≡ true) where
+  -- the component at a position of the part that these steps lead to; what the name begins with, if that is a value, is given by this act
+  module _ (start : Start) (given : List ℕ → Act (List ℕ)) (steps : List Step) (t position : ℕ) (runs : parts_run k.records start steps t ≡ true) (followed : are_followed start steps ≡ true) where
     abbrev all : List Step
     all = steps ++ Component t position ∷ []
 
@@ -55,7 +57,7 @@ module _ (ask : Ask) (k : Tables) (code : Code) (placed_so : ArePlaced k code) (
 
     -- the code names the component's place
     there : offset_of code t position ≡ offset_in position (placed k t)
-    there = (agree_run k code placed_so steps t runs).1 position
+    there = (agree_run k code placed_so start steps t runs).1 position
 
     -- Reading ---------------------------------------------------------------------------------------
 
@@ -79,10 +81,10 @@ module _ (ask : Ask) (k : Tables) (code : Code) (placed_so : ArePlaced k code) (
           by None go = stop_step_to ask code (OneCell Fits Any) 8 8 s0 _ c 1 (landed to d (place + 1) ks ops) UseAfterFree l (omega arith) go refl refl
           by (Some y) go = last_step_to ask code (OneCell Fits Any) 8 8 s0 c 1 (landed to d (place + 1) ks ops) (Goes (cells_at (p.offset + offset) 1 y)) l w (omega arith) (fits, (scalar_of (cells_at (p.offset + offset) 1 y), one_cell (drop (p.offset + offset) y.cells), tt)) (go ∙ put_there to (cells_at (p.offset + offset) 1 y) d place ks ops l w)
 
-      -- a component of the object in the variable itself
-      fetches_it : (to : Cell) (ty : Ty) (s : List Kind) (d : List ℕ) (place : ℕ) (ks : List Frame) (ops : List Word) (c : ℕ) (l : Log) (w : World) → Fits w → length d ≡ depth s → slice_get code.instructions.items place ≡ Some (InstrOf.FetchPart (out_to s v) v.slot t position ty to) → Gets 8 8 (at d place ks ops l w) c (landed to.named d (place + 1) ks ops) (bind (object_found (spot_of (content_of d v w)) c l w) fetching)
+      -- a component of the object in a variable itself
+      fetches_it : (v : Var) (to : Cell) (ty : Ty) (s : List Kind) (d : List ℕ) (place : ℕ) (ks : List Frame) (ops : List Word) (c : ℕ) (l : Log) (w : World) → Fits w → length d ≡ depth s → slice_get code.instructions.items place ≡ Some (InstrOf.FetchPart (out_to s v) v.slot t position ty to) → Gets 8 8 (at d place ks ops l w) c (landed to.named d (place + 1) ks ops) (bind (object_found (spot_of (content_of d v w)) c l w) fetching)
       unfolding opened_outcome
-      fetches_it to ty s d place ks ops c l w fits long has =
+      fetches_it v to ty s d place ks ops c l w fits long has =
           by (spot_of (content_of d v w))
           (by_code ask code d place ks ops l w (InstrOf.FetchPart (out_to s v) v.slot t position ty to) has
           ∙ ap (λ j. moved l (by_fetch_part j (holder_at d (out_to s v) v.slot w) to.named ops (here d place ks w))) there
@@ -100,44 +102,49 @@ module _ (ask : Ask) (k : Tables) (code : Code) (placed_so : ArePlaced k code) (
           ∙ ap (λ j. moved l (fetch_from j p to.named ops (here d place ks w))) there)
 
       -- an exception is under way to the innermost master
-      leaves_it : (to : Named) (d : List ℕ) (place : ℕ) (ks : List Frame) (ops : List Word) (c : ℕ) (l : Log) (w : World) → Fits w → Gets 8 8 (transferred (ByRaise constraint_error) ks l w) c (landed to d place ks ops) (fetching (Leaves (ByRaise constraint_error)) c l w)
+      leaves_it : (to : Named) (d : List ℕ) (place : ℕ) (ks : List Frame) (ops : List Word) (y c : ℕ) (l : Log) (w : World) → Fits w → Gets 8 8 (transferred (ByRaise y) ks l w) c (landed to d place ks ops) (fetching (Leaves (ByRaise y)) c l w)
       unfolding opened_outcome
-      leaves_it to d place ks ops c l w fits = no_step_to ask code (OneCell Fits Any) 8 8 _ c 0 (landed to d place ks ops) (Leaves (ByRaise constraint_error)) l w (fits, tt) (landed_leaves to d place ks ops (ByRaise constraint_error) l w)
+      leaves_it to d place ks ops y c l w fits = no_step_to ask code (OneCell Fits Any) 8 8 _ c 0 (landed to d place ks ops) (Leaves (ByRaise y)) l w (fits, tt) (landed_leaves to d place ks ops (ByRaise y) l w)
 
-      reads : (before : List Step) → before ≡ steps → (to : Cell) (ty : Ty) (s : List Kind) (d : List ℕ) (place : ℕ) (ks : List Frame) (ops : List Word) (c : ℕ) (l : Log) (w : World) → Fits w → IsNoCopy (content_of d v w) → length d ≡ depth s → Laid code place (component_code v before t position ty to s) → Gets 8 8 (at d place ks ops l w) c (landed to.named d (place + length (component_code v before t position ty to s)) ks ops) (bind (find_by K before v d c l w) fetching)
-      reads [] same to ty s d place ks ops c l w fits uncopied long has =
-          subst (λ o. Gets 8 8 (at d place ks ops l w) c (landed to.named d (place + 1) ks ops) (bind o fetching)) (sym (finds_object K v d c l w uncopied))
-          (fetches_it to ty s d place ks ops c l w fits long has.0)
-      reads (x ∷ more) same to ty s d place ks ops c l w fits uncopied long has =
-          let front = located_code v (x ∷ more) t s in
+      -- one of a part that is found first
+      takes : (b : Start) (ss : List Step) → Starts ask k code bound w0 b given → are_followed b ss ≡ true → ss ≡ steps → (to : Cell) (ty : Ty) (s : List Kind) (d : List ℕ) (place : ℕ) (ks : List Frame) (ops : List Word) (c : ℕ) (l : Log) (w : World) → c ≤ bound → Fits w → IsSeen w0 d s → Laid code place (taken_code b ss t position ty to s) → Gets 8 8 (at d place ks ops l w) c (landed to.named d (place + length (taken_code b ss t position ty to s)) ks ops) (bind (find_by K given ss b d c l w) fetching)
+      takes b ss begun led same to ty s d place ks ops c l w le fits long has =
+          let front = located_code b ss t s in
           let last = (InstrOf.TakePart t position ty to, Operand (Record t) ∷ s) ∷ [] in
           let end : place + length front + 1 ≡ place + length (front ++ last) = omega (arith, length-append front last) in
           let next = landed to.named d (place + length front + 1) ks ops in
-          subst (λ q. Gets 8 8 (at d place ks ops l w) c (landed to.named d q ks ops) (bind (find_by K (x ∷ more) v d c l w) fetching)) end
-          (located_then ask code K (OneCell Fits Any) next fetching d ks ops c l w 8 8 v (x ∷ more) t s place
-          (subst (λ ss. are_walked false ss ≡ true) (sym same) walked) (subst (Agree k code) (sym same) (agree_run k code placed_so steps t runs).0) uncopied long (laid_front code place front last has)
-          (λ p. takes_it p to ty d (place + length front) ks ops c l w fits (laid_back code place front last has).0)
-          (leaves_it to.named d (place + length front + 1) ks ops c l w fits))
+          subst (λ q. Gets 8 8 (at d place ks ops l w) c (landed to.named d q ks ops) (bind (find_by K given ss b d c l w) fetching)) end
+          (located_then ask k code bound w0 call default (OneCell Fits Any) next fetching d ks ops 8 8 b given begun ss t s place c l w led
+          (subst (Agree k code) (sym same) (agree_run k code placed_so start steps t runs).0) le fits long (laid_front code place front last has)
+          (λ c1 l1 w1 lo fits1 p. takes_it p to ty d (place + length front) ks ops c1 l1 w1 fits1 (laid_back code place front last has).0)
+          (λ y c1 l1 w1 lo fits1. leaves_it to.named d (place + length front + 1) ks ops y c1 l1 w1 fits1))
 
-      pub component_value : ((n i : ℕ) (w : World) → Fits w → HoldsNoCopy (slot_at n i w)) → (find : List ℕ → Act Found) → find ≡ find_by K all v → (ty : Ty) → IsScalar ty → Value ask k code bound w0 (read (Some (Part v steps t position)) ty) (λ d. ticked (find d >>= read_found (cells_of k ty)))
+      reads : (b : Start) (ss : List Step) → Starts ask k code bound w0 b given → are_followed b ss ≡ true → ss ≡ steps → (to : Cell) (ty : Ty) (s : List Kind) (d : List ℕ) (place : ℕ) (ks : List Frame) (ops : List Word) (c : ℕ) (l : Log) (w : World) → c ≤ bound → Fits w → IsSeen w0 d s → Laid code place (component_code b ss t position ty to s) → Gets 8 8 (at d place ks ops l w) c (landed to.named d (place + length (component_code b ss t position ty to s)) ks ops) (bind (find_by K given ss b d c l w) fetching)
+      reads (OfVariable v) [] begun led same to ty s d place ks ops c l w le fits long has =
+          subst (λ o. Gets 8 8 (at d place ks ops l w) c (landed to.named d (place + 1) ks ops) (bind o fetching)) (sym (finds_object K v d c l w (no_copy_at k code (master_of d v) v.slot w fits.0)))
+          (fetches_it v to ty s d place ks ops c l w fits long.2 has.0)
+      reads (OfVariable v) (x ∷ more) begun led same to ty s d place ks ops c l w le fits long has = takes (OfVariable v) (x ∷ more) begun led same to ty s d place ks ops c l w le fits long has
+      reads (OfValue form lines) ss begun led same to ty s d place ks ops c l w le fits long has = takes (OfValue form lines) ss begun led same to ty s d place ks ops c l w le fits long has
+
+      pub component_value : Starts ask k code bound w0 start given → (find : List ℕ → Act Found) → find ≡ find_by K given all start → (ty : Ty) → IsScalar ty → Value ask k code bound w0 (read (Some (Part start steps t position)) ty) (λ d. ticked (find d >>= read_found (cells_of k ty)))
       unfolding opened_outcome
-      component_value uncopied find is ty scalar = record {
+      component_value begun find is ty scalar = record {
         begins = λ to u s d place ks ops c l w le fits long has. record {
-          out = bind (find_by K steps v d c l w) fetching;
+          out = bind (find_by K given steps start d c l w) fetching;
           is = reads_it d c l w ∙ ap (add 1) (reads_part d c l w);
-          runs = reads steps refl to u s d place ks ops c l w fits (uncopied (master_of d v) v.slot w fits) long.2 has;
+          runs = reads start steps begun followed refl to u s d place ks ops c l w le fits long has;
         };
         constant = λ n is1 d c l w. absurd (cc);
         variable = λ y is1 d c l w. absurd (cc);
       }
         where
-          reads_it : (d : List ℕ) (c : ℕ) (l : Log) (w : World) → ticked (find d >>= read_found (cells_of k ty)) c l w ≡ add 1 (bind (find_by K all v d c l w) (on_goes (read_found 1)))
-          reads_it d c l w = ap (λ (f : List ℕ → Act Found). add 1 (bind (f d c l w) (on_goes (read_found (cells_of k ty))))) is ∙ ap (λ n. add 1 (bind (find_by K all v d c l w) (on_goes (read_found n)))) (scalar_cells k ty scalar)
+          reads_it : (d : List ℕ) (c : ℕ) (l : Log) (w : World) → ticked (find d >>= read_found (cells_of k ty)) c l w ≡ add 1 (bind (find_by K given all start d c l w) (on_goes (read_found 1)))
+          reads_it d c l w = ap (λ (f : List ℕ → Act Found). add 1 (bind (f d c l w) (on_goes (read_found (cells_of k ty))))) is ∙ ap (λ n. add 1 (bind (find_by K given all start d c l w) (on_goes (read_found n)))) (scalar_cells k ty scalar)
 
-          reads_part : (d : List ℕ) (c : ℕ) (l : Log) (w : World) → bind (find_by K all v d c l w) (on_goes (read_found 1)) ≡ bind (find_by K steps v d c l w) fetching
+          reads_part : (d : List ℕ) (c : ℕ) (l : Log) (w : World) → bind (find_by K given all start d c l w) (on_goes (read_found 1)) ≡ bind (find_by K given steps start d c l w) fetching
           reads_part d c l w =
-              ap (λ o. bind o (on_goes (read_found 1))) (component_found K v steps t position d c l w)
-              ∙ bind_bind (find_by K steps v d c l w) (on_goes (stepping k t position)) (on_goes (read_found 1))
+              ap (λ o. bind o (on_goes (read_found 1))) (component_found K given start steps t position d c l w)
+              ∙ bind_bind (find_by K given steps start d c l w) (on_goes (stepping k t position)) (on_goes (read_found 1))
 
     -- Assigning ---------------------------------------------------------------------------------------
 
@@ -179,21 +186,21 @@ module _ (ask : Ask) (k : Tables) (code : Code) (placed_so : ArePlaced k code) (
           (λ m c1 l1 w1 lo fits1 stays. stores w0 h.cell p m e d q ks ops c1 l1 w1 fits1 stays (laid_back code place h.code ((i, h.after) ∷ []) has).0)
           (λ z c1 l1 w1 lo fits1. no_step ask code (Kept k code w0) 8 8 _ c1 0 (arrives e d (q + 1) ks ops) (Leaves (ByRaise z)) l1 w1 fits1 refl)))
 
-      pub part_does : (find : List ℕ → Act Found) → find ≡ find_by K all v → Does ask k code bound (λ a. assign_part_code v steps t position y a.stack) (λ d caught. ticked (find d >>= (λ f. act d >>= write_found f)))
+      pub part_does : ((w0 : World) → Starts ask k code bound w0 start given) → (find : List ℕ → Act Found) → find ≡ find_by K given all start → Does ask k code bound (λ a. assign_part_code start steps t position y a.stack) (λ d caught. ticked (find d >>= (λ f. act d >>= write_found f)))
       unfolding opened_outcome
-      part_does find is a w0 d place ks ops c l w le fits sees has =
+      part_does begun find is a w0 d place ks ops c l w le fits sees has =
           let s = a.stack in
-          let front = located_code v steps t s in
+          let front = located_code start steps t s in
           let back = store_part_code t position y s in
-          let next = arrives (lands a place) d (place + length (assign_part_code v steps t position y s)) ks ops in
-          let end : place + length front + length back ≡ place + length (assign_part_code v steps t position y s) = omega (arith, length-append front back) in
+          let next = arrives (lands a place) d (place + length (assign_part_code start steps t position y s)) ks ops in
+          let end : place + length front + length back ≡ place + length (assign_part_code start steps t position y s) = omega (arith, length-append front back) in
           let f : Result Found → Act Done = on_goes (λ z. act d >>= write_found z) in
           subst (Runs ask code (Kept k code w0) 0 0 (at d place ks ops l w) c next)
           (sym (ap (λ (g : List ℕ → Act Found). add 1 (bind (g d c l w) f)) is
-          ∙ ap (λ z. add 1 (bind z f)) (component_found K v steps t position d c l w)
-          ∙ ap (add 1) (bind_bind (find_by K steps v d c l w) (on_goes (stepping k t position)) f)))
+          ∙ ap (λ z. add 1 (bind z f)) (component_found K given start steps t position d c l w)
+          ∙ ap (add 1) (bind_bind (find_by K given steps start d c l w) (on_goes (stepping k t position)) f)))
           (added ask code (Kept k code w0) 1 0 0 0 0 _ c next _ (omega arith) (omega arith)
-          (located_then ask code K (λ r. Since k code w0) next (storing d) d ks ops c l w 0 0 v steps t s place walked (agree_run k code placed_so steps t runs).0 (no_copy_at k code (master_of d v) v.slot w fits.0) sees.long (laid_front code place front back has)
-          (λ p. subst (λ q. Runs ask code (Kept k code w0) 0 0 (at d (place + length front) ks (Located p ∷ ops) l w) c (arrives (lands a place) d q ks ops) (storing d (Goes (found_at p)) c l w)) end
-          (part_stores p (lands a place) s w0 d (place + length front) ks ops c l w le fits (seen sees) (laid_back code place front back has)))
-          (no_step ask code (Kept k code w0) 0 0 _ c 0 next (Leaves (ByRaise constraint_error)) l w fits refl)))
+          (located_then ask k code bound w0 call default (λ r. Since k code w0) next (storing d) d ks ops 0 0 start given (begun w0) steps t s place c l w followed (agree_run k code placed_so start steps t runs).0 le fits (seen sees) (laid_front code place front back has)
+          (λ c1 l1 w1 lo fits1 p. subst (λ q. Runs ask code (Kept k code w0) 0 0 (at d (place + length front) ks (Located p ∷ ops) l1 w1) c1 (arrives (lands a place) d q ks ops) (storing d (Goes (found_at p)) c1 l1 w1)) end
+          (part_stores p (lands a place) s w0 d (place + length front) ks ops c1 l1 w1 (omega (arith, lo, le)) fits1 (seen sees) (laid_back code place front back has)))
+          (λ y1 c1 l1 w1 lo fits1. no_step ask code (Kept k code w0) 0 0 _ c1 0 next (Leaves (ByRaise y1)) l1 w1 fits1 refl)))

@@ -11,7 +11,7 @@ use Rattle.ctl_meaning.specs.Lists.{last_of}
 use Rattle.ctl_meaning.specs.Objects.{cells_at}
 use Rattle.ctl_meaning.specs.Changes.{object_at, create, set_slot, owner_of}
 use Rattle.ctl_meaning.specs.Choice.{Ask}
-use Rattle.ctl_meaning.specs.Outcome.{constraint_error, ByRaise, Result, Leaves, Out, Act, Done, add, bind, on_goes, opened_outcome}
+use Rattle.ctl_meaning.specs.Outcome.{ByRaise, Result, Leaves, Out, Act, Done, add, bind, on_goes, opened_outcome}
 use Rattle.ctl_meaning.specs.Types.{Tables, Composite, category_of}
 use Rattle.ctl_meaning.specs.Names.{Call, Default, Tools}
 use Rattle.ctl_meaning.specs.Expressions.{eval, if_given}
@@ -35,9 +35,12 @@ use Rattle.ctl_layout.specs.Layout.{copy_of}
 use Rattle.ctl_gen.proofs.Known.{IsPlain, IsPlainType}
 use Rattle.ctl_gen.proofs.Sources.{copied_means}
 use Rattle.ctl_gen.proofs.PartValues.{given_is, taken_from, value_then}
+use Rattle.ctl_gen.proofs.Parts.{given_by}
+use Rattle.ctl_gen.proofs.Begun.{Starts, on_time}
+use Rattle.ctl_gen.proofs.Walked.{start_of}
 use Rattle.ctl_gen.proofs.Worlds.{Since, Kept, since_on}
 use Rattle.ctl_gen.proofs.Parted.{GivesDefaults}
-use Rattle.ctl_gen.proofs.Setting.{Setting, Calls, Sees, tools_with}
+use Rattle.ctl_gen.proofs.Setting.{Setting, Calls, Sees, seen, tools_with}
 use Rattle.ctl_gen.proofs.Cells.{by_code, here}
 use Rattle.ctl_gen.proofs.Place.{laid_front, laid_back}
 use Rattle.ctl_gen.proofs.Does.{Does}
@@ -105,9 +108,9 @@ module _ (ask : Ask) (k : Tables) (code : Code) (setting : Setting k code) (call
             (λ x c1 l1 w2 told. D.stands_runs ask k code setting call default constants t r record_is plain bound calls w0 w1 n e p ks fits1 x c1 l1 w2 told)
             v s0 c c l le (omega arith) (omega arith) go)
 
-    pub copy_does : (slot : ℕ) (x : Reached) (e : Expr) → copied t (value_code e) ≡ Some x → part_runs x k.records ≡ true → Does ask k code bound (λ a. copy_of slot t x a.stack) (λ d caught. object slot (Record t) (Some (eval e)) K d (last_of d))
+    pub copy_does : (slot : ℕ) (x : Reached) (e : Expr) (is : copied t (value_code e) ≡ Some x) → part_runs x k.records ≡ true → ((w0 : World) → Starts ask k code bound w0 (start_of x) (given_by (copied_means K e t x is).name K)) → Does ask k code bound (λ a. copy_of slot t x a.stack) (λ d caught. object slot (Record t) (Some (eval e)) K d (last_of d))
     unfolding object if_given category_of opened_outcome
-    copy_does slot x e is runs a w0 d place ks ops c l w le fits sees has =
+    copy_does slot x e is runs begun a w0 d place ks ops c l w le fits sees has =
         let s = a.stack in
         let front = part_code x t s in
         let last : List Line = (InstrOf.DeclareCopy slot t, Operand (Record t) ∷ s) ∷ [] in
@@ -118,8 +121,8 @@ module _ (ask : Ask) (k : Tables) (code : Code) (setting : Setting k code) (call
         subst (Runs ask code (Kept k code w0) 0 0 (at d place ks ops l w) c next)
         (sym (ap (add 1) (given_is (eval e K d c l w) (declare Composite K (last_of d) slot (Record t)))))
         (added ask code (Kept k code w0) 1 0 0 0 0 _ c next (bind (eval e K d c l w) (on_goes (declaring slot d))) (omega arith) (omega arith)
-        (value_then ask k code setting call default t plain_type (declaring slot d) (λ y u. Kept k code w0 (way_of y) u) next (eval e) x (copied_means K e t x is) runs 6 8 (omega arith) (omega arith) s w0 d place ks ops c c l w (omega arith) (omega arith) fits sees.long (laid_front code place front last has)
-        (λ p.
-        subst (λ q. Runs ask code (Kept k code w0) 6 8 (at d (place + length front) ks (Located p ∷ ops) l w) c (arrives (lands a place) d q ks ops) (taken_from ask k code setting call default t plain_type (declaring slot d) p.offset (object_at p.object w) c l w)) end
-        (given_runs slot p (lands a place) s w0 d (place + length front) ks ops c l w le fits sees declarable there.0))
-        (no_step ask code (Kept k code w0) 6 8 _ c 0 next (Leaves (ByRaise constraint_error)) l w fits refl)))
+        (value_then ask k code setting call default t plain_type (declaring slot d) bound w0 (λ y u. Kept k code w0 (way_of y) u) next (eval e) x (copied_means K e t x is) (begun w0) runs 6 8 (omega arith) (omega arith) s d place ks ops c c l w (on_time (start_of x) c) le fits (seen sees) (laid_front code place front last has)
+        (λ p c1 l1 w1 lo fits1.
+        subst (λ q. Runs ask code (Kept k code w0) 6 8 (at d (place + length front) ks (Located p ∷ ops) l1 w1) c1 (arrives (lands a place) d q ks ops) (taken_from ask k code setting call default t plain_type (declaring slot d) p.offset (object_at p.object w1) c1 l1 w1)) end
+        (given_runs slot p (lands a place) s w0 d (place + length front) ks ops c1 l1 w1 (omega (arith, lo, le)) fits1 sees declarable there.0))
+        (λ y c1 l1 w1 lo fits1. no_step ask code (Kept k code w0) 6 8 _ c1 0 next (Leaves (ByRaise y)) l1 w1 fits1 refl)))

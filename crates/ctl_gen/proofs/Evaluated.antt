@@ -1,14 +1,16 @@
 -- The code of each expression and of each actual that this version runs does what it means.
-use Rattle.std.proofs.Common.{◌≡◌, ℕ, List, [], ◌∷◌, ◌++◌, map, Option, Some, None, true, false, refl, sym, ap, ◌∙◌, subst}
+use Rattle.std.proofs.Common.{◌≡◌, ℕ, List, [], ◌∷◌, ◌++◌, map, Option, Some, None, true, refl, sym, ap, ◌∙◌, subst}
 use Rattle.std.proofs.lemmas.Bool.{not-true}
 use Rattle.ctl_program.specs.declared.types.Ty.{Ty}
 use Rattle.ctl_program.specs.declared.types.Ty.TheVariants.{Integer, Count, Boolean, Address, Handle, Access, Record}
 use Rattle.ctl_program.specs.declared.types.Var.{Var}
 use Rattle.ctl_program.specs.declared.expression.Expr.{Expr, roll-Expr, map-Expr, ind-Expr}
-use Rattle.ctl_program.specs.declared.expression.Name.{Name}
+use Rattle.ctl_program.specs.declared.expression.Name.{Name, out-Name, roll-Name, roll-out-Name, map-Name}
+use Rattle.ctl_program.specs.declared.expression.Name.TheVariants.{rolls-Variable, rolls-Given, outs-Variable, outs-Given}
+use Rattle.ctl_program.specs.declared.expression.Step.{Step}
 use Rattle.ctl_program.specs.declared.expression.Actual.{Actual, map-Actual, out-Actual, roll-Actual, roll-out-Actual}
 use Rattle.ctl_program.specs.declared.expression.Operand.{Operand, Operand-F, roll-Operand, map-Operand}
-use Rattle.ctl_program.specs.declared.expression.Actual.TheOpen.{Actual-F, Expr-F}
+use Rattle.ctl_program.specs.declared.expression.Actual.TheOpen.{Actual-F, Expr-F, Name-F}
 use Rattle.ctl_meaning.specs.World.{World}
 use Rattle.ctl_meaning.specs.Choice.{Ask}
 use Rattle.ctl_meaning.specs.Outcome.{Act, ◌>>=◌, ticked, opened_outcome}
@@ -18,13 +20,15 @@ use Rattle.ctl_meaning.specs.Expressions.{Applied, Naming, Supplied, Valued, act
 use Rattle.ctl_meaning.proofs.Trees.{actual_roll as supply_roll, eval_roll, operand_roll}
 use Rattle.ctl_code.specs.declared.code.Code.{Code}
 use Rattle.ctl_program.specs.declared.expression.Step.TheVariants.{Component}
-use Rattle.ctl_layout.specs.Parts.{Reached, Variable, Part, Object, are_walked}
-use Rattle.ctl_layout.specs.Values.{ActualCode, ValueCode, OperatorCode, actual_code, actuals_run, copied, missing_value, new, new_copy, operator_of, operators_run, read, value_code, values_run, reached_by}
+use Rattle.ctl_layout.specs.Parts.{Start, OfVariable, Reached, Variable, Part, Object, are_followed, behind_steps, in_variable, is_begun}
+use Rattle.ctl_layout.specs.Values.{ActualCode, ValueCode, OperatorCode, actual_code, actuals_run, copied, given, missing_value, new, new_copy, operator_of, operators_run, read, value_code, values_run, reached_by}
 use Rattle.ctl_gen.proofs.Known.{IsScalar, both_true, plain_if, scalar_elementary, scalar_if}
-use Rattle.ctl_gen.proofs.Worlds.{Since, no_copy_at}
-use Rattle.ctl_gen.proofs.Parts.{Leads, find_as, find_by, name_leads, part_leads}
+use Rattle.ctl_gen.proofs.Worlds.{Since}
+use Rattle.ctl_gen.proofs.Walked.{behind_is, start_of, variable_first}
+use Rattle.ctl_gen.proofs.Parts.{Leads, find_as, find_by, given_by, given_layer, name_leads, part_leads}
+use Rattle.ctl_gen.proofs.Begun.{Starts, value_starts}
 use Rattle.ctl_gen.proofs.Components.{component_value}
-use Rattle.ctl_layout.proofs.TreeLayers.{value_roll, operator_roll, actual_roll}
+use Rattle.ctl_layout.proofs.TreeLayers.{value_roll, operator_roll, actual_roll, reached_roll}
 use Rattle.ctl_gen.proofs.Setting.{Setting, Calls, tools_with}
 use Rattle.ctl_gen.proofs.Actuals as A
 use Rattle.ctl_gen.proofs.FunctionCalls.{function_value}
@@ -36,25 +40,30 @@ use Rattle.ctl_gen.proofs.Expressions as X
 -- Names -------------------------------------------------------------------------------------------
 
 module _ (K : Tools) where
-  -- what a name means that reaches something
-  abbrev pub Reaches : Reached → (List ℕ → Act Found) → Type 0
-  Reaches (Variable v) find = X.Uses v find
-  Reaches (Object v steps) find = Unit {0}
-  Reaches (Part v steps t position) find = (are_walked false steps ≡ true) × (find ≡ find_by K (steps ++ Component t position ∷ []) v)
+  -- what a name means that reaches something, and begins with the value of this act, if it begins with one
+  abbrev pub Reaches : Reached → (List ℕ → Act (List ℕ)) → (List ℕ → Act Found) → Type 0
+  Reaches (Variable v) act find = X.Uses v find
+  Reaches (Object b steps) act find = Unit {0}
+  Reaches (Part b steps t position) act find = (are_followed b steps ≡ true) × (find ≡ find_by K act (steps ++ Component t position ∷ []) b)
 
   -- in one tick
-  uses_it : (x : Var) → X.Uses x (find_as K Elementary [] x)
+  uses_it : (x : Var) (act : List ℕ → Act (List ℕ)) → X.Uses x (find_as K act Elementary [] (OfVariable x))
   unfolding var_part opened_names opened_outcome
-  uses_it x v c l w = refl
+  uses_it x act v c l w = refl
 
-  reaches : (x : Reached) (find : Naming) → Leads K x find → Reaches x (find Elementary K)
+  reaches : (x : Reached) (act : List ℕ → Act (List ℕ)) (find : Naming) → Leads K x act find → Reaches x act (find Elementary K)
   unfolding begins_as
-  reaches (Variable v) find h = subst (X.Uses v) (sym (h.finds Elementary)) (uses_it v)
-  reaches (Object v steps) find h = tt
-  reaches (Part v steps t position) find h = (h.walked, part_leads K v steps t position find Elementary h)
+  reaches (Variable v) act find h = subst (X.Uses v) (sym (h.finds Elementary)) (uses_it v act)
+  reaches (Object b steps) act find h = tt
+  reaches (Part b steps t position) act find h = (h.walked, part_leads K b steps t position act find Elementary h)
 
-  pub name_finds : (n : Name) (x : Reached) → reached_by n ≡ Some x → Reaches x (eval_name n Elementary K)
-  name_finds n x is = reaches x (eval_name n) (name_leads K n x is)
+  pub name_finds : (n : Name) (x : Reached) → reached_by n ≡ Some x → Reaches x (given_by n K) (eval_name n Elementary K)
+  name_finds n x is = reaches x (given_by n K) (eval_name n) (name_leads K n x is)
+
+-- the layer that a name is made of
+layer_is : (y : Name-F Actual Expr Name Operand) → out-Name (roll-Name y) ≡ y
+layer_is (Name-F.Variable v ss) = ap out-Name (rolls-Variable v ss) ∙ outs-Variable v ss
+layer_is (Name-F.Given e ss) = ap out-Name (rolls-Given e ss) ∙ outs-Given e ss
 
 -- Expressions and actuals -------------------------------------------------------------------------
 
@@ -75,8 +84,9 @@ module _ (ask : Ask) (k : Tables) (code : Code) (setting : Setting k code) (call
   abbrev IsActual : Actual → Type 0
   IsActual a = (actual_code a).runs k.records ≡ true → A.Passes ask k code setting call default bound w0 (actual_code a) (supply a)
 
+  -- the code of what a name begins with, if it is run
   abbrev IsName : Name → Type 0
-  IsName n = Unit {0}
+  IsName n = (x : Reached) → reached_by n ≡ Some x → is_begun (start_of x) k.records ≡ true → Starts ask k code bound w0 (start_of x) (given_by n K)
 
   abbrev ActualToo : Type 0
   ActualToo = (a : Actual) × IsActual a
@@ -95,6 +105,9 @@ module _ (ask : Ask) (k : Tables) (code : Code) (setting : Setting k code) (call
 
   abbrev bare_actual : Actual-F ActualToo ExprToo NameToo OperandToo → Actual-F Actual Expr Name Operand
   bare_actual = map-Actual ActualToo ExprToo NameToo OperandToo Actual Expr Name Operand (λ e. e.0) (λ e. e.0) (λ e. e.0) (λ e. e.0)
+
+  abbrev bare_name : Name-F ActualToo ExprToo NameToo OperandToo → Name-F Actual Expr Name Operand
+  bare_name = map-Name ActualToo ExprToo NameToo OperandToo Actual Expr Name Operand (λ e. e.0) (λ e. e.0) (λ e. e.0) (λ e. e.0)
 
   abbrev bare_operand : Operand-F ActualToo ExprToo NameToo OperandToo → Operand-F Actual Expr Name Operand
   bare_operand = map-Operand ActualToo ExprToo NameToo OperandToo Actual Expr Name Operand (λ e. e.0) (λ e. e.0) (λ e. e.0) (λ e. e.0)
@@ -136,15 +149,16 @@ module _ (ask : Ask) (k : Tables) (code : Code) (setting : Setting k code) (call
   allocates access Handle runs = absurd (cc)
   allocates access (Access a) runs = absurd (cc)
 
-  -- with the value of a part
-  copies : (access t : ℕ) (v : Expr) (o : Option Reached) → copied t (value_code v) ≡ o → Meets (new_copy access t o) (eval_step (Expr-F.New access (Record t) None (Some (eval v))))
+  -- with the value of a part, whose name begins with a variable
+  copies : (access t : ℕ) (v : Expr) (o : Option Reached) → in_variable (copied t (value_code v)) ≡ o → Meets (new_copy access t o) (eval_step (Expr-F.New access (Record t) None (Some (eval v))))
   copies access t v None is runs = absurd (cc)
   copies access t v (Some x) is runs =
       let e = both_true _ _ runs in
-      copied_value ask k code setting call default bound calls w0 access t (plain_if k t e.0) (eval v) x (copied_means K v t x is) e.1
+      let first = variable_first (copied t (value_code v)) x is in
+      copied_value ask k code setting call default bound calls w0 access t (plain_if k t e.0) (eval v) x (copied_means K v t x first.0) e.1 first.1.0 first.1.1
 
   allocates_with : (access : ℕ) (ty : Ty) (v : Expr) → Meets (new access ty None (Some (value_code v))) (eval_step (Expr-F.New access ty None (Some (eval v))))
-  allocates_with access (Record t) v runs = copies access t v (copied t (value_code v)) refl runs
+  allocates_with access (Record t) v runs = copies access t v (in_variable (copied t (value_code v))) refl runs
   allocates_with access Integer v runs = absurd (cc)
   allocates_with access Boolean v runs = absurd (cc)
   allocates_with access Count v runs = absurd (cc)
@@ -170,19 +184,20 @@ module _ (ask : Ask) (k : Tables) (code : Code) (setting : Setting k code) (call
   unfolding eval_step
   elementary o ty find scalar h = subst (λ (c : Category). X.Value ask k code bound w0 (read o ty) (λ v. ticked (find c K v >>= read_found (cells_of k ty)))) (sym (scalar_elementary ty scalar)) h
 
-  reads : (o : Option Reached) (ty : Ty) (find : Naming) → ((x : Reached) → o ≡ Some x → Reaches K x (find Elementary K)) → Meets (read o ty) (eval_step (Expr-F.Read find ty))
-  reads None ty find h runs = absurd (cc)
-  reads (Some (Variable v)) ty find h runs = elementary (Some (Variable v)) ty find (scalar_if ty runs) (X.read_value ask k code bound w0 v (find Elementary K) (h (Variable v) refl) ty (scalar_if ty runs))
-  reads (Some (Object v steps)) ty find h runs = absurd (cc)
-  reads (Some (Part v steps t position)) ty find h runs =
+  reads : (o : Option Reached) (ty : Ty) (act : List ℕ → Act (List ℕ)) (find : Naming) → ((x : Reached) → o ≡ Some x → Reaches K x act (find Elementary K)) → ((x : Reached) → o ≡ Some x → is_begun (start_of x) k.records ≡ true → Starts ask k code bound w0 (start_of x) act) → Meets (read o ty) (eval_step (Expr-F.Read find ty))
+  reads None ty act find h begun runs = absurd (cc)
+  reads (Some (Variable v)) ty act find h begun runs = elementary (Some (Variable v)) ty find (scalar_if ty runs) (X.read_value ask k code bound w0 v (find Elementary K) (h (Variable v) refl) ty (scalar_if ty runs))
+  reads (Some (Object b steps)) ty act find h begun runs = absurd (cc)
+  reads (Some (Part b steps t position)) ty act find h begun runs =
       let e = both_true _ _ runs in
-      let g = h (Part v steps t position) refl in
-      elementary (Some (Part v steps t position)) ty find (scalar_if ty e.0) (component_value ask k code setting.places call default v steps t position e.1 g.0 bound w0 (λ n i w fits. no_copy_at k code n i w fits.0) (find Elementary K) g.1 ty (scalar_if ty e.0))
+      let x = Part b steps t position in
+      let g = h x refl in
+      elementary (Some x) ty find (scalar_if ty e.0) (component_value ask k code setting.places call default b act steps t position e.1 g.0 bound w0 (begun x refl (both_true _ _ e.1).0) (find Elementary K) g.1 ty (scalar_if ty e.0))
 
   expr_rolled : (y : Expr-F ActualToo ExprToo NameToo OperandToo) → IsValue (roll-Expr (bare_expr y))
   unfolding eval_step
   expr_rolled (Expr-F.Constant n) = meets (Expr-F.Constant n) _ _ (value_roll (Expr-F.Constant n)) (eval_roll (Expr-F.Constant n)) (λ h. X.constant_value ask k code bound w0 n)
-  expr_rolled (Expr-F.Read n ty) = meets (Expr-F.Read n.0 ty) _ _ (value_roll (Expr-F.Read n.0 ty)) (eval_roll (Expr-F.Read n.0 ty)) (reads (reached_by n.0) ty (eval_name n.0) (name_finds K n.0))
+  expr_rolled (Expr-F.Read n ty) = meets (Expr-F.Read n.0 ty) _ _ (value_roll (Expr-F.Read n.0 ty)) (eval_roll (Expr-F.Read n.0 ty)) (reads (reached_by n.0) ty (given_by n.0 K) (eval_name n.0) (name_finds K n.0) n.1)
   expr_rolled (Expr-F.Unary op ty e) = meets (Expr-F.Unary op ty e.0) _ _ (value_roll (Expr-F.Unary op ty e.0)) (eval_roll (Expr-F.Unary op ty e.0)) (λ h. X.unary_value ask k code bound w0 op ty (value_code e.0) (eval e.0 K) (e.1 h))
   expr_rolled (Expr-F.Chain e o os) =
       let y = Expr-F.Chain e.0 o.0 (map (λ z. z.0) os) in
@@ -237,8 +252,19 @@ module _ (ask : Ask) (k : Tables) (code : Code) (setting : Setting k code) (call
       (λ h.
       let g = both_true _ _ h in
       A.value_passes ask k code setting call default bound w0 (value_code e.0) (eval e.0 K) ty (scalar_if ty g.0) (e.1 g.1))
-  actual_rolled (Actual-F.Part n ty) = passing (Actual-F.Part n.0 ty) _ _ (actual_roll (Actual-F.Part n.0 ty)) (supply_roll (Actual-F.Part n.0 ty)) (A.reference_passes ask k code setting call default bound w0 (reached_by n.0) ty (eval_name n.0) (name_leads K n.0))
+  actual_rolled (Actual-F.Part n ty) = passing (Actual-F.Part n.0 ty) _ _ (actual_roll (Actual-F.Part n.0 ty)) (supply_roll (Actual-F.Part n.0 ty)) (A.reference_passes ask k code setting call default bound w0 (reached_by n.0) ty (given_by n.0 K) (eval_name n.0) (name_leads K n.0) n.1)
   actual_rolled (Actual-F.Copied n ty begins) = passing (Actual-F.Copied n.0 ty begins) _ _ (actual_roll (Actual-F.Copied n.0 ty begins)) (supply_roll (Actual-F.Copied n.0 ty begins)) (A.copy_passes ask k code setting call default bound w0 (reached_by n.0) ty begins (eval_name n.0) (λ v is. name_finds K n.0 (Variable v) is))
+
+  -- what a name begins with: a variable, or the value of an expression
+  starts_with : (b : Start) (ss : List Step) (x : Reached) (act : List ℕ → Act (List ℕ)) → behind_steps b ss ≡ Some x → (is_begun b k.records ≡ true → Starts ask k code bound w0 b act) → is_begun (start_of x) k.records ≡ true → Starts ask k code bound w0 (start_of x) act
+  starts_with b ss x act is h = subst (λ z. is_begun z k.records ≡ true → Starts ask k code bound w0 z act) (behind_is b ss x is).start h
+
+  name_rolled : (y : Name-F ActualToo ExprToo NameToo OperandToo) (x : Reached) → reached_by (roll-Name (bare_name y)) ≡ Some x → is_begun (start_of x) k.records ≡ true → Starts ask k code bound w0 (start_of x) (given_layer (bare_name y) K)
+  name_rolled (Name-F.Variable v ss) x is = starts_with (OfVariable v) ss x _ (sym (reached_roll (Name-F.Variable v ss)) ∙ is) (λ h. tt)
+  name_rolled (Name-F.Given e ss) x is = starts_with (given (value_code e.0)) ss x _ (sym (reached_roll (Name-F.Given e.0 ss)) ∙ is) (λ h. value_starts ask k code bound w0 (value_code e.0) (eval e.0 K) (e.1 h))
+
+  name_too : (y : Name-F ActualToo ExprToo NameToo OperandToo) → IsName (roll-Name (bare_name y))
+  name_too y x is h = subst (λ z. Starts ask k code bound w0 (start_of x) (given_layer z K)) (sym (layer_is (bare_name y))) (name_rolled y x is h)
 
   -- Whole trees ---------------------------------------------------------------------------------------
 
@@ -246,14 +272,22 @@ module _ (ask : Ask) (k : Tables) (code : Code) (setting : Setting k code) (call
   value_means = ind-Expr IsActual IsValue IsName IsOperator
       (λ x y is. subst (λ z. IsActual (roll-Actual z)) is (actual_rolled y))
       (λ x y is. subst (λ z. IsValue (roll-Expr z)) is (expr_rolled y))
-      (λ x y is. tt)
+      (λ x y is. subst (λ z. IsName (roll-Name z)) is (name_too y))
       (λ x y is. subst (λ z. IsOperator (roll-Operand z)) is (operand_rolled y))
+
+  -- a name, whose part is a whole tree
+  name_means : (y : Name-F Actual Expr Name Operand) (x : Reached) → reached_by (roll-Name y) ≡ Some x → is_begun (start_of x) k.records ≡ true → Starts ask k code bound w0 (start_of x) (given_layer y K)
+  name_means (Name-F.Variable v ss) = name_rolled (Name-F.Variable v ss)
+  name_means (Name-F.Given e ss) = name_rolled (Name-F.Given (e, value_means e) ss)
+
+  pub name_starts : (n : Name) → IsName n
+  name_starts n x = subst (λ m. reached_by m ≡ Some x → is_begun (start_of x) k.records ≡ true → Starts ask k code bound w0 (start_of x) (given_by n K)) (roll-out-Name n) (name_means (out-Name n) x)
 
   -- an actual, whose parts are whole trees
   actual_means : (y : Actual-F Actual Expr Name Operand) → IsActual (roll-Actual y)
   actual_means (Actual-F.ByValue e ty) = actual_rolled (Actual-F.ByValue (e, value_means e) ty)
-  actual_means (Actual-F.Part n ty) = actual_rolled (Actual-F.Part (n, tt) ty)
-  actual_means (Actual-F.Copied n ty begins) = actual_rolled (Actual-F.Copied (n, tt) ty begins)
+  actual_means (Actual-F.Part n ty) = actual_rolled (Actual-F.Part (n, name_starts n) ty)
+  actual_means (Actual-F.Copied n ty begins) = actual_rolled (Actual-F.Copied (n, name_starts n) ty begins)
 
   pub actuals_mean : (xs : List Actual) → actuals_run (map actual_code xs) k.records ≡ true → A.EachPasses ask k code setting call default bound w0 (map actual_code xs) (map supply xs)
   actuals_mean [] h = tt

@@ -2,6 +2,7 @@
 use Rattle.std.proofs.Common.{◌≡◌, ℕ, ◌+◌, List, [], ◌∷◌, map, Option, Some, None, true, false, refl, sym, ap, ◌∙◌, subst, arith, option_map}
 use Rattle.ctl_program.specs.declared.expression.Actual.{Actual}
 use Rattle.ctl_program.specs.declared.expression.Expr.{Expr}
+use Rattle.ctl_program.specs.declared.expression.Name.{Name}
 use Rattle.ctl_program.specs.declared.statement.Stmt.{Stmt, roll-Stmt, map-Stmt}
 use Rattle.ctl_program.specs.declared.statement.Stmt.TheOpen.{Stmt-F}
 use Rattle.ctl_program.specs.declared.statement.Arm.{Arm, Arm-F, roll-Arm, map-Arm}
@@ -21,7 +22,7 @@ use Rattle.ctl_code.specs.declared.code.Code.{Code}
 use Rattle.ctl_code.specs.declared.code.Instr.TheVariants as InstrOf
 use Rattle.ctl_code.specs.declared.code.Way.TheVariants as WayOf
 use Rattle.ctl_code.specs.Table.{caught_in}
-use Rattle.ctl_layout.specs.Parts.{Reached, Variable, Part, Object}
+use Rattle.ctl_layout.specs.Parts.{Reached, Variable, Part, Object, is_begun}
 use Rattle.ctl_layout.specs.Values.{value_code, value_type, reached_by, sourced}
 use Rattle.ctl_layout.specs.Layout.{StatementCode, all, all_items, arm_code, assign, assign_record, call as call_code, record_code, exit, free as free_code, handled, handler_code, return, inside, item_code, master_code, missing_statement, statement_code, leaves_code}
 use Rattle.ctl_layout.specs.Values.{actual_code}
@@ -32,10 +33,11 @@ use Rattle.ctl_gen.proofs.Parted.{GivesDefaults}
 use Rattle.ctl_gen.proofs.Worlds.{Kept}
 use Rattle.ctl_gen.proofs.Cells.{by_code}
 use Rattle.ctl_gen.proofs.Expressions.{Value}
-use Rattle.ctl_gen.proofs.Evaluated.{Reaches, actuals_mean, name_finds, value_means}
+use Rattle.ctl_gen.proofs.Evaluated.{Reaches, actuals_mean, name_finds, name_starts, value_means}
 use Rattle.ctl_gen.proofs.Components.{part_does}
-use Rattle.ctl_gen.proofs.Parts.{Leads, composite_leads, find_by, name_leads}
-use Rattle.ctl_gen.proofs.Walked.{steps_of, variable_of}
+use Rattle.ctl_gen.proofs.Parts.{Leads, composite_leads, find_by, given_by, name_leads}
+use Rattle.ctl_gen.proofs.Begun.{Starts}
+use Rattle.ctl_gen.proofs.Walked.{part_begun, start_of, steps_of}
 use Rattle.ctl_gen.proofs.Sources.{IsSource, source_means}
 use Rattle.ctl_gen.proofs.RecordAssign.{record_does}
 use Rattle.ctl_gen.proofs.Freeing.{part_freed_does, variable_freed_does}
@@ -120,38 +122,49 @@ module _ (ask : Ask) (k : Tables) (code : Code) (setting : Setting k code) (call
   missing_does : (y : Stmt-F Stmt Arm Handler Master) → statement_code (roll-Stmt y) ≡ missing_statement → Does (roll-Stmt y)
   missing_does y same runs = absurd (let e = sym (ap (λ (x : StatementCode). x.runs k.records) same) ∙ runs in cc)
 
-  assign_does : (o : Option Reached) (find : Naming) (e : Expr) → ((x : Reached) → o ≡ Some x → Reaches K x (find Elementary K)) → Performs (assign o (value_code e)) (assign_doing find (eval e))
-  unfolding assign_doing
-  assign_does None find e reaches runs n texts = absurd (cc)
-  assign_does (Some (Variable v)) find e reaches runs n texts = assign_runs ask k code setting.valid bound v (find Elementary K) (reaches (Variable v) refl) (value_code e) (eval e K) (means e runs)
-  assign_does (Some (Object v steps)) find e reaches runs n texts = absurd (cc)
-  assign_does (Some (Part v steps t position)) find e reaches runs n texts =
-      let h = both_true _ _ runs in
-      let g = reaches (Part v steps t position) refl in
-      part_does ask k code setting.places call default v steps t position h.0 g.0 bound (value_code e) (eval e K) (means e h.1) (find Elementary K) g.1
+  -- what a name begins with, whose value is given by this act, if it begins with one
+  abbrev Begins : Option Reached → (List ℕ → Act (List ℕ)) → Type 0
+  Begins o act = (x : Reached) → o ≡ Some x → is_begun (start_of x) k.records ≡ true → (w0 : World) → Starts ask k code bound w0 (start_of x) act
 
-  record_assign_does : (o : Option Reached) (t : ℕ) (q : Option Reached) (find : Naming) (m : Supplied) → ((x : Reached) → o ≡ Some x → Leads K x find) → ((y : Reached) → q ≡ Some y → IsSource K y m) → Performs (assign_record o t q) (assign_part find t m)
+  begins : (n : Name) → Begins (reached_by n) (given_by n K)
+  begins n x is begun w0 = name_starts ask k code setting call default bound calls w0 n x is begun
+
+  assign_does : (o : Option Reached) (act : List ℕ → Act (List ℕ)) (find : Naming) (e : Expr) → ((x : Reached) → o ≡ Some x → Reaches K x act (find Elementary K)) → Begins o act → Performs (assign o (value_code e)) (assign_doing find (eval e))
+  unfolding assign_doing
+  assign_does None act find e reaches begun runs n texts = absurd (cc)
+  assign_does (Some (Variable v)) act find e reaches begun runs n texts = assign_runs ask k code setting.valid bound v (find Elementary K) (reaches (Variable v) refl) (value_code e) (eval e K) (means e runs)
+  assign_does (Some (Object b steps)) act find e reaches begun runs n texts = absurd (cc)
+  assign_does (Some (Part b steps t position)) act find e reaches begun runs n texts =
+      let h = both_true _ _ runs in
+      let x = Part b steps t position in
+      let g = reaches x refl in
+      part_does ask k code setting.places call default b act steps t position h.0 g.0 bound (value_code e) (eval e K) (means e h.1) (begun x refl (both_true _ _ h.0).0) (find Elementary K) g.1
+
+  record_assign_does : (o : Option Reached) (t : ℕ) (q : Option Reached) (act : List ℕ → Act (List ℕ)) (find : Naming) (m : Supplied) → ((x : Reached) → o ≡ Some x → Leads K x act find) → Begins o act → ((y : Reached) → q ≡ Some y → IsSource K y m) → Performs (assign_record o t q) (assign_part find t m)
   unfolding assign_part
-  record_assign_does None t q find m target source runs n texts = absurd (cc)
-  record_assign_does (Some x) t None find m target source runs n texts = absurd (cc)
-  record_assign_does (Some x) t (Some y) find m target source runs n texts =
+  record_assign_does None t q act find m target begun source runs n texts = absurd (cc)
+  record_assign_does (Some x) t None act find m target begun source runs n texts = absurd (cc)
+  record_assign_does (Some x) t (Some y) act find m target begun source runs n texts =
       let h = both_true _ _ runs in
       let g = both_true _ _ h.1 in
       let known = plain_if k t (both_true _ _ g.1).0 in
       let to = target x refl in
       let from = source y refl in
-      subst (λ (find1 : List ℕ → Act Found). DoesIn 0 ask k code bound (λ a. record_code x t y a.stack) (λ d caught. ticked (find1 d >>= (λ f. m.source K d >>= assign_found K t f)))) (sym (composite_leads K x find to))
-      (subst (λ (find2 : List ℕ → Act Found). DoesIn 0 ask k code bound (λ a. record_code x t y a.stack) (λ d caught. ticked (find_by K (steps_of x) (variable_of x) d >>= (λ f. find2 d >>= assign_found K t f)))) (sym from.finds)
-      (record_does ask k code setting call default constants t known bound calls x y to.walked from.walked h.0 g.0))
+      let first = begun x refl (part_begun k.records x h.0) in
+      let second = begins from.name y from.reaches (part_begun k.records y g.0) in
+      subst (λ (find1 : List ℕ → Act Found). DoesIn 0 ask k code bound (λ a. record_code x t y a.stack) (λ d caught. ticked (find1 d >>= (λ f. m.source K d >>= assign_found K t f)))) (sym (composite_leads K x act find to))
+      (subst (λ (find2 : List ℕ → Act Found). DoesIn 0 ask k code bound (λ a. record_code x t y a.stack) (λ d caught. ticked (find_by K act (steps_of x) (start_of x) d >>= (λ f. find2 d >>= assign_found K t f)))) (sym from.finds)
+      (record_does ask k code setting call default constants t known bound calls x act y (given_by from.name K) first second to.walked from.walked h.0 g.0))
 
-  free_does : (access : ℕ) (o : Option Reached) (find : Naming) → ((x : Reached) → o ≡ Some x → Reaches K x (find Elementary K)) → Performs (free_code access o) (free_object_of access find)
+  free_does : (access : ℕ) (o : Option Reached) (act : List ℕ → Act (List ℕ)) (find : Naming) → ((x : Reached) → o ≡ Some x → Reaches K x act (find Elementary K)) → Begins o act → Performs (free_code access o) (free_object_of access find)
   unfolding free_object_of
-  free_does access None find reaches runs n texts = absurd (cc)
-  free_does access (Some (Variable v)) find reaches runs n texts = variable_freed_does ask k code setting call default constants bound calls access v (find Elementary K) (reaches (Variable v) refl)
-  free_does access (Some (Object v steps)) find reaches runs n texts = absurd (cc)
-  free_does access (Some (Part v steps t position)) find reaches runs n texts =
-      let g = reaches (Part v steps t position) refl in
-      part_freed_does ask k code setting call default constants bound calls access v steps t position runs g.0 (find Elementary K) g.1
+  free_does access None act find reaches begun runs n texts = absurd (cc)
+  free_does access (Some (Variable v)) act find reaches begun runs n texts = variable_freed_does ask k code setting call default constants bound calls access v (find Elementary K) (reaches (Variable v) refl)
+  free_does access (Some (Object b steps)) act find reaches begun runs n texts = absurd (cc)
+  free_does access (Some (Part b steps t position)) act find reaches begun runs n texts =
+      let x = Part b steps t position in
+      let g = reaches x refl in
+      part_freed_does ask k code setting call default constants bound calls access b act (begun x refl (both_true _ _ runs).0) steps t position runs g.0 (find Elementary K) g.1
 
   called_does : (f : ℕ) (actuals : List Actual) → Performs (call_code f (map actual_code actuals)) (call_doing f (map supply actuals))
   called_does f actuals runs n texts = call_does ask k code setting call default bound calls f (map actual_code actuals) (map supply actuals) (λ w0. actuals_mean ask k code setting call default bound calls w0 actuals runs)
@@ -174,7 +187,7 @@ module _ (ask : Ask) (k : Tables) (code : Code) (setting : Setting k code) (call
   stmt_rolled : (y : Stmt-F StmtToo ArmToo HandlerToo MasterToo) → Does (roll-Stmt (bare_stmt y))
   unfolding null_doing put put_line new_line raise_new raise_again loop_plainly loop_while loop_for opened_outcome
   stmt_rolled Stmt-F.Null = does Stmt-F.Null _ _ (statement_roll Stmt-F.Null) (exec_roll Stmt-F.Null) (λ runs n texts a w0 d place ks ops c l w le fits sees has. S.still_there ask k code setting call default constants bound calls 1 (lands a place) w0 d place ks ops c l w fits)
-  stmt_rolled (Stmt-F.Assign x e) = does (Stmt-F.Assign x e) _ _ (statement_roll (Stmt-F.Assign x e)) (exec_roll (Stmt-F.Assign x e)) (assign_does (reached_by x) (eval_name x) e (name_finds K x))
+  stmt_rolled (Stmt-F.Assign x e) = does (Stmt-F.Assign x e) _ _ (statement_roll (Stmt-F.Assign x e)) (exec_roll (Stmt-F.Assign x e)) (assign_does (reached_by x) (given_by x K) (eval_name x) e (name_finds K x) (begins x))
   stmt_rolled (Stmt-F.Put ps) = does (Stmt-F.Put ps) _ _ (statement_roll (Stmt-F.Put ps)) (exec_roll (Stmt-F.Put ps)) (λ runs n texts. print_runs ask k code setting call default bound calls false ps runs n texts)
   stmt_rolled (Stmt-F.PutLine ps) = does (Stmt-F.PutLine ps) _ _ (statement_roll (Stmt-F.PutLine ps)) (exec_roll (Stmt-F.PutLine ps)) (λ runs n texts. print_runs ask k code setting call default bound calls true ps runs n texts)
   stmt_rolled Stmt-F.NewLine = does Stmt-F.NewLine _ _ (statement_roll Stmt-F.NewLine) (exec_roll Stmt-F.NewLine) (λ runs n texts a w0 d place ks ops c l w le fits sees has. last_step ask code (Kept k code w0) 0 0 _ c 1 (arrives (lands a place) d (place + 1) ks ops) (Goes tt) (tell Newline l) w (omega arith) fits (by_code ask code d place ks ops l w InstrOf.NewLine has.0))
@@ -202,13 +215,13 @@ module _ (ask : Ask) (k : Tables) (code : Code) (setting : Setting k code) (call
       let g = both_true _ _ h.1 in
       for_runs ask k code setting.valid bound x way (value_code low) (value_code high) (eval low K) (eval high K) (means low h.0) (means high g.0) (λ a. (all (map statement_code (map (λ z. z.0) body))).code a n) (λ v caught. do_each K v caught (map exec (map (λ z. z.0) body))) (each_does body g.1 n texts))
   stmt_rolled (Stmt-F.Block m) = does (Stmt-F.Block m.0) _ _ (statement_roll (Stmt-F.Block m.0)) (exec_roll (Stmt-F.Block m.0)) (S.block_runs ask k code setting call default constants bound calls (master_code m.0) (body_of m.0) m.1)
-  stmt_rolled (Stmt-F.AssignRecord x t a) = does (Stmt-F.AssignRecord x t a) _ _ (statement_roll (Stmt-F.AssignRecord x t a)) (exec_roll (Stmt-F.AssignRecord x t a)) (record_assign_does (reached_by x) t (sourced a) (eval_name x) (supply a) (name_leads K x) (source_means K a))
+  stmt_rolled (Stmt-F.AssignRecord x t a) = does (Stmt-F.AssignRecord x t a) _ _ (statement_roll (Stmt-F.AssignRecord x t a)) (exec_roll (Stmt-F.AssignRecord x t a)) (record_assign_does (reached_by x) t (sourced a) (given_by x K) (eval_name x) (supply a) (name_leads K x) (begins x) (source_means K a))
   stmt_rolled (Stmt-F.Call f xs) = does (Stmt-F.Call f xs) _ _ (statement_roll (Stmt-F.Call f xs)) (exec_roll (Stmt-F.Call f xs)) (called_does f xs)
   stmt_rolled (Stmt-F.Nothing x) = missing_does (Stmt-F.Nothing x) (statement_roll (Stmt-F.Nothing x))
   stmt_rolled (Stmt-F.Dispatch op x) = missing_does (Stmt-F.Dispatch op x) (statement_roll (Stmt-F.Dispatch op x))
   stmt_rolled (Stmt-F.LibraryAllocate p x size al) = missing_does (Stmt-F.LibraryAllocate p x size al) (statement_roll (Stmt-F.LibraryAllocate p x size al))
   stmt_rolled (Stmt-F.LibraryDeallocate p x size al) = missing_does (Stmt-F.LibraryDeallocate p x size al) (statement_roll (Stmt-F.LibraryDeallocate p x size al))
-  stmt_rolled (Stmt-F.Free a x) = does (Stmt-F.Free a x) _ _ (statement_roll (Stmt-F.Free a x)) (exec_roll (Stmt-F.Free a x)) (free_does a (reached_by x) (eval_name x) (name_finds K x))
+  stmt_rolled (Stmt-F.Free a x) = does (Stmt-F.Free a x) _ _ (statement_roll (Stmt-F.Free a x)) (exec_roll (Stmt-F.Free a x)) (free_does a (reached_by x) (given_by x K) (eval_name x) (name_finds K x) (begins x))
   stmt_rolled (Stmt-F.Release x) = missing_does (Stmt-F.Release x) (statement_roll (Stmt-F.Release x))
 
   arm_rolled : (y : Arm-F StmtToo ArmToo HandlerToo MasterToo) → Guards (roll-Arm (bare_arm y))

@@ -31,8 +31,8 @@ use Rattle.ctl_layout.proofs.Extensions.{both_true}
 use Rattle.ctl_gen.specs.Emitted.{taking_actuals}
 use Rattle.ctl_gen.proofs.EmittedCalls.{actuals_left, height_over}
 use Rattle.ctl_gen.proofs.Formed.{Behind, Formed, both, none, one}
-use Rattle.ctl_gen.proofs.FormedParts.{part_formed}
-use Rattle.ctl_gen.proofs.Walked.{IsWalked}
+use Rattle.ctl_gen.proofs.FormedParts.{IsFound, part_formed}
+use Rattle.ctl_gen.proofs.Walked.{part_begun}
 use Rattle.ctl_gen.proofs.FormedTypes.{run_scalar}
 use Rattle.ctl_gen.proofs.FormedValues.{Fine, Own, Usable, moved_formed, own_as, puts, read_own, usable_as, with_put}
 
@@ -205,19 +205,19 @@ module _ (code : Code) (masters : ℕ) where
         u.formed (new_operand stack) stack deep refl
     value_good x k t s (J.ancestor descends) fine runs stack deep = absurd (cc)
 
-    pub reference_good : (o : Option Reached) (t : Ty) → IsWalked o → (by_reference o t).runs records ≡ true → GoodActual (by_reference o t)
-    reference_good None t walked runs s deep = absurd (cc)
-    reference_good (Some o) (Record t) walked runs s deep = part_formed code o t s walked
-    reference_good (Some o) Integer walked runs s deep = absurd (cc)
-    reference_good (Some o) Count walked runs s deep = absurd (cc)
-    reference_good (Some o) Boolean walked runs s deep = absurd (cc)
-    reference_good (Some o) Address walked runs s deep = absurd (cc)
-    reference_good (Some o) Handle walked runs s deep = absurd (cc)
-    reference_good (Some o) (Access a) walked runs s deep = absurd (cc)
+    pub reference_good : (o : Option Reached) (t : Ty) → IsFound code masters records o → (by_reference o t).runs records ≡ true → GoodActual (by_reference o t)
+    reference_good None t found runs s deep = absurd (cc)
+    reference_good (Some o) (Record t) found runs s deep = part_formed code masters o t s deep found.0 (found.1 (part_begun records o runs))
+    reference_good (Some o) Integer found runs s deep = absurd (cc)
+    reference_good (Some o) Count found runs s deep = absurd (cc)
+    reference_good (Some o) Boolean found runs s deep = absurd (cc)
+    reference_good (Some o) Address found runs s deep = absurd (cc)
+    reference_good (Some o) Handle found runs s deep = absurd (cc)
+    reference_good (Some o) (Access a) found runs s deep = absurd (cc)
 
     -- what a copy of a variable begins with
     begins_good : (begins : CopyStart) (v : Var) (t : Ty) → (read (Some (Variable v)) t).runs records ≡ true → (s : List Kind) → depth s ≡ masters → Formed code (begins_code begins v t s) s (Some (Operand t ∷ s))
-    begins_good CopyStartOf.Actual v t runs s deep = ((read_own code masters records (Some (Variable v)) t refl runs).usable t (inl refl)).formed (new_operand s) s deep refl
+    begins_good CopyStartOf.Actual v t runs s deep = ((read_own code masters records (Some (Variable v)) t (refl, λ h. tt) runs).usable t (inl refl)).formed (new_operand s) s deep refl
     begins_good CopyStartOf.Beginning v t runs s deep = one code (InstrOf.Set 0 t (new_operand s)) s (Some (Operand t ∷ s)) (λ p next. (begins_cell t (run_scalar t runs), puts code p (new_operand s) t s refl next))
 
     pub copy_good : (o : Option Reached) (t : Ty) (begins : CopyStart) → (by_copy o t begins).runs records ≡ true → GoodActual (by_copy o t begins)

@@ -1,6 +1,6 @@
 -- The code of a well-typed expression is well formed, and puts a value of its type where it is wanted; and so is that of well-typed actuals,
 -- which hold expressions.
-use Rattle.std.proofs.Common.{◌≡◌, ℕ, suc, List, ◌∷◌, length, map, Option, Some, None, true, inl, inr, refl, sym, ap, ◌∙◌, subst}
+use Rattle.std.proofs.Common.{◌≡◌, ℕ, suc, List, ◌∷◌, length, map, Option, Some, None, Bool, true, false, inl, inr, refl, sym, ap, ◌∙◌, subst}
 use Rattle.std.specs.Prelude.{◌&&◌, not, option_map}
 use Rattle.ctl_program.specs.declared.types.Ty.{Ty}
 use Rattle.ctl_program.specs.declared.types.Ty.TheVariants.{Boolean}
@@ -9,26 +9,30 @@ use Rattle.ctl_program.specs.declared.types.RecordType.{RecordType}
 use Rattle.ctl_program.specs.declared.operators.Shortcut.{Shortcut}
 use Rattle.ctl_program.specs.declared.expression.Actual.{Actual}
 use Rattle.ctl_program.specs.declared.expression.Expr.{Expr}
+use Rattle.ctl_program.specs.declared.expression.Name.{Name}
 use Rattle.ctl_program.specs.declared.expression.Operand.{Operand, roll-Operand}
+use Rattle.ctl_program.specs.declared.expression.Step.{Step}
 use Rattle.ctl_well_typed.specs.Setting as W
 use Rattle.ctl_well_typed.specs.Types as J
-use Rattle.ctl_well_typed.specs.Expressions.{Chains, FitEach, Fits, Truths, Typed}
+use Rattle.ctl_well_typed.specs.Expressions.{Chains, Denotes, FitEach, Fits, Truths, Typed}
 use Rattle.ctl_well_typed.specs.Expressions as T
 use Rattle.ctl_code.specs.declared.kinds.Kind.TheVariants as KindOf
 use Rattle.ctl_code.specs.declared.code.Code.{Code}
 use Rattle.ctl_code.specs.Valid as Valid
 use Rattle.ctl_code.specs.Valid.{HasFormals, IsAllocable}
 use Rattle.ctl_layout.specs.Records.{is_run_type}
-use Rattle.ctl_layout.specs.Parts.{Reached}
-use Rattle.ctl_layout.specs.Values.{OperatorCode, ValueCode, actual_code, actuals_run, chain, copied, goes_back, missing_value, new, new_copy, operator_of, operators_run, reached_by, value_code, values_run}
+use Rattle.ctl_layout.specs.Around.{new_operand}
+use Rattle.ctl_layout.specs.Parts.{OfVariable, Reached, access_value, behind_steps, in_variable, is_dereferenced}
+use Rattle.ctl_layout.specs.Values.{ActualCode, OperatorCode, ValueCode, actual_code, actuals_run, chain, copied, given, goes_back, is_of, missing_value, new, new_copy, operator_of, operators_run, reached_by, reached_if, sourced, value_code, values_run}
 use Rattle.ctl_layout.proofs.Extensions.{both_true}
-use Rattle.ctl_layout.proofs.Layers.{actual_copied, actual_part, actual_value, value_access, value_call, value_chain, value_constant, value_convert, value_discriminant, value_new, value_read, value_short, value_subpool, value_unary}
+use Rattle.ctl_layout.proofs.Layers.{actual_copied, actual_part, actual_value, new_reached, part_source, reached_given, reached_variable, read_reached, value_access, value_call, value_chain, value_constant, value_convert, value_discriminant, value_new, value_read, value_short, value_subpool, value_unary}
 use Rattle.ctl_layout.proofs.TreeLayers.{operator_roll}
 use Rattle.ctl_gen.proofs.Formed.{none}
-use Rattle.ctl_gen.proofs.Walked.{IsWalked, copied_walked, name_walked}
+use Rattle.ctl_gen.proofs.FormedParts.{IsBegun, IsFound, steps_found}
+use Rattle.ctl_gen.proofs.Walked.{IsWalked, copied_walked, copy_reaches, value_dereferenced, variable_first, variable_walked}
 use Rattle.ctl_gen.proofs.FormedCalls.{GoodActual, GoodActuals, MayCall, MayNew, copy_good, function_own, good_as, kind_by, reference_good, value_good}
 use Rattle.ctl_gen.proofs.FormedTypes.{IsAccessType, joins_plain, joins_scalar, run_scalar, takes_unary}
-use Rattle.ctl_gen.proofs.FormedValues.{Conditions, Fine, Operating, chain_own, constant_fine, copied_own, designating_fine, fine_like, first_joins, new_own, next_condition, next_joins, next_operating, none_operating, read_own, short_own, unary_own, usable_as}
+use Rattle.ctl_gen.proofs.FormedValues.{Conditions, Fine, Operating, access_usable, chain_own, constant_fine, copied_own, designating_fine, fine_like, first_joins, new_own, next_condition, next_joins, next_operating, none_operating, read_own, short_own, unary_own, usable_as}
 
 -- as many actuals as formals
 as_many : {k : W.Setting} {env : W.Frames} {fs : List W.Formal} {actuals : List Actual} → FitEach k env fs actuals → length fs ≡ length (map actual_code actuals)
@@ -53,10 +57,13 @@ module _ (code : Code) (records : List RecordType) where
   not_missing : (x : ValueCode) → x ≡ missing_value None → x.runs records ≡ true → ⊥
   not_missing x same h = absurd (let e = sym (ap (λ (z : ValueCode). z.runs records) same) ∙ h in cc)
 
-  -- an allocator with the value of a part
-  copied_fine : (masters a u : ℕ) (o : Option Reached) → IsWalked o → IsAllocable code masters a u → (new_copy a u o).runs records ≡ true → Fine code masters (new_copy a u o) (TyOf.Access a)
-  copied_fine masters a u None walked allocable runs = absurd (cc)
-  copied_fine masters a u (Some x) walked allocable runs = inl (copied_own code masters a u x walked allocable)
+  -- an allocator with the value of a part, whose name begins with a variable
+  copied_fine : (masters a u : ℕ) (o : Option Reached) → IsWalked o → IsAllocable code masters a u → (new_copy a u (in_variable o)).runs records ≡ true → Fine code masters (new_copy a u (in_variable o)) (TyOf.Access a)
+  copied_fine masters a u o walked allocable = by (in_variable o) refl (variable_walked o walked)
+    where
+      by : (q : Option Reached) → in_variable o ≡ q → IsWalked q → (new_copy a u q).runs records ≡ true → Fine code masters (new_copy a u q) (TyOf.Access a)
+      by None is led runs = absurd (cc)
+      by (Some x) is led runs = inl (copied_own code masters a u x led (subst (IsBegun code masters) (sym (variable_first o x is).1.1) tt) allocable)
 
   -- an allocator, which is run where it has no handle, and no value but that of a part
   allocated_fine : (masters a : ℕ) (t : Ty) (handle : Option ValueCode) (x : Option Expr) → ((u : ℕ) → t ≡ TyOf.Record u → IsAllocable code masters a u) → (new a t handle (option_map value_code x)).runs records ≡ true → Fine code masters (new a t handle (option_map value_code x)) (TyOf.Access a)
@@ -69,6 +76,13 @@ module _ (code : Code) (records : List RecordType) where
   allocated_fine masters a TyOf.Address h x may runs = absurd (cc)
   allocated_fine masters a TyOf.Handle h x may runs = absurd (cc)
   allocated_fine masters a (TyOf.Access b) h x may runs = absurd (cc)
+
+  -- a value that is dereferenced is an access value
+  dereferences : {k : W.Setting} {s t : Ty} {ss : List Step} → J.Walks k s ss t → is_dereferenced ss ≡ true → IsAccessType s
+  dereferences J.arrived h = absurd (cc h)
+  dereferences (J.further (J.dereference {a = a} found) more) h = (a, refl)
+  dereferences (J.further (J.component has at) more) h = absurd (cc h)
+  dereferences (J.further (J.narrow descends) more) h = absurd (cc h)
 
   -- no operator gives an access value
   chain_plain : {k : W.Setting} {env : W.Frames} {s t : Ty} {os : List Operand} → Chains k env s os t → (IsAccessType s → ⊥) → IsAccessType t → ⊥
@@ -83,7 +97,7 @@ module _ (code : Code) (records : List RecordType) where
       typed_fine {env} (T.constant {cell = n} {t = t} scalar cell view) runs = fine_as (length env) _ _ t (value_constant n) (constant_fine code (length env) n t cell)
       typed_fine {env} (T.read {x = x} {t = t} denotes) runs =
           let same = value_read x t in
-          fine_as (length env) _ _ t same (inl (read_own code (length env) records (reached_by x) t (name_walked x) (runs_as _ _ same runs)))
+          fine_as (length env) _ _ t same (inl (read_own code (length env) records (reached_by x) t (name_found denotes) (runs_as _ _ same runs)))
       typed_fine {env} (T.call {s = f} {is = is} {actuals = actuals} {t = t} callable gives fits) runs =
           let same = value_call f actuals t in
           let e = both_true (is_run_type t) (not (goes_back (map actual_code actuals)) && actuals_run (map actual_code actuals) records) (runs_as _ _ same runs) in
@@ -117,6 +131,17 @@ module _ (code : Code) (records : List RecordType) where
       typed_fine {env} (T.subpool {which = which} {x = x} denotes rooted) runs = absurd (not_missing _ (value_subpool which x) runs)
       typed_fine {env} (T.discriminant {x = x} {i = i} denotes rooted has) runs = absurd (not_missing _ (value_discriminant x i) runs)
 
+      -- the code of what a name begins with is well formed, where it is run
+      pub name_found : {env : W.Frames} {x : Name} {t : Ty} → Denotes k env x t → IsFound code (length env) records (reached_by x)
+      name_found {env} (T.variable {v = v} {steps = ss} names stands walks) = subst (IsFound code (length env) records) (sym (reached_variable v ss)) (steps_found code (length env) records (OfVariable v) ss (behind_steps (OfVariable v) ss) refl (λ y is runs. tt))
+      name_found {env} (T.value {x = x} {steps = ss} {s = s} typed walks) =
+          let b = given (value_code x) in
+          subst (IsFound code (length env) records) (sym (reached_given x ss))
+          (steps_found code (length env) records b ss (behind_steps b ss) refl
+          (λ y is runs stack deep.
+          let access = dereferences walks (value_dereferenced (value_code x).runs (λ r. (value_code x).code (new_operand r) access_value r) ss y is) in
+          (access_usable code (length env) (value_code x) s access (typed_fine typed runs)).formed (new_operand stack) stack deep refl))
+
       operating : {env : W.Frames} {s t : Ty} {os : List Operand} → Chains k env s os t → operators_run records (map operator_of os) ≡ true → Valid.IsScalar s → Operating code (length env) (map operator_of os) s t
       operating {env} (T.ended {t = t}) runs scalar = none_operating code (length env) t scalar
       operating {env} (T.behind {o = op} {x = y} {more = more} {s = s} {t = u} {u = t} joins right rest) runs scalar =
@@ -135,7 +160,7 @@ module _ (code : Code) (records : List RecordType) where
 
       actual_good : {env : W.Frames} {f : W.Formal} {a : Actual} → Fits k env f a → (actual_code a).runs records ≡ true → GoodActual code (length env) (actual_code a)
       actual_good {env} (T.by_value {x = x} {s = s} {t = t} covers typed) = good_as code (length env) records _ _ (actual_value x t) (value_good code (length env) records (value_code x) k t s covers (λ runs. typed_fine typed runs))
-      actual_good {env} (T.by_reference {x = x} {t = t} from to denotes) = good_as code (length env) records _ _ (actual_part x t) (reference_good code (length env) records (reached_by x) t (name_walked x))
+      actual_good {env} (T.by_reference {x = x} {t = t} from to denotes) = good_as code (length env) records _ _ (actual_part x t) (reference_good code (length env) records (reached_by x) t (name_found denotes))
       actual_good {env} (T.by_copy {x = x} {p = p} {t = t} written scalar denotes) = good_as code (length env) records _ _ (actual_copied x t (J.copy_of p t)) (copy_good code (length env) records (reached_by x) t (J.copy_of p t))
 
       pub actuals_good : {env : W.Frames} {fs : List W.Formal} {actuals : List Actual} → FitEach k env fs actuals → actuals_run (map actual_code actuals) records ≡ true → GoodActuals code (length env) (map actual_code actuals)
@@ -143,3 +168,37 @@ module _ (code : Code) (records : List RecordType) where
       actuals_good (T.one_more_formal {a = a} {more = more} fits rest) runs =
           let e = both_true ((actual_code a).runs records) (actuals_run (map actual_code more) records) runs in
           (actual_good fits e.0, actuals_good rest e.1)
+
+    -- What is copied ---------------------------------------------------------------------------------
+
+    -- a value that is read from no name
+    unreached : (masters : ℕ) (x y : ValueCode) → x ≡ y → y.reached ≡ None → IsFound code masters records x.reached
+    unreached masters x y same none = subst (IsFound code masters records) (sym (ap (λ (z : ValueCode). z.reached) same ∙ none)) tt
+
+    value_found : {env : W.Frames} {x : Expr} {t : Ty} → Typed k env x t → IsFound code (length env) records (value_code x).reached
+    value_found {env} (T.constant {cell = n} scalar cell view) = unreached (length env) _ _ (value_constant n) refl
+    value_found {env} (T.read {x = x} {t = t} denotes) = subst (IsFound code (length env) records) (sym (read_reached x t)) (name_found denotes)
+    value_found {env} (T.call {s = f} {actuals = actuals} {t = t} callable gives fits) = unreached (length env) _ _ (value_call f actuals t) refl
+    value_found {env} (T.unary {o = o} {x = x} {t = t} takes h) = unreached (length env) _ _ (value_unary o t x) refl
+    value_found {env} (T.chain {x = x} {o = o} {more = more} h chains) = unreached (length env) _ _ (value_chain x o more) refl
+    value_found {env} (T.short {form = form} {x = x} {y = y} {more = more} h g rest) = unreached (length env) _ _ (value_short form x y more) refl
+    value_found {env} (T.convert {x = x} {t = t} number from h) = unreached (length env) _ _ (value_convert t x) refl
+    value_found (T.as_access from to same h) = value_found h
+    value_found {env} (T.access {v = v} names found designates) = unreached (length env) _ _ (value_access v) refl
+    value_found {env} (T.allocate {a = a} {t = t} {handle = handle} {value = x} to designates view h g) = subst (IsFound code (length env) records) (sym (new_reached a t handle x)) tt
+    value_found {env} (T.subpool {which = which} {x = x} denotes rooted) = unreached (length env) _ _ (value_subpool which x) refl
+    value_found {env} (T.discriminant {x = x} {i = i} denotes rooted has) = unreached (length env) _ _ (value_discriminant x i) refl
+
+    found_if : (masters : ℕ) (o : Option Reached) (b : Bool) → IsFound code masters records o → IsFound code masters records (reached_if o b)
+    found_if masters None b h = tt
+    found_if masters (Some x) true h = h
+    found_if masters (Some x) false h = tt
+
+    pub copied_found : {env : W.Frames} {x : Expr} {t : Ty} (u : ℕ) → Typed k env x t → IsFound code (length env) records (copied u (value_code x))
+    copied_found {env} {x} u typed = found_if (length env) (value_code x).reached (is_of u (value_code x).own) (value_found typed)
+
+    -- the source of an assignment
+    pub source_found : {env : W.Frames} {f : W.Formal} {a : Actual} → Fits k env f a → IsFound code (length env) records (sourced a)
+    source_found {env} (T.by_value {x = x} {t = t} covers typed) = subst (IsFound code (length env) records) (sym (ap (λ (z : ActualCode). z.reached) (actual_value x t))) tt
+    source_found {env} (T.by_reference {x = x} {t = t} from to denotes) = subst (IsFound code (length env) records) (sym (part_source x t)) (name_found denotes)
+    source_found {env} (T.by_copy {x = x} {p = p} {t = t} written scalar denotes) = subst (IsFound code (length env) records) (sym (ap (λ (z : ActualCode). z.reached) (actual_copied x t (J.copy_of p t)) ∙ copy_reaches (reached_by x) t (J.copy_of p t))) tt

@@ -42,10 +42,10 @@ use Rattle.ctl_gen.proofs.FormedAround.{Agrees, agrees_inside, leave_behind, lea
 use Rattle.ctl_gen.proofs.FormedArms.{GoodArms, branches_stay}
 use Rattle.ctl_gen.proofs.FormedHandlers.{AreChoices, AreExceptions, GoodHandlers, StaysAtEnd, handled_stays}
 use Rattle.ctl_gen.proofs.FormedCalls.{MayCall, MayNew, call_formed, named_level}
-use Rattle.ctl_gen.proofs.FormedExpressions.{actuals_good, has_formals, typed_fine}
+use Rattle.ctl_gen.proofs.FormedExpressions.{copied_found, name_found, source_found, actuals_good, has_formals, typed_fine}
 use Rattle.ctl_gen.proofs.FormedLines.{block_formed}
-use Rattle.ctl_gen.proofs.FormedParts.{record_formed}
-use Rattle.ctl_gen.proofs.Walked.{IsWalked, copied_walked, name_walked, source_walked}
+use Rattle.ctl_gen.proofs.FormedParts.{IsBegun, IsFound, record_formed}
+use Rattle.ctl_gen.proofs.Walked.{part_begun}
 use Rattle.ctl_gen.proofs.FormedStatements.{MayDeclare, Stays, all_stay, assign_formed, assign_part_formed, copy_formed, declaration_formed, for_stays, free_formed, free_part_formed, leaves_stay, leaves_when_stay, loop_stays, returned_formed, tested_turns, valued_formed}
 use Rattle.ctl_gen.proofs.FormedTexts.{print_formed}
 use Rattle.ctl_gen.proofs.FormedTypes.{run_scalar}
@@ -84,20 +84,20 @@ module _ (code : Code) (records : List RecordType) (k : W.Setting) (declarable :
       valued_formed code masters slot cell.0 ty x s deep cell.1 (usable_as code masters x ty (run_scalar ty g.0) (fine g.1))
 
   -- a declaration with a value
-  given_good : (env : W.Frames) (slot : ℕ) (ty : Ty) (e : Expr) {s : List Kind} → W.InView k env ty → (at : ℕ) × (variable_at s 0 slot ≡ Some at) → ((value_code e).runs records ≡ true → Fine code (length env) (value_code e) ty) → (with_value slot ty (value_code e)).runs records ≡ true → Agrees env s → Formed code ((with_value slot ty (value_code e)).code s) s (Some s)
-  given_good env slot (Record t) e {s} view cell fine runs agrees = copy_formed code records slot t (copied t (value_code e)) s (copied_walked t e) runs (subst (λ n. IsDeclarable code n t) (sym agrees.deep) (declarable env t view))
-  given_good env slot Integer e {s} view cell fine runs agrees = valued_good (length env) slot Integer (value_code e) s agrees.deep cell fine runs
-  given_good env slot Count e {s} view cell fine runs agrees = valued_good (length env) slot Count (value_code e) s agrees.deep cell fine runs
-  given_good env slot Boolean e {s} view cell fine runs agrees = valued_good (length env) slot Boolean (value_code e) s agrees.deep cell fine runs
-  given_good env slot Address e {s} view cell fine runs agrees = valued_good (length env) slot Address (value_code e) s agrees.deep cell fine runs
-  given_good env slot Handle e {s} view cell fine runs agrees = valued_good (length env) slot Handle (value_code e) s agrees.deep cell fine runs
-  given_good env slot (Access a) e {s} view cell fine runs agrees = valued_good (length env) slot (Access a) (value_code e) s agrees.deep cell fine runs
+  given_good : (env : W.Frames) (slot : ℕ) (ty : Ty) (e : Expr) {s : List Kind} → W.InView k env ty → (at : ℕ) × (variable_at s 0 slot ≡ Some at) → ((t : ℕ) → IsFound code (length env) records (copied t (value_code e))) → ((value_code e).runs records ≡ true → Fine code (length env) (value_code e) ty) → (with_value slot ty (value_code e)).runs records ≡ true → Agrees env s → Formed code ((with_value slot ty (value_code e)).code s) s (Some s)
+  given_good env slot (Record t) e {s} view cell found fine runs agrees = copy_formed code records slot t (copied t (value_code e)) s (subst (λ n. IsFound code n records (copied t (value_code e))) (sym agrees.deep) (found t)) runs (subst (λ n. IsDeclarable code n t) (sym agrees.deep) (declarable env t view))
+  given_good env slot Integer e {s} view cell found fine runs agrees = valued_good (length env) slot Integer (value_code e) s agrees.deep cell fine runs
+  given_good env slot Count e {s} view cell found fine runs agrees = valued_good (length env) slot Count (value_code e) s agrees.deep cell fine runs
+  given_good env slot Boolean e {s} view cell found fine runs agrees = valued_good (length env) slot Boolean (value_code e) s agrees.deep cell fine runs
+  given_good env slot Address e {s} view cell found fine runs agrees = valued_good (length env) slot Address (value_code e) s agrees.deep cell fine runs
+  given_good env slot Handle e {s} view cell found fine runs agrees = valued_good (length env) slot Handle (value_code e) s agrees.deep cell fine runs
+  given_good env slot (Access a) e {s} view cell found fine runs agrees = valued_good (length env) slot (Access a) (value_code e) s agrees.deep cell fine runs
 
   object_good : (env : W.Frames) (slot : ℕ) (ty : Ty) (o : Option Expr) → Fills env slot (W.Declared ty) → W.InView k env ty → Perhaps k env o ty → GoodItem env (item_code (Object slot ty o))
   object_good env slot ty None fresh view T.left_out runs s agrees =
       let cell = filled env slot (W.Declared ty) s fresh agrees in
       declaration_formed code records slot cell.0 ty s runs cell.1 (subst (λ n. MayDeclare code n ty) (sym agrees.deep) (may_declare env ty view))
-  object_good env slot ty (Some e) fresh view (T.given h) runs s agrees = given_good env slot ty e view (filled env slot (W.Declared ty) s fresh agrees) (typed_fine code records k may_call may_new h) runs agrees
+  object_good env slot ty (Some e) fresh view (T.given h) runs s agrees = given_good env slot ty e view (filled env slot (W.Declared ty) s fresh agrees) (λ t. copied_found code records k may_call may_new t h) (typed_fine code records k may_call may_new h) runs agrees
 
   -- each collection is made in the master of its access type
   gathers_good : {env : W.Frames} {as' : List ℕ} → D.Gathers k env as' → (count : ℕ) (s : List Kind) → Agrees env s → Formed code (gathers_code as' count s) s (Some s)
@@ -137,27 +137,28 @@ module _ (code : Code) (records : List RecordType) (k : W.Setting) (declarable :
   not_missing : (env : W.Frames) (x : StatementCode) → x ≡ missing_statement → GoodStatement env x
   not_missing env x same runs = absurd (let e = sym (ap (λ (z : StatementCode). z.runs records) same) ∙ runs in cc)
 
-  assign_good : (env : W.Frames) (o : Option Reached) (x : ValueCode) (t : Ty) → IsWalked o → (x.runs records ≡ true → Fine code (length env) x t) → GoodStatement env (assign o x)
-  assign_good env None x t walked fine runs a n p agrees texts can = absurd (cc)
-  assign_good env (Some (Object v steps)) x t walked fine runs a n p agrees texts can = absurd (cc)
-  assign_good env (Some (Part v steps u position)) x t walked fine runs a n p agrees texts can =
-      let e = both_true (parts_run records steps u) (x.runs records) runs in
-      assign_part_formed code (length env) v steps u position x a.stack agrees.deep walked (value_usable code (length env) x t (fine e.1)) p
-  assign_good env (Some (Variable v)) x t walked fine runs a n p agrees texts can = assign_formed code (length env) (local_at a.stack v) v x a.stack agrees.deep refl (value_usable code (length env) x t (fine runs)) p
+  assign_good : (env : W.Frames) (o : Option Reached) (x : ValueCode) (t : Ty) → IsFound code (length env) records o → (x.runs records ≡ true → Fine code (length env) x t) → GoodStatement env (assign o x)
+  assign_good env None x t found fine runs a n p agrees texts can = absurd (cc)
+  assign_good env (Some (Object b steps)) x t found fine runs a n p agrees texts can = absurd (cc)
+  assign_good env (Some (Part b steps u position)) x t found fine runs a n p agrees texts can =
+      let e = both_true (parts_run records b steps u) (x.runs records) runs in
+      assign_part_formed code (length env) b steps u position x a.stack agrees.deep found.0 (found.1 (both_true _ _ e.0).0) (value_usable code (length env) x t (fine e.1)) p
+  assign_good env (Some (Variable v)) x t found fine runs a n p agrees texts can = assign_formed code (length env) (local_at a.stack v) v x a.stack agrees.deep refl (value_usable code (length env) x t (fine runs)) p
 
-  record_good : (env : W.Frames) (o : Option Reached) (t : ℕ) (q : Option Reached) → IsWalked o → IsWalked q → GoodStatement env (assign_record o t q)
-  record_good env None t q walked walked1 runs a n p agrees texts can = absurd (cc)
-  record_good env (Some target) t None walked walked1 runs a n p agrees texts can = absurd (cc)
-  record_good env (Some target) t (Some source) walked walked1 runs a n p agrees texts can =
+  record_good : (env : W.Frames) (o : Option Reached) (t : ℕ) (q : Option Reached) → IsFound code (length env) records o → IsFound code (length env) records q → GoodStatement env (assign_record o t q)
+  record_good env None t q to from runs a n p agrees texts can = absurd (cc)
+  record_good env (Some target) t None to from runs a n p agrees texts can = absurd (cc)
+  record_good env (Some target) t (Some source) to from runs a n p agrees texts can =
       let e = both_true (part_runs target records) (part_runs source records && is_assignable records t) runs in
       let f = both_true (part_runs source records) (is_assignable records t) e.1 in
-      record_formed code target source t a.stack walked walked1 (assignable t (both_true _ _ f.1).1) p
+      record_formed code (length env) records target source t a.stack agrees.deep to from (part_begun records target e.0) (part_begun records source f.0) (assignable t (both_true _ _ f.1).1) p
 
-  free_good : (env : W.Frames) (access : ℕ) (o : Option Reached) → IsWalked o → HasCollection code (length env) access → GoodStatement env (free access o)
-  free_good env access None walked around runs a n p agrees texts can = absurd (cc)
-  free_good env access (Some (Object v steps)) walked around runs a n p agrees texts can = absurd (cc)
-  free_good env access (Some (Part v steps t position)) walked around runs a n p agrees texts can = free_part_formed code access v steps t position a.stack walked (subst (λ m. HasCollection code m access) (sym agrees.deep) around) p
-  free_good env access (Some (Variable v)) walked around runs a n p agrees texts can = free_formed code access (out_to a.stack v) v.slot a.stack (subst (λ m. HasCollection code m access) (sym agrees.deep) around) p
+  free_good : (env : W.Frames) (access : ℕ) (o : Option Reached) → IsFound code (length env) records o → HasCollection code (length env) access → GoodStatement env (free access o)
+  free_good env access None found around runs a n p agrees texts can = absurd (cc)
+  free_good env access (Some (Object b steps)) found around runs a n p agrees texts can = absurd (cc)
+  free_good env access (Some (Part b steps t position)) found around runs a n p agrees texts can =
+      free_part_formed code access b steps t position a.stack found.0 (subst (λ m. IsBegun code m b) (sym agrees.deep) (found.1 (both_true _ _ runs).0)) (subst (λ m. HasCollection code m access) (sym agrees.deep) around) p
+  free_good env access (Some (Variable v)) found around runs a n p agrees texts can = free_formed code access (out_to a.stack v) v.slot a.stack (subst (λ m. HasCollection code m access) (sym agrees.deep) around) p
 
   call_good : {env : W.Frames} {f : ℕ} {is : W.Signature} {actuals : List Actual} → W.Callable k env f is → is.result ≡ None → T.FitEach k env is.formals actuals → GoodStatement env (call f (map actual_code actuals))
   call_good {env} {f} {is} {actuals} can_call gives fits = λ runs a n p agrees texts can.
@@ -226,7 +227,7 @@ module _ (code : Code) (records : List RecordType) (k : W.Setting) (declarable :
   mutual
     pub statement_good : {env : W.Frames} {a : D.Around} {y : Stmt} → Done k env a y → GoodStatement env (statement_code y)
     statement_good {env} D.null = good_as env _ _ (layer_of _ (sym rolls-Null)) (λ runs a n p agrees texts can. none code a.stack p)
-    statement_good {env} (D.assign {x = x} {v = v} {t = t} scalar denotes h) = good_as env _ _ (layer_of _ (sym (rolls-Assign x v))) (assign_good env (reached_by x) (value_code v) t (name_walked x) (λ runs. typed_fine code records k may_call may_new h runs))
+    statement_good {env} (D.assign {x = x} {v = v} {t = t} scalar denotes h) = good_as env _ _ (layer_of _ (sym (rolls-Assign x v))) (assign_good env (reached_by x) (value_code v) t (name_found code records k may_call may_new denotes) (λ runs. typed_fine code records k may_call may_new h runs))
     statement_good {env} (D.put {ps = ps} puts) = good_as env _ _ (layer_of _ (sym (rolls-Put ps))) (λ runs a n p agrees texts can. print_formed code records k may_call may_new false n ps puts runs texts.0 a.stack agrees.deep p)
     statement_good {env} (D.put_line {ps = ps} puts) = good_as env _ _ (layer_of _ (sym (rolls-PutLine ps))) (λ runs a n p agrees texts can. print_formed code records k may_call may_new true n ps puts runs texts.0 a.stack agrees.deep p)
     statement_good {env} D.new_line = good_as env _ _ (layer_of _ (sym rolls-NewLine)) (λ runs a n p agrees texts can. one code InstrOf.NewLine a.stack (Some a.stack) (λ q next. next) p)
@@ -255,13 +256,13 @@ module _ (code : Code) (records : List RecordType) (k : W.Setting) (declarable :
         (usable_as code (length env) (value_code high) Integer tt (typed_fine code records k may_call may_new to g.0))
         (each_good h g.1))
     statement_good {env} (D.block {m = m} {f = f} h) = good_as env _ _ (layer_of _ (sym (rolls-Block m))) (block_good env f (master_code m) (slots_told h) (master_good h))
-    statement_good {env} (D.assign_record {x = x} {t = t} {v = v} denotes fits) = good_as env _ _ (layer_of _ (sym (rolls-AssignRecord x t v))) (record_good env (reached_by x) t (sourced v) (name_walked x) (source_walked v))
+    statement_good {env} (D.assign_record {x = x} {t = t} {v = v} denotes fits) = good_as env _ _ (layer_of _ (sym (rolls-AssignRecord x t v))) (record_good env (reached_by x) t (sourced v) (name_found code records k may_call may_new denotes) (source_found code records k may_call may_new fits))
     statement_good {env} (D.call {s = f} {actuals = actuals} can_call gives fits) = good_as env _ _ (layer_of _ (sym (rolls-Call f actuals))) (call_good can_call gives fits)
     statement_good {env} (D.nothing_done {x = x} views) = not_missing env _ (layer_of _ (sym (rolls-Nothing x)))
     statement_good {env} (D.dispatch {o = o} {x = x} views) = not_missing env _ (layer_of _ (sym (rolls-Dispatch o x)))
     statement_good {env} (D.library_allocate {p = p} {x = x} {size = size} {alignment = alignment} views rooted denotes h g) = not_missing env _ (layer_of _ (sym (rolls-LibraryAllocate p x size alignment)))
     statement_good {env} (D.library_deallocate {p = p} {x = x} {size = size} {alignment = alignment} views rooted address h g) = not_missing env _ (layer_of _ (sym (rolls-LibraryDeallocate p x size alignment)))
-    statement_good {env} (D.free {t = t} {x = x} has denotes) = good_as env _ _ (layer_of _ (sym (rolls-Free t x))) (free_good env t (reached_by x) (name_walked x) (seen env t has))
+    statement_good {env} (D.free {t = t} {x = x} has denotes) = good_as env _ _ (layer_of _ (sym (rolls-Free t x))) (free_good env t (reached_by x) (name_found code records k may_call may_new denotes) (seen env t has))
     statement_good {env} (D.release {x = x} denotes) = not_missing env _ (layer_of _ (sym (rolls-Release x)))
     statement_good {env} (D.raise_again handles) = good_as env _ _ (layer_of _ (sym rolls-RaiseAgain)) (λ runs a n p agrees texts can. one code InstrOf.RaiseAgain a.stack (Some a.stack) (λ q next. tt) p)
 

@@ -1,5 +1,5 @@
 -- The code of each construct is well formed where its parts are, and leaves in the window what stood there.
-use Rattle.std.proofs.Common.{◌≡◌, ℕ, ◌+◌, List, [], ◌∷◌, ◌++◌, length, true, false, Option, Some, None, refl, sym, subst, arith, length-append}
+use Rattle.std.proofs.Common.{◌≡◌, ℕ, ◌+◌, List, [], ◌∷◌, ◌++◌, length, true, Option, Some, None, refl, sym, subst, arith, length-append}
 use Rattle.ctl_program.specs.declared.types.Ty.{Ty}
 use Rattle.ctl_program.specs.declared.types.Ty.TheVariants.{Integer, Count, Boolean, Address, Handle, Access, Record}
 use Rattle.ctl_program.specs.declared.types.Var.{Var}
@@ -14,18 +14,20 @@ use Rattle.ctl_code.specs.declared.code.Code.{Code}
 use Rattle.ctl_code.specs.declared.template.TextPart.{TextPart}
 use Rattle.ctl_code.specs.Windows.{depth, variable_at}
 use Rattle.ctl_code.specs.Valid.{IsCellOf, IsDeclarable, HasCollection, Leads}
-use Rattle.ctl_layout.specs.Parts.{Reached, are_walked, located_code, part_code}
+use Rattle.ctl_layout.specs.Parts.{Start, Reached, are_followed, located_code, part_code, part_runs}
 use Rattle.ctl_layout.specs.Around.{Line, Around, behind, local_at, local_cell, new_operand, newest_at, newest_cell, out_to}
 use Rattle.ctl_layout.specs.Values.{ValueCode, held, value_type}
 use Rattle.ctl_layout.specs.Layout.{StatementCode, all, assign_code, assign_part_code, bounds_code, copy, declaration, for, free_part_code, in_loop, leaves_code, loop, return_held, scalar_code, store_part_code, test_code, test_held, test_length, tested_code, turns_code, valued_code, with_bounds}
 use Rattle.ctl_layout.specs.Defaults.{is_declared}
+use Rattle.ctl_layout.specs.Records.{is_plain}
+use Rattle.ctl_layout.proofs.Extensions.{both_true}
 use Rattle.ctl_gen.proofs.Place.{HasAt}
 use Rattle.ctl_gen.proofs.Place as Place
 use Rattle.ctl_gen.proofs.Formed.{both, both_at, Formed, FormedAt, has_end, leads_at, one}
 use Rattle.ctl_gen.proofs.FormedAround.{Agrees, CanLeave, agrees_under, leave_behind, leaves_formed}
 use Rattle.ctl_gen.proofs.FormedLines.{loop_formed, test_formed, turns_formed}
-use Rattle.ctl_gen.proofs.FormedParts.{located_formed, part_formed}
-use Rattle.ctl_gen.proofs.Walked.{IsWalked}
+use Rattle.ctl_gen.proofs.FormedParts.{IsBegun, IsFound, located_formed, part_formed}
+use Rattle.ctl_gen.proofs.Walked.{part_begun}
 use Rattle.ctl_gen.proofs.FormedValues.{Usable, found}
 
 module _ (code : Code) where
@@ -62,12 +64,13 @@ module _ (code : Code) where
   declaration_formed records slot at (Access a) s runs there may = scalar_formed slot at (Access a) s there tt
 
   -- one with the value of a part of its record type
-  pub copy_formed : (records : List RecordType) (slot t : ℕ) (o : Option Reached) (s : List Kind) → IsWalked o → (copy slot t o).runs records ≡ true → IsDeclarable code (depth s) t → Formed code ((copy slot t o).code s) s (Some s)
-  copy_formed records slot t None s walked runs may = absurd (cc)
-  copy_formed records slot t (Some o) s walked runs may =
+  pub copy_formed : (records : List RecordType) (slot t : ℕ) (o : Option Reached) (s : List Kind) → IsFound code (depth s) records o → (copy slot t o).runs records ≡ true → IsDeclarable code (depth s) t → Formed code ((copy slot t o).code s) s (Some s)
+  copy_formed records slot t None s found_so runs may = absurd (cc)
+  copy_formed records slot t (Some o) s found_so runs may =
       let over = Operand (Record t) ∷ s in
       let declare = InstrOf.DeclareCopy slot t in
-      both code (part_code o t s) ((declare, over) ∷ []) s over (Some s) (part_formed code o t s walked)
+      let begun = found_so.1 (part_begun records o (both_true (is_plain records t) (part_runs o records) runs).1) in
+      both code (part_code o t s) ((declare, over) ∷ []) s over (Some s) (part_formed code (depth s) o t s refl found_so.0 begun)
       (one code declare over (Some s) (λ p next. (may, (s, refl, next))))
 
   -- Statements -------------------------------------------------------------------------------------
@@ -98,13 +101,13 @@ module _ (code : Code) where
       (one code store h.after (Some s) (λ p next. (usable.scalar, (s, f.taken, next))))
 
   -- a value goes into a component of a part
-  pub assign_part_formed : (masters : ℕ) (v : Var) (steps : List Step) (t position : ℕ) (x : ValueCode) (s : List Kind) → depth s ≡ masters → are_walked false steps ≡ true → Usable code masters x (value_type x) → Formed code (assign_part_code v steps t position x s) s (Some s)
-  assign_part_formed masters v steps t position x s deep walked usable =
+  pub assign_part_formed : (masters : ℕ) (b : Start) (steps : List Step) (t position : ℕ) (x : ValueCode) (s : List Kind) → depth s ≡ masters → are_followed b steps ≡ true → IsBegun code masters b → Usable code masters x (value_type x) → Formed code (assign_part_code b steps t position x s) s (Some s)
+  assign_part_formed masters b steps t position x s deep followed begun usable =
       let over = Operand (Record t) ∷ s in
       let h = held x (value_type x) over in
       let f = found code masters x (value_type x) over deep usable in
       let store = InstrOf.StorePart h.cell (value_type x) t position in
-      both code (located_code v steps t s) (store_part_code t position x s) s over (Some s) (located_formed code v steps t s walked)
+      both code (located_code b steps t s) (store_part_code t position x s) s over (Some s) (located_formed code masters b steps t s deep followed begun)
       (both code h.code ((store, h.after) ∷ []) over h.after (Some s) f.formed
       (one code store h.after (Some s) (λ p next. (usable.scalar, (over, f.taken, (s, refl, next))))))
 
@@ -112,11 +115,11 @@ module _ (code : Code) where
   pub free_formed : (access out slot : ℕ) (s : List Kind) → HasCollection code (depth s) access → Formed code ((InstrOf.Free access out slot, s) ∷ []) s (Some s)
   free_formed access out slot s seen = one code (InstrOf.Free access out slot) s (Some s) (λ p next. (seen, next))
 
-  pub free_part_formed : (access : ℕ) (v : Var) (steps : List Step) (t position : ℕ) (s : List Kind) → are_walked false steps ≡ true → HasCollection code (depth s) access → Formed code (free_part_code access v steps t position s) s (Some s)
-  free_part_formed access v steps t position s walked seen =
+  pub free_part_formed : (access : ℕ) (b : Start) (steps : List Step) (t position : ℕ) (s : List Kind) → are_followed b steps ≡ true → IsBegun code (depth s) b → HasCollection code (depth s) access → Formed code (free_part_code access b steps t position s) s (Some s)
+  free_part_formed access b steps t position s followed begun seen =
       let over = Operand (Record t) ∷ s in
       let free = InstrOf.FreePart access t position in
-      both code (located_code v steps t s) ((free, over) ∷ []) s over (Some s) (located_formed code v steps t s walked)
+      both code (located_code b steps t s) ((free, over) ∷ []) s over (Some s) (located_formed code (depth s) b steps t s refl followed begun)
       (one code free over (Some s) (λ p next. (seen, (s, refl, next))))
 
   -- a return statement with a value (6.5)

@@ -231,6 +231,10 @@ pub cell_like : (s t : Ty) (n : ℕ) → IsLike s t → IsCell t n → IsCell s 
 cell_like s t n (inl e) h = subst (λ x. IsCell x n) (sym e) h
 cell_like s t n (inr ((a, e), (b, f))) h = subst (λ x. IsCell x n) (sym e) (subst (λ x. IsCell x n) f h)
 
+pub like_access : (s t : Ty) → IsLike s t → IsAccessType s → IsAccessType t
+like_access s t (inl e) h = subst IsAccessType e h
+like_access s t (inr (a, b)) h = b
+
 pub same_unless : (s t : Ty) → (IsAccessType t → ⊥) → IsLike s t → s ≡ t
 same_unless s t plain (inl e) = e
 same_unless s t plain (inr (a, b)) = absurd (plain b)

@@ -1,5 +1,5 @@
 -- The code of an expression is well formed where its parts are, and puts a value of its type where it is wanted.
-use Rattle.std.proofs.Common.{◌≡◌, ℕ, ◌+◌, List, [], ◌∷◌, ◌++◌, length, Option, Some, None, true, false, ◌⊎◌, inl, inr, refl, sym, ap, ◌∙◌, subst}
+use Rattle.std.proofs.Common.{◌≡◌, ℕ, ◌+◌, List, [], ◌∷◌, ◌++◌, length, Option, Some, None, true, ◌⊎◌, inl, inr, refl, sym, ap, ◌∙◌, subst}
 use Rattle.std.specs.Prelude.{unwrap_or}
 use Rattle.ctl_program.specs.declared.types.Ty.{Ty}
 use Rattle.ctl_program.specs.declared.types.Ty.TheVariants.{Integer, Boolean}
@@ -26,13 +26,13 @@ use Rattle.ctl_layout.specs.declared.right.Right.{Right}
 use Rattle.ctl_layout.specs.declared.right.Right.TheVariants as RightOf
 use Rattle.ctl_layout.specs.Around.{Line, local_at, new_operand, out_to, read_from}
 use Rattle.ctl_layout.specs.Records.{is_run_type}
-use Rattle.ctl_layout.specs.Parts.{Reached, Variable, Part, Object, are_walked, component_code, located_code, part_code, parts_run}
+use Rattle.ctl_layout.specs.Parts.{Start, OfVariable, OfValue, Reached, Variable, Part, Object, are_followed, component_code, located_code, part_code, parts_run, taken_code}
 use Rattle.ctl_layout.specs.Values.{Held, OperatorCode, ValueCode, binary_code, chain, common_type, constant, designating, evaluated, first_type, held, held_by, in_cell, last_type, left_held, moved_to, new, new_copy, new_copy_code, next_target, operand_type, operator_by, operator_code, operator_for, operators_code, other_code, others_code, read, short, unary, value_type}
 use Rattle.ctl_layout.proofs.Extensions.{both_true}
 use Rattle.ctl_gen.proofs.Formed.{Formed, both, has_end, none, one}
-use Rattle.ctl_gen.proofs.FormedParts.{located_formed, part_formed, read_fine}
-use Rattle.ctl_gen.proofs.Walked.{IsWalked}
-use Rattle.ctl_gen.proofs.FormedTypes.{IsAccessType, IsLike, arithmetic_of, boolean_plain, cell_like, cell_of, equality_relates, is_relation, like_back, like_scalar, like_then, logical_of, number_of, number_scalar, of_arithmetic, of_logical, of_relation, ordering_relates, relation_of, run_scalar, same_unless, unary_plain}
+use Rattle.ctl_gen.proofs.FormedParts.{IsBegun, IsFound, located_formed, part_formed, read_fine}
+use Rattle.ctl_gen.proofs.Walked.{start_of, steps_before}
+use Rattle.ctl_gen.proofs.FormedTypes.{IsAccessType, IsLike, arithmetic_of, boolean_plain, cell_like, cell_of, equality_relates, is_relation, like_access, like_back, like_scalar, like_then, logical_of, number_of, number_scalar, of_arithmetic, of_logical, of_relation, ordering_relates, relation_of, run_scalar, same_unless, unary_plain}
 
 -- Cells -------------------------------------------------------------------------------------------
 
@@ -93,12 +93,14 @@ module _ (code : Code) (masters : ℕ) where
     pub formed : (to : Cell) (s : List Kind) → depth s ≡ masters → Placed to s → Formed code (x.code to ty s) s (Some (with_put to.named ty s))
     pub constant : (n : ℕ) → x.right ≡ RightOf.Constant n → IsCellOf ty n
 
-  -- a value of this type of its own. An access value is one of each access type that designates the same type (4.6)
+  -- a value of this type of its own. An access value is one of each access type that designates the same type (4.6), and stands as a number
+  -- where it is dereferenced
   pub record Own (x : ValueCode) (ty : Ty) : Type 0 where
     pub type : Ty
     pub own : x.own ≡ Some type
     pub like : IsLike type ty
     pub usable : (t : Ty) → IsLike t ty → Usable x t
+    pub number : IsAccessType ty → Usable x Integer
 
   -- a value of this type that has none of its own: a constant, or an access attribute. Where its type is not asked, it is taken as a number
   pub record Bare (x : ValueCode) (ty : Ty) : Type 0 where
@@ -111,11 +113,11 @@ module _ (code : Code) (masters : ℕ) where
 
   -- where its own type is no access type
   own_of : (x : ValueCode) (ty : Ty) → x.own ≡ Some ty → (IsAccessType ty → ⊥) → Usable x ty → Own x ty
-  own_of x ty own plain usable = record { type = ty; own = own; like = inl refl; usable = λ t like. subst (Usable x) (sym (same_unless t ty plain like)) usable }
+  own_of x ty own plain usable = record { type = ty; own = own; like = inl refl; usable = λ t like. subst (Usable x) (sym (same_unless t ty plain like)) usable; number = λ access. absurd (plain access) }
 
   -- and where it is usable as each scalar type
   pub own_as : (x : ValueCode) (ty : Ty) → x.own ≡ Some ty → Valid.IsScalar ty → ((t : Ty) → Valid.IsScalar t → Usable x t) → Own x ty
-  own_as x ty own scalar usable = record { type = ty; own = own; like = inl refl; usable = λ t like. usable t (like_scalar t ty like scalar) }
+  own_as x ty own scalar usable = record { type = ty; own = own; like = inl refl; usable = λ t like. usable t (like_scalar t ty like scalar); number = λ access. usable Integer tt }
 
   pub usable_constant : (n : ℕ) (ty : Ty) → Valid.IsScalar ty → IsCellOf ty n → Usable (constant n) ty
   usable_constant n ty scalar cell = record {
@@ -148,9 +150,14 @@ module _ (code : Code) (masters : ℕ) where
   value_usable x ty (inl h) = subst (Usable x) (sym (ap (λ o. unwrap_or o Integer) h.own)) (h.usable h.type h.like)
   value_usable x ty (inr h) = subst (Usable x) (sym (ap (λ o. unwrap_or o Integer) h.own)) h.number
 
+  -- an access value, as a number
+  pub access_usable : (x : ValueCode) (ty : Ty) → IsAccessType ty → Fine x ty → Usable x Integer
+  access_usable x ty access (inl h) = h.number access
+  access_usable x ty access (inr h) = h.number
+
   -- one of another access type
   pub fine_like : (x : ValueCode) (s t : Ty) → IsLike s t → Fine x t → Fine x s
-  fine_like x s t like (inl h) = inl (record { type = h.type; own = h.own; like = like_then h.type t s h.like (like_back s t like); usable = λ u l. h.usable u (like_then u s t l like) })
+  fine_like x s t like (inl h) = inl (record { type = h.type; own = h.own; like = like_then h.type t s h.like (like_back s t like); usable = λ u l. h.usable u (like_then u s t l like); number = λ access. h.number (like_access s t like access) })
   fine_like x s t like (inr h) = inr (record { own = h.own; number = h.number; usable = λ u l. h.usable u (like_then u s t l like) })
 
   -- Operands ----------------------------------------------------------------------------------------
@@ -330,8 +337,8 @@ module _ (code : Code) (masters : ℕ) where
       })
 
   -- and so is that of an allocator with the value of a part, which is found before
-  pub copied_own : (access t : ℕ) (x : Reached) → IsWalked (Some x) → IsAllocable code masters access t → Own (new_copy access t (Some x)) (TyOf.Access access)
-  copied_own access t x walked allocable =
+  pub copied_own : (access t : ℕ) (x : Reached) → are_followed (start_of x) (steps_before x) ≡ true → IsBegun code masters (start_of x) → IsAllocable code masters access t → Own (new_copy access t (Some x)) (TyOf.Access access)
+  copied_own access t x followed begun allocable =
       own_as (new_copy access t (Some x)) (TyOf.Access access) refl tt
       (λ ty scalar. record {
         scalar = scalar;
@@ -340,7 +347,7 @@ module _ (code : Code) (masters : ℕ) where
             let top = KindOf.Operand ty ∷ s in
             both code (new_copy_code access t x ty s) (moved_to to ty s) s top (Some (with_put to.named ty s))
             (both code (part_code x t s) ((InstrOf.NewCopy access t ty (height s), part) ∷ []) s part (Some top)
-            (part_formed code x t s walked)
+            (part_formed code masters x t s deep followed begun)
             (one code (InstrOf.NewCopy access t ty (height s)) part (Some top) (λ p next. (scalar, subst (λ n. IsAllocable code n access t) (sym deep) allocable, (s, refl, (refl, next))))))
             (moved_formed code to ty s scalar at);
         constant = λ n is. absurd (cc);
@@ -348,27 +355,32 @@ module _ (code : Code) (masters : ℕ) where
 
   module _ (records : List RecordType) where
     -- the value of a component goes where it is wanted
-    component_formed : (v : Var) (steps : List Step) (t position : ℕ) (ty : Ty) (to : Cell) (s : List Kind) → Valid.IsScalar ty → are_walked false steps ≡ true → Placed to s → Formed code (component_code v steps t position ty to s) s (Some (with_put to.named ty s))
-    component_formed v [] t position ty to s scalar walked at = one code (InstrOf.FetchPart (out_to s v) v.slot t position ty to) s (Some (with_put to.named ty s)) (λ p next. (scalar, puts code p to ty s at next))
-    component_formed v (step ∷ steps) t position ty to s scalar walked at =
+    taken_formed : (b : Start) (steps : List Step) (t position : ℕ) (ty : Ty) (to : Cell) (s : List Kind) → Valid.IsScalar ty → depth s ≡ masters → are_followed b steps ≡ true → IsBegun code masters b → Placed to s → Formed code (taken_code b steps t position ty to s) s (Some (with_put to.named ty s))
+    taken_formed b steps t position ty to s scalar deep followed begun at =
         let part = KindOf.Operand (TyOf.Record t) ∷ s in
         let after = Some (with_put to.named ty s) in
-        both code (located_code v (step ∷ steps) t s) ((InstrOf.TakePart t position ty to, part) ∷ []) s part after
-        (located_formed code v (step ∷ steps) t s walked)
+        both code (located_code b steps t s) ((InstrOf.TakePart t position ty to, part) ∷ []) s part after
+        (located_formed code masters b steps t s deep followed begun)
         (one code (InstrOf.TakePart t position ty to) part after (λ p next. (scalar, (s, refl, puts code p to ty s at next))))
 
-    pub read_own : (o : Option Reached) (ty : Ty) → IsWalked o → (read o ty).runs records ≡ true → Own (read o ty) ty
-    read_own None ty walked runs = absurd (cc)
-    read_own (Some (Object v steps)) ty walked runs = absurd (cc)
-    read_own (Some (Part v steps t position)) ty walked runs =
-        let e = both_true (is_run_type ty) (parts_run records steps t) runs in
-        own_as (read (Some (Part v steps t position)) ty) ty refl (run_scalar ty e.0)
+    component_formed : (b : Start) (steps : List Step) (t position : ℕ) (ty : Ty) (to : Cell) (s : List Kind) → Valid.IsScalar ty → depth s ≡ masters → are_followed b steps ≡ true → IsBegun code masters b → Placed to s → Formed code (component_code b steps t position ty to s) s (Some (with_put to.named ty s))
+    component_formed (OfVariable v) [] t position ty to s scalar deep followed begun at = one code (InstrOf.FetchPart (out_to s v) v.slot t position ty to) s (Some (with_put to.named ty s)) (λ p next. (scalar, puts code p to ty s at next))
+    component_formed (OfVariable v) (step ∷ steps) t position ty to s scalar deep followed begun at = taken_formed (OfVariable v) (step ∷ steps) t position ty to s scalar deep followed begun at
+    component_formed (OfValue runs lines) steps t position ty to s scalar deep followed begun at = taken_formed (OfValue runs lines) steps t position ty to s scalar deep followed begun at
+
+    pub read_own : (o : Option Reached) (ty : Ty) → IsFound code masters records o → (read o ty).runs records ≡ true → Own (read o ty) ty
+    read_own None ty found_so runs = absurd (cc)
+    read_own (Some (Object b steps)) ty found_so runs = absurd (cc)
+    read_own (Some (Part b steps t position)) ty found_so runs =
+        let e = both_true (is_run_type ty) (parts_run records b steps t) runs in
+        let begun = found_so.1 (both_true _ _ e.1).0 in
+        own_as (read (Some (Part b steps t position)) ty) ty refl (run_scalar ty e.0)
         (λ u scalar. record {
           scalar = scalar;
-          formed = λ to s deep at. component_formed v steps t position u to s scalar walked at;
+          formed = λ to s deep at. component_formed b steps t position u to s scalar deep found_so.0 begun at;
           constant = λ n is. absurd (cc);
         })
-    read_own (Some (Variable v)) ty walked runs =
+    read_own (Some (Variable v)) ty found_so runs =
         own_as (read (Some (Variable v)) ty) ty refl (run_scalar ty runs)
         (λ u scalar. record {
           scalar = scalar;

@@ -18,7 +18,7 @@ use Rattle.ctl_meaning.specs.Objects.{cells_at, first_cells, is_untouched, is_fi
 use Rattle.ctl_meaning.specs.Changes.{object_at, forget, set_value, slot_at, write_cells}
 use Rattle.ctl_meaning.specs.Choice.{Ask, picked}
 use Rattle.ctl_meaning.specs.Members.{member_of, is_due}
-use Rattle.ctl_meaning.specs.Outcome.{constraint_error, program_error, ByRaise, Result, Goes, Leaves, Out, Gives, Stops, Act, Done, Fine, add, bind, on_goes, ◌>>=◌, done, nothing, raise, stop, counted, ticked, look, change, either, on_some, opened_outcome}
+use Rattle.ctl_meaning.specs.Outcome.{program_error, ByRaise, Result, Goes, Leaves, Out, Gives, Stops, Act, Done, Fine, add, bind, on_goes, ◌>>=◌, done, nothing, raise, stop, counted, ticked, look, change, either, on_some, opened_outcome}
 use Rattle.ctl_meaning.specs.Types.{Tables, has_controlled, offset_in, placed}
 use Rattle.ctl_meaning.specs.Names.{Found, Call, Default, Tools, existing, gone, moved as found_behind, read_found, read_part, scalar_of, write_found, write_part}
 use Rattle.ctl_meaning.specs.Names as Names
@@ -33,17 +33,18 @@ use Rattle.ctl_code.specs.Table as Table
 use Rattle.ctl_code.specs.Table.{by_free, by_free_part, component_of, finalize_freed, finalize_typed, free_member, freed_in, freed_part, has_part_in, out_of}
 use Rattle.ctl_code.specs.Steps.{moved, step}
 use Rattle.ctl_layout.specs.Around.{Line, out_to}
-use Rattle.ctl_layout.specs.Parts.{are_walked, located_code, parts_run}
+use Rattle.ctl_layout.specs.Parts.{Start, are_followed, located_code, parts_run}
 use Rattle.ctl_layout.specs.Layout.{free_part_code}
 use Rattle.ctl_gen.proofs.Known.{both_true}
 use Rattle.ctl_gen.proofs.Each.{IfFound, found_passes}
 use Rattle.ctl_gen.proofs.Collections.{Belongs}
-use Rattle.ctl_gen.proofs.Worlds.{Settled, Since, Kept, no_copy_at, object_fits, since_forget, since_value, since_written}
+use Rattle.ctl_gen.proofs.Worlds.{Settled, Since, Kept, object_fits, since_forget, since_value, since_written}
 use Rattle.ctl_gen.proofs.Parted.{GivesDefaults}
-use Rattle.ctl_gen.proofs.Setting.{Setting, Calls, Sure, tools_with}
+use Rattle.ctl_gen.proofs.Setting.{Setting, Calls, Sure, seen, tools_with}
 use Rattle.ctl_gen.proofs.Place.{laid_front, laid_back}
 use Rattle.ctl_gen.proofs.Cells.{by_code, cell_is, here, out_is, value_of}
-use Rattle.ctl_gen.proofs.Parts.{agree_run, component_found, find_by, found_at, located_then, stepping}
+use Rattle.ctl_gen.proofs.Parts.{agree_run, component_found, find_by, found_at, stepping}
+use Rattle.ctl_gen.proofs.Begun.{Starts, located_then}
 use Rattle.ctl_gen.proofs.Expressions.{Uses}
 use Rattle.ctl_gen.proofs.FinalizedParts.{heard, tells}
 use Rattle.ctl_gen.proofs.Finalize.{part_alike, typed_runs}
@@ -273,30 +274,30 @@ module _ (ask : Ask) (k : Tables) (code : Code) (setting : Setting k code) (call
       ∙ ap (λ n. moved l (by_free code (NullVariable out v.slot) (slice_get code.accesses.items access) n ops (here d place ks w))) (cell_is d a.stack v w sees.long)))))))
 
   -- and one whose access value is in a component: the part that has it is found first
-  pub part_freed_does : (access : ℕ) (v : Var) (steps : List Step) (t position : ℕ) → parts_run k.records steps t ≡ true → are_walked false steps ≡ true → (find : List ℕ → Act Found) → find ≡ find_by K (steps ++ Component t position ∷ []) v → Does ask k code bound (λ a. free_part_code access v steps t position a.stack) (λ d caught. ticked (find d >>= free K d access))
+  pub part_freed_does : (access : ℕ) (first : Start) (given : List ℕ → Act (List ℕ)) → ((w0 : World) → Starts ask k code bound w0 first given) → (steps : List Step) (t position : ℕ) → parts_run k.records first steps t ≡ true → are_followed first steps ≡ true → (find : List ℕ → Act Found) → find ≡ find_by K given (steps ++ Component t position ∷ []) first → Does ask k code bound (λ a. free_part_code access first steps t position a.stack) (λ d caught. ticked (find d >>= free K d access))
   unfolding found_behind opened_outcome
-  part_freed_does access v steps t position runs walked find is a w0 d place ks ops c l w le fits sees has =
+  part_freed_does access first given begun steps t position runs followed find is a w0 d place ks ops c l w le fits sees has =
       let s = a.stack in
-      let front = located_code v steps t s in
+      let front = located_code first steps t s in
       let last : List Line = (InstrOf.FreePart access t position, Operand (Record t) ∷ s) ∷ [] in
       let s0 = at d place ks ops l w in
-      let next = arrives (lands a place) d (place + length (free_part_code access v steps t position s)) ks ops in
-      let end : place + length front + 1 ≡ place + length (free_part_code access v steps t position s) = omega (arith, length-append front last) in
-      let agree = agree_run k code setting.places steps t runs in
+      let next = arrives (lands a place) d (place + length (free_part_code access first steps t position s)) ks ops in
+      let end : place + length front + 1 ≡ place + length (free_part_code access first steps t position s) = omega (arith, length-append front last) in
+      let agree = agree_run k code setting.places first steps t runs in
       let frees : Result Found → Act Done = on_goes (free K d access) in
       let selected : Result Found → Act Done = λ r c1 l1 w1. bind (on_goes (stepping k t position) r c1 l1 w1) frees in
       subst (Runs ask code (Kept k code w0) 0 0 s0 c next)
       (sym (ap (λ (g : List ℕ → Act Found). add 1 (bind (g d c l w) frees)) is
-      ∙ ap (λ z. add 1 (bind z frees)) (component_found K v steps t position d c l w)
-      ∙ ap (add 1) (bind_bind (find_by K steps v d c l w) (on_goes (stepping k t position)) frees)))
+      ∙ ap (λ z. add 1 (bind z frees)) (component_found K given first steps t position d c l w)
+      ∙ ap (add 1) (bind_bind (find_by K given steps first d c l w) (on_goes (stepping k t position)) frees)))
       (added ask code (Kept k code w0) 1 0 0 0 0 s0 c next _ (omega arith) (omega arith)
-      (located_then ask code K (λ r. Since k code w0) next selected d ks ops c l w 0 0 v steps t s place walked agree.0 (no_copy_at k code (master_of d v) v.slot w fits.0) sees.long (laid_front code place front last has)
-      (λ p.
+      (located_then ask k code bound w0 call default (λ r. Since k code w0) next selected d ks ops 0 0 first given (begun w0) steps t s place c l w followed agree.0 le fits (seen sees) (laid_front code place front last has)
+      (λ c1 l1 w1 lo fits1 p.
       let q = component_of p (offset_in position (placed k t)) position in
-      let s1 = at d (place + length front) ks (Located p ∷ ops) l w in
-      added ask code (Kept k code w0) 1 4 4 0 0 s1 c next (free K d access (found_at q) c l w) (omega arith) (omega arith)
-      (subst (λ z. Runs ask code (Kept k code w0) 4 4 s1 c (arrives (lands a place) d z ks ops) (free K d access (found_at q) c l w)) end
-      (component_frees w0 q access (lands a place) d (place + length front) ks ops s1 c l w le fits
-      (by_code ask code d (place + length front) ks (Located p ∷ ops) l w (InstrOf.FreePart access t position) (laid_back code place front last has).0
-      ∙ ap (λ j. let x = component_of p j position in moved l (by_free_part code x (slice_get code.accesses.items access) (object_at x.object w) ops (here d (place + length front) ks w))) (agree.1 position)))))
-      (no_step ask code (Kept k code w0) 0 0 _ c 0 next (Leaves (ByRaise constraint_error)) l w fits refl)))
+      let s1 = at d (place + length front) ks (Located p ∷ ops) l1 w1 in
+      added ask code (Kept k code w0) 1 4 4 0 0 s1 c1 next (free K d access (found_at q) c1 l1 w1) (omega arith) (omega arith)
+      (subst (λ z. Runs ask code (Kept k code w0) 4 4 s1 c1 (arrives (lands a place) d z ks ops) (free K d access (found_at q) c1 l1 w1)) end
+      (component_frees w0 q access (lands a place) d (place + length front) ks ops s1 c1 l1 w1 (omega (arith, lo, le)) fits1
+      (by_code ask code d (place + length front) ks (Located p ∷ ops) l1 w1 (InstrOf.FreePart access t position) (laid_back code place front last has).0
+      ∙ ap (λ j. let x = component_of p j position in moved l1 (by_free_part code x (slice_get code.accesses.items access) (object_at x.object w1) ops (here d (place + length front) ks w1))) (agree.1 position)))))
+      (λ y c1 l1 w1 lo fits1. no_step ask code (Kept k code w0) 0 0 _ c1 0 next (Leaves (ByRaise y)) l1 w1 fits1 refl)))

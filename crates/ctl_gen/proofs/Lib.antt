@@ -10,6 +10,7 @@ pub mod Values
 pub mod Cells
 pub mod Walked
 pub mod Parts
+pub mod Begun
 pub mod Components
 pub mod Worth
 pub mod Expressions

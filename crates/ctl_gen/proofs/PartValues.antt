@@ -4,11 +4,10 @@ use Rattle.std.proofs.Common.{◌≡◌, ℕ, ◌+◌, ◌≤◌, List, ◌∷�
 use Rattle.ctl_program.specs.declared.types.Ty.TheVariants.{Record}
 use Rattle.ctl_tree.specs.declared.ending.Stop.TheVariants.{UseAfterFree}
 use Rattle.ctl_meaning.specs.World.{Object, Log, World}
-use Rattle.ctl_meaning.specs.Activations.{master_of}
 use Rattle.ctl_meaning.specs.Objects.{cells_at}
 use Rattle.ctl_meaning.specs.Changes.{object_at}
 use Rattle.ctl_meaning.specs.Choice.{Ask}
-use Rattle.ctl_meaning.specs.Outcome.{constraint_error, ByRaise, Result, Goes, Leaves, Out, Gives, Stops, Cut, Act, add, bind, on_goes, done, on_some, opened_outcome}
+use Rattle.ctl_meaning.specs.Outcome.{ByRaise, Result, Goes, Leaves, Out, Gives, Stops, Cut, Act, add, bind, on_goes, done, on_some, opened_outcome}
 use Rattle.ctl_meaning.specs.Types.{Tables, cells_of}
 use Rattle.ctl_meaning.specs.Names.{Found, Call, Default, Tools, gone, existing, read_found, read_part}
 use Rattle.ctl_meaning.specs.Expressions.{Valued}
@@ -17,14 +16,14 @@ use Rattle.ctl_code.specs.declared.code.Code.{Code}
 use Rattle.ctl_code.specs.declared.kinds.Kind.{Kind}
 use Rattle.ctl_code.specs.States.{Word, Located, Frame, State}
 use Rattle.ctl_code.specs.Table.{size_of}
-use Rattle.ctl_code.specs.Windows.{depth}
 use Rattle.ctl_layout.specs.Parts.{Reached, part_code, part_runs}
 use Rattle.ctl_gen.proofs.Known.{IsPlainType}
 use Rattle.ctl_gen.proofs.Sources.{Reads}
-use Rattle.ctl_gen.proofs.Parts.{agree_part, find_by, found_at, part_from}
-use Rattle.ctl_gen.proofs.Walked.{steps_of, variable_of}
-use Rattle.ctl_gen.proofs.Worlds.{Since, no_copy_at}
-use Rattle.ctl_gen.proofs.Setting.{Setting, tools_with}
+use Rattle.ctl_gen.proofs.Parts.{agree_part, find_by, found_at, given_by}
+use Rattle.ctl_gen.proofs.Begun.{OnTime, Starts, part_from}
+use Rattle.ctl_gen.proofs.Walked.{start_of, steps_of}
+use Rattle.ctl_gen.proofs.Worlds.{Since}
+use Rattle.ctl_gen.proofs.Setting.{IsSeen, Setting, tools_with}
 use Rattle.ctl_gen.proofs.Place.{Laid}
 use Rattle.ctl_gen.proofs.Follow.{RunsTo, added_to, at, bind_add, bind_bind, transferred}
 
@@ -65,17 +64,17 @@ module _ (ask : Ask) (k : Tables) (code : Code) (setting : Setting k code) (call
   object_is q c l w = read_at q.offset c l w (object_at q.object w)
 
   -- from the first instruction of what finds the part, where one may be taken from the clock, to what takes its value
-  pub value_then : (Ends : Result B → World → Type 0) (next : Result B → Log → World → State) (m : Valued) (x : Reached) → Reads K t x m → part_runs x k.records ≡ true → (b h : ℕ) → b ≤ 64 → h ≤ 64 → (s : List Kind) (w0 : World) (d : List ℕ) (place : ℕ) (ks : List Frame) (ops : List Word) (c0 c : ℕ) (l : Log) (w : World) → c ≤ c0 → c0 ≤ c + 1 → Since k code w0 w → length d ≡ depth s → Laid code place (part_code x t s)
-      → ((q : Spot) → RunsTo ask code Ends b h (at d (place + length (part_code x t s)) ks (Located q ∷ ops) l w) c next (taken_from q.offset (object_at q.object w) c l w))
-      → RunsTo ask code Ends b h (transferred (ByRaise constraint_error) ks l w) c next (Gives (Leaves (ByRaise constraint_error)) 0 c l w)
+  pub value_then : (bound : ℕ) (w0 : World) (Ends : Result B → World → Type 0) (next : Result B → Log → World → State) (m : Valued) (x : Reached) (known : Reads K t x m) → Starts ask k code bound w0 (start_of x) (given_by known.name K) → part_runs x k.records ≡ true → (b h : ℕ) → b ≤ 64 → h ≤ 64 → (s : List Kind) (d : List ℕ) (place : ℕ) (ks : List Frame) (ops : List Word) (c0 c : ℕ) (l : Log) (w : World) → OnTime (start_of x) c0 c → c ≤ bound → Since k code w0 w → IsSeen w0 d s → Laid code place (part_code x t s)
+      → ((q : Spot) (c1 : ℕ) (l1 : Log) (w1 : World) → c1 ≤ c → Since k code w0 w1 → RunsTo ask code Ends b h (at d (place + length (part_code x t s)) ks (Located q ∷ ops) l1 w1) c1 next (taken_from q.offset (object_at q.object w1) c1 l1 w1))
+      → ((y c1 : ℕ) (l1 : Log) (w1 : World) → c1 ≤ c → Since k code w0 w1 → RunsTo ask code Ends b h (transferred (ByRaise y) ks l1 w1) c1 next (Gives (Leaves (ByRaise y)) 0 c1 l1 w1))
       → RunsTo ask code Ends 0 0 (at d place ks ops l w) c0 next (bind (m K d c l w) (on_goes takes))
   unfolding opened_outcome
-  value_then Ends next m x known runs b h lb lh s w0 d place ks ops c0 c l w lo hi fits long has then raises =
-      let v = variable_of x in
-      let o = find_by K (steps_of x) v d c l w in
+  value_then bound w0 Ends next m x known begun runs b h lb lh s d place ks ops c0 c l w time le fits long has then left =
+      let given = given_by known.name K in
+      let o = find_by K given (steps_of x) (start_of x) d c l w in
       let s0 = at d place ks ops l w in
       subst (RunsTo ask code Ends 0 0 s0 c0 next) (sym (ap (λ (f : List ℕ → Act (List ℕ)). bind (f d c l w) (on_goes takes)) known.reads ∙ found_is o))
       (added_to ask code Ends 1 b h 0 0 s0 c0 next (bind o found_then) (omega (arith, lb)) (omega (arith, lh))
-      (part_from ask code K Ends next found_then d ks ops c l w b h x t s place c0 lo hi known.walked (agree_part k code setting.places x runs) (no_copy_at k code (master_of d v) v.slot w fits.0) long has
-      (λ q. subst (RunsTo ask code Ends b h _ c next) (sym (object_is q c l w)) (added_to ask code Ends 0 b h b h _ c next (taken_from q.offset (object_at q.object w) c l w) (omega arith) (omega arith) (then q)))
-      raises))
+      (part_from ask k code bound w0 call default Ends next found_then d ks ops b h x given begun t s place c0 c l w time known.walked (agree_part k code setting.places x runs) le fits long has
+      (λ c1 l1 w1 lo fits1 q. subst (RunsTo ask code Ends b h _ c1 next) (sym (object_is q c1 l1 w1)) (added_to ask code Ends 0 b h b h _ c1 next (taken_from q.offset (object_at q.object w1) c1 l1 w1) (omega arith) (omega arith) (then q c1 l1 w1 lo fits1)))
+      left))

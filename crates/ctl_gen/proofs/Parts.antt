@@ -1,8 +1,8 @@
--- Parts of objects (4.1, 4.1.3): what a name denotes, what it means to find that, and the instructions that find it. The walk of a name reads
--- values on its way, so that what is said is what follows it: the part is on top, or an exception is under way, or it has stopped.
-use Rattle.std.proofs.Common.{◌≡◌, ℕ, zero, suc, ◌+◌, ◌≤◌, List, [], ◌∷◌, ◌++◌, length, Option, Some, None, true, false, refl, sym, ap, ◌∙◌, subst, arith, length-append}
+-- Parts of objects (4.1, 4.1.3): what a name denotes, what it means to find that, and the instructions that find it behind a variable. The
+-- walk of a name reads values on its way, so that what is said is what follows it: the part is on top, or an exception is under way, or it
+-- has stopped.
+use Rattle.std.proofs.Common.{◌≡◌, ℕ, zero, suc, ◌+◌, ◌≤◌, List, [], ◌∷◌, ◌++◌, length, Option, Some, None, true, false, refl, sym, ap, ◌∙◌, subst, arith}
 use Rattle.std.specs.Prelude.{slice_get}
-use Rattle.ctl_program.specs.declared.types.Ty.TheVariants.{Record}
 use Rattle.ctl_program.specs.declared.types.Var.{Var}
 use Rattle.ctl_program.specs.declared.expression.Name.{Name, roll-Name, out-Name, roll-out-Name}
 use Rattle.ctl_program.specs.declared.expression.Actual.{Actual}
@@ -20,63 +20,89 @@ use Rattle.ctl_meaning.specs.Changes.{object_at, slot_at}
 use Rattle.ctl_meaning.specs.Choice.{Ask}
 use Rattle.ctl_meaning.specs.Outcome.{constraint_error, ByRaise, Result, Goes, Leaves, Out, Gives, Stops, Cut, Act, add, bind, on_goes, ◌>>=◌, done, nothing, stop, ticked, on_some, opened_outcome}
 use Rattle.ctl_meaning.specs.Types.{Tables, Category, Composite, offset_in, placed}
-use Rattle.ctl_meaning.specs.Names.{Found, InObject, found_in, find_var, Tools, gone, existing, must_exist, dereferenced, read_found, read_part, scalar_of, moved as found_behind, one_step as step_meant, walk, begins_as}
+use Rattle.ctl_meaning.specs.Names.{Found, Alone, InObject, found_in, find_var, Tools, gone, existing, must_exist, dereferenced, read_found, read_part, scalar_of, moved as found_behind, one_step as step_meant, walk, begins_as}
 use Rattle.ctl_meaning.specs.Finalization.{Spot}
-use Rattle.ctl_meaning.specs.Expressions.{Naming, eval_name, name_step as name_meaning, var_part}
+use Rattle.ctl_meaning.specs.Expressions.{Naming, Valued, eval, eval_name, name_step as name_meaning, var_part}
 use Rattle.ctl_meaning.proofs.Trees.{name_roll}
 use Rattle.ctl_code.specs.declared.code.Instr.TheVariants as InstrOf
 use Rattle.ctl_code.specs.declared.code.Named.TheVariants as NamedOf
 use Rattle.ctl_code.specs.declared.code.Code.{Code}
 use Rattle.ctl_code.specs.declared.kinds.Kind.{Kind}
-use Rattle.ctl_code.specs.declared.kinds.Kind.TheVariants.{Operand as OperandOf}
 use Rattle.ctl_code.specs.States.{Word, Scalar, Located, Frame, State, whole_spot}
 use Rattle.ctl_code.specs.Steps.{moved, step}
 use Rattle.ctl_code.specs.Table.{by_locate, component_of, designated, fetch_from, fetched, offset_of, spot_of}
 use Rattle.ctl_code.specs.Windows.{depth, height}
-use Rattle.ctl_layout.specs.Around.{Line, local_at, new_operand, out_to}
-use Rattle.ctl_layout.specs.Parts.{Reached, Variable, Part, Object, access_value, are_walked, first_type, located_code, part_code, part_runs, parts_run, selects_code, selectors_run}
-use Rattle.ctl_layout.specs.Values.{reached_by}
+use Rattle.ctl_layout.specs.Around.{local_at, new_operand, out_to}
+use Rattle.ctl_layout.specs.Parts.{Start, OfVariable, OfValue, Reached, Variable, Part, Object, access_value, are_followed, are_walked, first_type, located_code, part_runs, parts_run, selects_code, selectors_run}
+use Rattle.ctl_layout.specs.Values.{given, reached_by, value_code}
 use Rattle.ctl_layout.proofs.TreeLayers.{reached_roll}
 use Rattle.ctl_gen.proofs.Known.{both_true}
-use Rattle.ctl_gen.proofs.Walked.{behind_is, steps_before, steps_of, variable_of}
-use Rattle.ctl_gen.proofs.Place.{Laid, laid_front, laid_back}
+use Rattle.ctl_gen.proofs.Walked.{behind_is, start_of, steps_before, steps_of}
+use Rattle.ctl_gen.proofs.Place.{Laid}
 use Rattle.ctl_gen.proofs.Worlds.{IsNoCopy}
 use Rattle.ctl_gen.proofs.Setting.{ArePlaced}
 use Rattle.ctl_gen.proofs.Cells.{by_code, here, landed, out_is, value_of}
 use Rattle.ctl_gen.proofs.Expressions.{read_step}
-use Rattle.ctl_gen.proofs.Follow.{RunsTo, added_to, at, bind_add, bind_bind, one_step_to, stop_step_to, transferred}
+use Rattle.ctl_gen.proofs.Follow.{RunsTo, added_to, at, bind_add, one_step_to, stop_step_to, transferred}
 
 -- What it means to find a part --------------------------------------------------------------------
 
 -- what a variable of this category denotes behind these steps
-abbrev pub find_as : Tools → Category → List Step → Var → List ℕ → Act Found
-find_as K c ss v d = var_part c d v >>= walk K ss
+abbrev pub variable_as : Tools → Category → List Step → Var → List ℕ → Act Found
+variable_as K c ss v d = var_part c d v >>= walk K ss
 
 -- and one of a record type, which a variable of an access type may lead to
-abbrev pub find_by : Tools → List Step → Var → List ℕ → Act Found
-find_by K ss v = find_as K (begins_as ss Composite) ss v
+abbrev pub variable_by : Tools → List Step → Var → List ℕ → Act Found
+variable_by K ss v = variable_as K (begins_as ss Composite) ss v
 
--- what a name means that reaches this
-pub record Leads (K : Tools) (x : Reached) (find : Naming) : Type 0 where
-  pub walked : are_walked false (steps_before x) ≡ true
-  pub finds : (c : Category) → find c K ≡ find_as K (begins_as (steps_of x) c) (steps_of x) (variable_of x)
+-- what a name begins with: a variable of this category, or the value that this act gives
+abbrev pub begin_as : (List ℕ → Act (List ℕ)) → Category → Start → List ℕ → Act Found
+begin_as act c (OfVariable v) d = var_part c d v
+begin_as act c (OfValue runs lines) d = act d >>= (λ v. done (Alone v))
 
-name_rolled : (K : Tools) (y : Name-F Actual Expr Name Operand) (x : Reached) → reached_by (roll-Name y) ≡ Some x → Leads K x (eval_name (roll-Name y))
+-- what it denotes behind these steps
+abbrev pub find_as : Tools → (List ℕ → Act (List ℕ)) → Category → List Step → Start → List ℕ → Act Found
+find_as K act c ss b d = begin_as act c b d >>= walk K ss
+
+abbrev pub find_by : Tools → (List ℕ → Act (List ℕ)) → List Step → Start → List ℕ → Act Found
+find_by K act ss b = find_as K act (begins_as ss Composite) ss b
+
+-- the value that a name begins with, if it begins with one
+abbrev pub given_layer : Name-F Actual Expr Name Operand → Valued
+given_layer (Name-F.Variable v ss) = λ k d. done []
+given_layer (Name-F.Given e ss) = eval e
+
+abbrev pub given_by : Name → Valued
+given_by n = given_layer (out-Name n)
+
+-- what a name means that reaches this, and begins with the value of this act, if it begins with one
+pub record Leads (K : Tools) (x : Reached) (act : List ℕ → Act (List ℕ)) (find : Naming) : Type 0 where
+  pub walked : are_followed (start_of x) (steps_before x) ≡ true
+  pub finds : (c : Category) → find c K ≡ find_as K act (begins_as (steps_of x) c) (steps_of x) (start_of x)
+
+name_rolled : (K : Tools) (y : Name-F Actual Expr Name Operand) (x : Reached) → reached_by (roll-Name y) ≡ Some x → Leads K x (given_layer y K) (eval_name (roll-Name y))
 unfolding name_meaning
 name_rolled K (Name-F.Variable v ss) x is =
-    let h = behind_is v ss x (sym (reached_roll (Name-F.Variable v ss)) ∙ is) in
+    let act : List ℕ → Act (List ℕ) = λ d. done [] in
+    let h = behind_is (OfVariable v) ss x (sym (reached_roll (Name-F.Variable v ss)) ∙ is) in
     record {
       walked = h.walked;
-      finds = λ c. ap (λ (m : Naming). m c K) (name_roll (Name-F.Variable v ss)) ∙ ap (λ s. find_as K (begins_as s c) s v) h.steps ∙ ap (find_as K (begins_as (steps_of x) c) (steps_of x)) h.variable;
+      finds = λ c. ap (λ (m : Naming). m c K) (name_roll (Name-F.Variable v ss)) ∙ ap (λ s. find_as K act (begins_as s c) s (OfVariable v)) h.steps ∙ ap (find_as K act (begins_as (steps_of x) c) (steps_of x)) h.start;
     }
-name_rolled K (Name-F.Given e ss) x is = absurd (let e1 = sym (reached_roll (Name-F.Given e ss)) ∙ is in cc e1)
+name_rolled K (Name-F.Given e ss) x is =
+    let b = given (value_code e) in
+    let h = behind_is b ss x (sym (reached_roll (Name-F.Given e ss)) ∙ is) in
+    record {
+      walked = h.walked;
+      finds = λ c. ap (λ (m : Naming). m c K) (name_roll (Name-F.Given e ss)) ∙ ap (λ s. find_as K (eval e K) (begins_as s c) s b) h.steps ∙ ap (find_as K (eval e K) (begins_as (steps_of x) c) (steps_of x)) h.start;
+    }
 
-pub name_leads : (K : Tools) (n : Name) (x : Reached) → reached_by n ≡ Some x → Leads K x (eval_name n)
-name_leads K n = subst (λ m. (x : Reached) → reached_by m ≡ Some x → Leads K x (eval_name m)) (roll-out-Name n) (name_rolled K (out-Name n))
+pub name_leads : (K : Tools) (n : Name) (x : Reached) → reached_by n ≡ Some x → Leads K x (given_by n K) (eval_name n)
+name_leads K n x = subst (λ m. reached_by m ≡ Some x → Leads K x (given_by n K) (eval_name m)) (roll-out-Name n) (name_rolled K (out-Name n) x)
 
 -- what is found where it is of a record type
-pub composite_leads : (K : Tools) (x : Reached) (find : Naming) → Leads K x find → find Composite K ≡ find_by K (steps_of x) (variable_of x)
-composite_leads K x find h = h.finds Composite
+pub composite_leads : (K : Tools) (x : Reached) (act : List ℕ → Act (List ℕ)) (find : Naming) → Leads K x act find → find Composite K ≡ find_by K act (steps_of x) (start_of x)
+composite_leads K x act find h = h.finds Composite
 
 -- the variable of a component is the one of the part that has it
 begins_part : (steps : List Step) (t position : ℕ) (c : Category) → begins_as (steps ++ Component t position ∷ []) c ≡ begins_as steps Composite
@@ -86,10 +112,10 @@ begins_part (Component u i ∷ steps) t position c = refl
 begins_part (Dereference ∷ steps) t position c = refl
 begins_part (Narrow u ∷ steps) t position c = refl
 
-pub part_leads : (K : Tools) (v : Var) (steps : List Step) (t position : ℕ) (find : Naming) (c : Category) → Leads K (Part v steps t position) find → find c K ≡ find_by K (steps ++ Component t position ∷ []) v
-part_leads K v steps t position find c h =
+pub part_leads : (K : Tools) (b : Start) (steps : List Step) (t position : ℕ) (act : List ℕ → Act (List ℕ)) (find : Naming) (c : Category) → Leads K (Part b steps t position) act find → find c K ≡ find_by K act (steps ++ Component t position ∷ []) b
+part_leads K b steps t position act find c h =
     let all = steps ++ Component t position ∷ [] in
-    h.finds c ∙ ap (λ b. find_as K b all v) (begins_part steps t position c ∙ sym (begins_part steps t position Composite))
+    h.finds c ∙ ap (λ q. find_as K act q all b) (begins_part steps t position c ∙ sym (begins_part steps t position Composite))
 
 -- What is found -----------------------------------------------------------------------------------
 
@@ -118,11 +144,11 @@ walks_last K [] t position f c l w = refl
 walks_last K (s ∷ steps) t position f c l w = bind_same (ticked (step_meant K s f) c l w) (walk K (steps ++ Component t position ∷ [])) (walk K steps) (stepping K.tables t position) (walks_last K steps t position)
 
 -- the last selector comes behind the others
-pub component_found : (K : Tools) (v : Var) (steps : List Step) (t position : ℕ) (d : List ℕ) (c : ℕ) (l : Log) (w : World) → find_by K (steps ++ Component t position ∷ []) v d c l w ≡ bind (find_by K steps v d c l w) (on_goes (stepping K.tables t position))
+pub component_found : (K : Tools) (act : List ℕ → Act (List ℕ)) (b : Start) (steps : List Step) (t position : ℕ) (d : List ℕ) (c : ℕ) (l : Log) (w : World) → find_by K act (steps ++ Component t position ∷ []) b d c l w ≡ bind (find_by K act steps b d c l w) (on_goes (stepping K.tables t position))
 unfolding opened_outcome
-component_found K v steps t position d c l w =
-    ap (λ b. find_as K b (steps ++ Component t position ∷ []) v d c l w) (begins_part steps t position Composite)
-    ∙ bind_same (var_part (begins_as steps Composite) d v c l w) (walk K (steps ++ Component t position ∷ [])) (walk K steps) (stepping K.tables t position) (walks_last K steps t position)
+component_found K act b steps t position d c l w =
+    ap (λ q. find_as K act q (steps ++ Component t position ∷ []) b d c l w) (begins_part steps t position Composite)
+    ∙ bind_same (begin_as act (begins_as steps Composite) b d c l w) (walk K (steps ++ Component t position ∷ [])) (walk K steps) (stepping K.tables t position) (walks_last K steps t position)
 
 -- what is found in a variable of a record type, by its slot
 abbrev pub object_found : Option Spot → Act Found
@@ -142,12 +168,12 @@ pub var_found : (v : Var) (d : List ℕ) (c : ℕ) (l : Log) (w : World) → IsN
 unfolding var_part find_var opened_outcome
 var_found v d c l w uncopied = found_part (master_of d v) v.slot (content_of d v w) uncopied c l w
 
-finds_composite : (K : Tools) (v : Var) (steps : List Step) (d : List ℕ) (c : ℕ) (l : Log) (w : World) → IsNoCopy (content_of d v w) → find_as K Composite steps v d c l w ≡ bind (object_found (spot_of (content_of d v w)) c l w) (on_goes (walk K steps))
+finds_composite : (K : Tools) (v : Var) (steps : List Step) (d : List ℕ) (c : ℕ) (l : Log) (w : World) → IsNoCopy (content_of d v w) → variable_as K Composite steps v d c l w ≡ bind (object_found (spot_of (content_of d v w)) c l w) (on_goes (walk K steps))
 unfolding opened_outcome
 finds_composite K v steps d c l w uncopied = ap (λ o. bind o (on_goes (walk K steps))) (var_found v d c l w uncopied)
 
 -- the object in a variable
-pub finds_object : (K : Tools) (v : Var) (d : List ℕ) (c : ℕ) (l : Log) (w : World) → IsNoCopy (content_of d v w) → find_by K [] v d c l w ≡ object_found (spot_of (content_of d v w)) c l w
+pub finds_object : (K : Tools) (v : Var) (d : List ℕ) (c : ℕ) (l : Log) (w : World) → IsNoCopy (content_of d v w) → variable_by K [] v d c l w ≡ object_found (spot_of (content_of d v w)) c l w
 unfolding begins_as walk opened_outcome
 finds_object K v d c l w uncopied = finds_composite K v [] d c l w uncopied ∙ by (spot_of (content_of d v w))
   where
@@ -156,12 +182,17 @@ finds_object K v d c l w uncopied = finds_composite K v [] d c l w uncopied ∙ 
     by (Some p) = refl
 
 -- a variable whose value is dereferenced
-reads_variable : (K : Tools) (v : Var) (steps : List Step) (d : List ℕ) (c : ℕ) (l : Log) (w : World) → find_by K (Dereference ∷ steps) v d c l w ≡ add 1 (bind (add 1 (add 0 (dereferenced (value_of d v w) c l w))) (on_goes (walk K steps)))
+reads_variable : (K : Tools) (v : Var) (steps : List Step) (d : List ℕ) (c : ℕ) (l : Log) (w : World) → variable_by K (Dereference ∷ steps) v d c l w ≡ add 1 (bind (add 1 (add 0 (dereferenced (value_of d v w) c l w))) (on_goes (walk K steps)))
 unfolding begins_as var_part find_var walk step_meant read_found first_cells scalar_of opened_lists opened_outcome
 reads_variable K v steps d c l w = refl
 
+-- a value that is dereferenced
+pub dereferences_value : (K : Tools) (n : ℕ) (steps : List Step) (c : ℕ) (l : Log) (w : World) → walk K (Dereference ∷ steps) (Alone (n ∷ [])) c l w ≡ bind (add 1 (add 0 (dereferenced n c l w))) (on_goes (walk K steps))
+unfolding walk step_meant read_found first_cells scalar_of opened_lists opened_outcome
+dereferences_value K n steps c l w = refl
+
 -- a value that is a new operand
-on_top : (n : ℕ) (d : List ℕ) (place : ℕ) (ks : List Frame) (ops : List Word) (l : Log) (w : World) → landed NamedOf.Operand d place ks ops (Goes (n ∷ [])) l w ≡ at d place ks (Scalar n ∷ ops) l w
+pub on_top : (n : ℕ) (d : List ℕ) (place : ℕ) (ks : List Frame) (ops : List Word) (l : Log) (w : World) → landed NamedOf.Operand d place ks ops (Goes (n ∷ [])) l w ≡ at d place ks (Scalar n ∷ ops) l w
 unfolding scalar_of opened_lists
 on_top n d place ks ops l w = refl
 
@@ -177,8 +208,8 @@ module _ (k : Tables) (code : Code) where
   -- and so does the one that a name denotes
   abbrev pub AgreePart : Reached → Type 0
   AgreePart (Variable v) = Unit {0}
-  AgreePart (Part v steps t position) = Agree steps × (offset_of code t position ≡ offset_in position (placed k t))
-  AgreePart (Object v steps) = Agree steps
+  AgreePart (Part b steps t position) = Agree steps × (offset_of code t position ≡ offset_in position (placed k t))
+  AgreePart (Object b steps) = Agree steps
 
   module _ (placed_so : ArePlaced k code) where
     agree_steps : (steps : List Step) → selectors_run k.records steps ≡ true → Agree steps
@@ -188,13 +219,13 @@ module _ (k : Tables) (code : Code) where
     agree_steps (Narrow u ∷ steps) h = agree_steps steps h
 
     -- and so does each component of the type behind them
-    pub agree_run : (steps : List Step) (t : ℕ) → parts_run k.records steps t ≡ true → Agree steps × ((position : ℕ) → offset_of code t position ≡ offset_in position (placed k t))
-    agree_run steps t h = let g = both_true _ _ h in (agree_steps steps g.0, λ position. placed_so t position g.1)
+    pub agree_run : (b : Start) (steps : List Step) (t : ℕ) → parts_run k.records b steps t ≡ true → Agree steps × ((position : ℕ) → offset_of code t position ≡ offset_in position (placed k t))
+    agree_run b steps t h = let g = both_true _ _ (both_true _ _ h).1 in (agree_steps steps g.0, λ position. placed_so t position g.1)
 
     pub agree_part : (x : Reached) → part_runs x k.records ≡ true → AgreePart x
     agree_part (Variable v) h = tt
-    agree_part (Part v steps t position) h = let g = agree_run steps t h in (g.0, g.1 position)
-    agree_part (Object v steps) h = agree_steps steps h
+    agree_part (Part b steps t position) h = let g = agree_run b steps t h in (g.0, g.1 position)
+    agree_part (Object b steps) h = agree_steps steps (both_true _ _ h).1
 
 -- Instructions ------------------------------------------------------------------------------------
 
@@ -208,21 +239,21 @@ paid_twice o f g =
 module _ (ask : Ask) (code : Code) (K : Tools) where
   -- what follows a name, where this is seen, with these operands below the part: it is on top, or it was null that was dereferenced
   module _ {A : Type 0} (Ends : Result A → World → Type 0) (next : Result A → Log → World → State) (g : Result Found → Act A) (d : List ℕ) (ks : List Frame) (ops : List Word) (c : ℕ) (l : Log) (w : World) where
-    abbrev Puts : ℕ → ℕ → ℕ → Type 0
+    abbrev pub Puts : ℕ → ℕ → ℕ → Type 0
     Puts b h place = (p : Spot) → RunsTo ask code Ends b h (at d place ks (Located p ∷ ops) l w) c next (g (Goes (found_at p)) c l w)
 
-    abbrev Raises : ℕ → ℕ → Type 0
+    abbrev pub Raises : ℕ → ℕ → Type 0
     Raises b h = RunsTo ask code Ends b h (transferred (ByRaise constraint_error) ks l w) c next (g (Leaves (ByRaise constraint_error)) c l w)
 
     -- from a state with so much on the clock
-    abbrev From : ℕ → ℕ → ℕ → State → Out Found → Type 0
+    abbrev pub From : ℕ → ℕ → ℕ → State → Out Found → Type 0
     From c0 b h s o = RunsTo ask code Ends b h s c0 next (bind o g)
 
-    abbrev Meets : ℕ → ℕ → State → Out Found → Type 0
+    abbrev pub Meets : ℕ → ℕ → State → Out Found → Type 0
     Meets b h s o = From c b h s o
 
     -- an access value on top, and what follows the object that it designates
-    designates : (b h n t cell place : ℕ) (f : Found → Act Found) → slice_get code.instructions.items place ≡ Some (InstrOf.Dereference t cell) → ((m : ℕ) → Meets b h (at d (place + 1) ks (Located (whole_spot m) ∷ ops) l w) (f (found_at (whole_spot m)) c l w)) → Raises b h → Meets (b + 3) (h + 3) (at d place ks (Scalar n ∷ ops) l w) (bind (dereferenced n c l w) (on_goes f))
+    pub designates : (b h n t cell place : ℕ) (f : Found → Act Found) → slice_get code.instructions.items place ≡ Some (InstrOf.Dereference t cell) → ((m : ℕ) → Meets b h (at d (place + 1) ks (Located (whole_spot m) ∷ ops) l w) (f (found_at (whole_spot m)) c l w)) → Raises b h → Meets (b + 3) (h + 3) (at d place ks (Scalar n ∷ ops) l w) (bind (dereferenced n c l w) (on_goes f))
     unfolding dereferenced must_exist existing gone opened_outcome
     designates b h zero t cell place f has then raises =
         added_to ask code Ends 0 (b + 3) (h + 3) (b + 3) (h + 3) _ c next _ (omega arith) (omega arith)
@@ -300,11 +331,11 @@ module _ (ask : Ask) (code : Code) (K : Tools) where
     selects_in (suc n) b h (Dereference ∷ steps) t s p place le walked agree has then raises = absurd (cc walked)
     selects_in (suc n) b h (Narrow u ∷ steps) t s p place le walked agree has then raises = absurd (cc walked)
 
-    selects : (b h : ℕ) (steps : List Step) (t : ℕ) (s : List Kind) (p : Spot) (place : ℕ) → are_walked true steps ≡ true → Agree K.tables code steps → Laid code place (selects_code steps t s) → Puts b h (place + length (selects_code steps t s)) → Raises b h → Meets b h (at d place ks (Located p ∷ ops) l w) (walk K steps (found_at p) c l w)
+    pub selects : (b h : ℕ) (steps : List Step) (t : ℕ) (s : List Kind) (p : Spot) (place : ℕ) → are_walked true steps ≡ true → Agree K.tables code steps → Laid code place (selects_code steps t s) → Puts b h (place + length (selects_code steps t s)) → Raises b h → Meets b h (at d place ks (Located p ∷ ops) l w) (walk K steps (found_at p) c l w)
     selects b h steps t s p place = selects_in (length steps) b h steps t s p place (omega arith)
 
     -- from a variable of a record type, where the first step takes at most one from the clock
-    object_from : (c0 b h : ℕ) (v : Var) (steps : List Step) (first t : ℕ) (s : List Kind) (place : ℕ) → c ≤ c0 → c0 ≤ c + 1 → are_walked true steps ≡ true → Agree K.tables code steps → IsNoCopy (content_of d v w) → length d ≡ depth s → slice_get code.instructions.items place ≡ Some (InstrOf.Locate (out_to s v) v.slot first (height s)) → Laid code (place + 1) (selects_code steps t s) → Puts b h (place + 1 + length (selects_code steps t s)) → Raises b h → From c0 b h (at d place ks ops l w) (find_as K Composite steps v d c l w)
+    object_from : (c0 b h : ℕ) (v : Var) (steps : List Step) (first t : ℕ) (s : List Kind) (place : ℕ) → c ≤ c0 → c0 ≤ c + 1 → are_walked true steps ≡ true → Agree K.tables code steps → IsNoCopy (content_of d v w) → length d ≡ depth s → slice_get code.instructions.items place ≡ Some (InstrOf.Locate (out_to s v) v.slot first (height s)) → Laid code (place + 1) (selects_code steps t s) → Puts b h (place + 1 + length (selects_code steps t s)) → Raises b h → From c0 b h (at d place ks ops l w) (variable_as K Composite steps v d c l w)
     unfolding opened_outcome
     object_from c0 b h v steps first t s place lo hi walked agree uncopied long has rest then raises =
         subst (From c0 b h (at d place ks ops l w)) (sym (finds_composite K v steps d c l w uncopied))
@@ -319,52 +350,21 @@ module _ (ask : Ask) (code : Code) (K : Tools) where
             (one_step_to ask code Ends b h (b + 1) (h + 1) s0 (at d (place + 1) ks (Located p ∷ ops) l w) c0 c next _ (omega arith) (omega arith) lo hi go
             (selects b h steps t s p (place + 1) walked agree rest then raises)))
 
-    -- what finds a part, and what follows it: each instruction is paid by the tick of its step of the name, and the first one takes at most one
-    -- from the clock
-    located_from : (c0 b h : ℕ) (v : Var) (steps : List Step) (t : ℕ) (s : List Kind) (place : ℕ) → c ≤ c0 → c0 ≤ c + 1 → are_walked false steps ≡ true → Agree K.tables code steps → IsNoCopy (content_of d v w) → length d ≡ depth s → Laid code place (located_code v steps t s) → Puts b h (place + length (located_code v steps t s)) → Raises b h → From c0 b h (at d place ks ops l w) (find_by K steps v d c l w)
+    -- what finds a part behind a variable, and what follows it: each instruction is paid by the tick of its step of the name, and the first one
+    -- takes at most one from the clock
+    pub variable_from : (c0 b h : ℕ) (v : Var) (steps : List Step) (t : ℕ) (s : List Kind) (place : ℕ) → c ≤ c0 → c0 ≤ c + 1 → are_walked false steps ≡ true → Agree K.tables code steps → IsNoCopy (content_of d v w) → length d ≡ depth s → Laid code place (located_code (OfVariable v) steps t s) → Puts b h (place + length (located_code (OfVariable v) steps t s)) → Raises b h → From c0 b h (at d place ks ops l w) (variable_by K steps v d c l w)
     unfolding begins_as
-    located_from c0 b h v [] t s place lo hi walked agree uncopied long has then raises =
+    variable_from c0 b h v [] t s place lo hi walked agree uncopied long has then raises =
         let e : place + 1 ≡ place + 1 + 0 = omega arith in
         object_from c0 b h v [] t t s place lo hi refl tt uncopied long has.0 has.2 (subst (Puts b h) e then) raises
-    located_from c0 b h v (Component u i ∷ steps) t s place lo hi walked agree uncopied long has then raises =
+    variable_from c0 b h v (Component u i ∷ steps) t s place lo hi walked agree uncopied long has then raises =
         let all = Component u i ∷ steps in
-        let e : place + length (located_code v all t s) ≡ place + 1 + length (selects_code all t s) = omega arith in
+        let e : place + length (located_code (OfVariable v) all t s) ≡ place + 1 + length (selects_code all t s) = omega arith in
         object_from c0 b h v all u t s place lo hi walked agree uncopied long has.0 has.2 (subst (Puts b h) e then) raises
-    located_from c0 b h v (Dereference ∷ steps) t s place lo hi walked agree uncopied long has then raises =
+    variable_from c0 b h v (Dereference ∷ steps) t s place lo hi walked agree uncopied long has then raises =
         let s0 = at d place ks ops l w in
-        let e : place + length (located_code v (Dereference ∷ steps) t s) ≡ place + 1 + 1 + length (selects_code steps t s) = omega arith in
+        let e : place + length (located_code (OfVariable v) (Dereference ∷ steps) t s) ≡ place + 1 + 1 + length (selects_code steps t s) = omega arith in
         subst (From c0 b h s0) (sym (reads_variable K v steps d c l w))
         (reads_access c0 b h (value_of d v w) (first_type steps t) (height s) (place + 1) s0 (walk K steps) lo hi (read_step ask K.tables code 0 w (local_at s v) v access_value (new_operand s) s d place ks ops l w long has.0 ∙ on_top (value_of d v w) d (place + 1) ks ops l w) has.2.0
         (λ m. selects b h steps t s (whole_spot m) (place + 1 + 1) walked agree has.2.2 (subst (Puts b h) e then) raises) raises)
-    located_from c0 b h v (Narrow u ∷ steps) t s place lo hi walked agree uncopied long has then raises = absurd (cc walked)
-
-    -- where none is taken from it
-    pub located_then : (b h : ℕ) (v : Var) (steps : List Step) (t : ℕ) (s : List Kind) (place : ℕ) → are_walked false steps ≡ true → Agree K.tables code steps → IsNoCopy (content_of d v w) → length d ≡ depth s → Laid code place (located_code v steps t s) → Puts b h (place + length (located_code v steps t s)) → Raises b h → Meets b h (at d place ks ops l w) (find_by K steps v d c l w)
-    located_then b h v steps t s place = located_from c b h v steps t s place (omega arith) (omega arith)
-
-  -- the same of the part that a name denotes
-  module _ {A : Type 0} (Ends : Result A → World → Type 0) (next : Result A → Log → World → State) (g : Result Found → Act A) (d : List ℕ) (ks : List Frame) (ops : List Word) (c : ℕ) (l : Log) (w : World) where
-    pub part_from : (b h : ℕ) (x : Reached) (t : ℕ) (s : List Kind) (place c0 : ℕ) → c ≤ c0 → c0 ≤ c + 1 → are_walked false (steps_before x) ≡ true → AgreePart K.tables code x → IsNoCopy (content_of d (variable_of x) w) → length d ≡ depth s → Laid code place (part_code x t s) → Puts Ends next g d ks ops c l w b h (place + length (part_code x t s)) → Raises Ends next g d ks ops c l w b h → From Ends next g d ks ops c l w c0 b h (at d place ks ops l w) (find_by K (steps_of x) (variable_of x) d c l w)
-    unfolding opened_outcome found_behind
-    part_from b h (Variable v) t s place c0 lo hi walked agree uncopied long has then raises = located_from Ends next g d ks ops c l w c0 b h v [] t s place lo hi walked tt uncopied long has then raises
-    part_from b h (Object v steps) t s place c0 lo hi walked agree uncopied long has then raises = located_from Ends next g d ks ops c l w c0 b h v steps t s place lo hi walked agree uncopied long has then raises
-    part_from b h (Part v steps u position) t s place c0 lo hi walked agree uncopied long has then raises =
-        let front = located_code v steps u s in
-        let last : List Line = (InstrOf.Select u position t, OperandOf (Record u) ∷ s) ∷ [] in
-        let end : place + length (part_code (Part v steps u position) t s) ≡ place + length front + 1 = omega (arith, length-append front last) in
-        let offset = offset_in position (placed K.tables u) in
-        let selected : Result Found → Act A = λ r c1 l1 w1. bind (on_goes (stepping K.tables u position) r c1 l1 w1) g in
-        subst (RunsTo ask code Ends b h (at d place ks ops l w) c0 next) (sym (ap (λ o. bind o g) (component_found K v steps u position d c l w) ∙ bind_bind (find_by K steps v d c l w) (on_goes (stepping K.tables u position)) g))
-        (located_from Ends next selected d ks ops c l w c0 b h v steps u s place lo hi walked agree.0 uncopied long (laid_front code place front last has)
-        (λ p.
-        let q = component_of p offset position in
-        let s0 = at d (place + length front) ks (Located p ∷ ops) l w in
-        added_to ask code Ends 1 (b + 1) (h + 1) b h s0 c next _ (omega arith) (omega arith)
-        (one_step_to ask code Ends b h (b + 1) (h + 1) s0 (at d (place + length front + 1) ks (Located q ∷ ops) l w) c c next _ (omega arith) (omega arith) (omega arith) (omega arith)
-        (by_code ask code d (place + length front) ks (Located p ∷ ops) l w (InstrOf.Select u position t) (laid_back code place front last has).0 ∙ ap (λ j. at d (place + length front + 1) ks (Located (component_of p j position) ∷ ops) l w) agree.1)
-        (subst (λ z. RunsTo ask code Ends b h (at d z ks (Located q ∷ ops) l w) c next (g (Goes (found_at q)) c l w)) end (then q))))
-        (added_to ask code Ends 0 b h b h _ c next (g (Leaves (ByRaise constraint_error)) c l w) (omega arith) (omega arith) raises))
-
-    -- where none is taken from the clock
-    pub part_then : (b h : ℕ) (x : Reached) (t : ℕ) (s : List Kind) (place : ℕ) → are_walked false (steps_before x) ≡ true → AgreePart K.tables code x → IsNoCopy (content_of d (variable_of x) w) → length d ≡ depth s → Laid code place (part_code x t s) → Puts Ends next g d ks ops c l w b h (place + length (part_code x t s)) → Raises Ends next g d ks ops c l w b h → Meets Ends next g d ks ops c l w b h (at d place ks ops l w) (find_by K (steps_of x) (variable_of x) d c l w)
-    part_then b h x t s place = part_from b h x t s place c (omega arith) (omega arith)
+    variable_from c0 b h v (Narrow u ∷ steps) t s place lo hi walked agree uncopied long has then raises = absurd (cc walked)

@@ -5,11 +5,10 @@ use Rattle.ctl_program.specs.declared.types.Ty.TheVariants.{Record}
 use Rattle.ctl_tree.specs.declared.ending.Stop.TheVariants.{UseAfterFree}
 use Rattle.ctl_tree.specs.declared.event.Cause.TheVariants.{Assign}
 use Rattle.ctl_meaning.specs.World.{Object, Log, World}
-use Rattle.ctl_meaning.specs.Activations.{master_of}
 use Rattle.ctl_meaning.specs.Objects.{cells_at}
 use Rattle.ctl_meaning.specs.Changes.{object_at, write_cells}
 use Rattle.ctl_meaning.specs.Choice.{Ask, picked}
-use Rattle.ctl_meaning.specs.Outcome.{constraint_error, program_error, ByRaise, Result, Goes, Leaves, Act, Done, Fine, add, bind, on_goes, ◌>>=◌, ◌>>◌, done, nothing, raise, change, ticked, either, when, on_some, opened_outcome}
+use Rattle.ctl_meaning.specs.Outcome.{program_error, ByRaise, Result, Goes, Leaves, Act, Done, Fine, add, bind, on_goes, ◌>>=◌, ◌>>◌, done, nothing, raise, change, ticked, either, when, on_some, opened_outcome}
 use Rattle.ctl_meaning.specs.Types.{Tables, cells_of, depth as type_depth, has_controlled, of_record}
 use Rattle.ctl_meaning.specs.Names.{Found, Call, Default, Tools, existing, gone, read_found, read_part, same_found, write_found, write_part}
 use Rattle.ctl_meaning.specs.Finalization.{Spot, Every, finalize}
@@ -23,21 +22,21 @@ use Rattle.ctl_code.specs.declared.kinds.Kind.{Kind}
 use Rattle.ctl_code.specs.declared.kinds.Kind.TheVariants.{Operand}
 use Rattle.ctl_code.specs.States.{Word, Located, Point, Frame, Assigning, State}
 use Rattle.ctl_code.specs.Valid.{IsDeclarable, outermost}
-use Rattle.ctl_code.specs.Windows.{depth}
 use Rattle.ctl_code.specs.Table as Table
 use Rattle.ctl_code.specs.Table.{handed, has_part, is_same_part, parts_of, size_of}
 use Rattle.ctl_code.specs.Steps.{moved, step}
 use Rattle.ctl_layout.specs.Around.{Line}
-use Rattle.ctl_layout.specs.Parts.{Reached, are_walked, part_code, part_runs as part_is_run}
+use Rattle.ctl_layout.specs.Parts.{Reached, are_followed, part_code, part_runs as part_is_run}
 use Rattle.ctl_layout.specs.Layout.{record_code, take_over_code}
 use Rattle.ctl_gen.proofs.Known.{IsPlainType}
-use Rattle.ctl_gen.proofs.Worlds.{Since, Kept, since_written, no_copy_at}
+use Rattle.ctl_gen.proofs.Worlds.{Since, Kept, since_written}
 use Rattle.ctl_gen.proofs.Parted.{AgreesOn, GivesDefaults, is_itself}
-use Rattle.ctl_gen.proofs.Setting.{Setting, Calls, Sure, tools_with}
+use Rattle.ctl_gen.proofs.Setting.{IsSeen, Setting, Calls, Sure, seen, tools_with}
 use Rattle.ctl_gen.proofs.Cells.{by_code, here}
 use Rattle.ctl_gen.proofs.Place.{Laid, laid_front, laid_back}
-use Rattle.ctl_gen.proofs.Parts.{agree_part, find_by, found_at, part_then}
-use Rattle.ctl_gen.proofs.Walked.{steps_before, steps_of, variable_of}
+use Rattle.ctl_gen.proofs.Parts.{agree_part, find_by, found_at}
+use Rattle.ctl_gen.proofs.Begun.{Starts, part_then}
+use Rattle.ctl_gen.proofs.Walked.{start_of, steps_before, steps_of}
 use Rattle.ctl_gen.proofs.Scopes.{outermost_surrounds}
 use Rattle.ctl_gen.proofs.Finalize.{within_depth}
 use Rattle.ctl_gen.proofs.FinalizedParts.{Passed, tells}
@@ -187,26 +186,25 @@ module _ (ask : Ask) (k : Tables) (code : Code) (setting : Setting k code) (call
                 (overwrites w0 part v e p ks s0 c l w le fits (parts_of code t) refl go1))
 
     -- over the target, from the instruction that finds the source's object on
-    source_runs : (part : Spot) (y : Reached) → are_walked false (steps_before y) ≡ true → part_is_run y k.records ≡ true → (e : Target) (s : List Kind) (w0 : World) (d : List ℕ) (place : ℕ) (ks : List Frame) (ops : List Word) (c : ℕ) (l : Log) (w : World) → c ≤ bound → Since k code w0 w → length d ≡ depth s → Laid code place (take_over_code t y s) → Runs ask code (Kept k code w0) 6 6 (at d place ks (Located part ∷ ops) l w) c (arrives e d (place + length (take_over_code t y s)) ks ops) (bind (ticked (find_by K (steps_of y) (variable_of y) d) c l w) (on_goes (assign_found K t (found_at part))))
+    source_runs : (part : Spot) (y : Reached) (act : List ℕ → Act (List ℕ)) (w0 : World) → Starts ask k code bound w0 (start_of y) act → are_followed (start_of y) (steps_before y) ≡ true → part_is_run y k.records ≡ true → (e : Target) (s : List Kind) (d : List ℕ) (place : ℕ) (ks : List Frame) (ops : List Word) (c : ℕ) (l : Log) (w : World) → c ≤ bound → Since k code w0 w → IsSeen w0 d s → Laid code place (take_over_code t y s) → Runs ask code (Kept k code w0) 6 6 (at d place ks (Located part ∷ ops) l w) c (arrives e d (place + length (take_over_code t y s)) ks ops) (bind (ticked (find_by K act (steps_of y) (start_of y) d) c l w) (on_goes (assign_found K t (found_at part))))
     unfolding opened_outcome
-    source_runs part y walked runs e s w0 d place ks ops c l w le fits long has =
-        let v = variable_of y in
+    source_runs part y act w0 begun walked runs e s d place ks ops c l w le fits long has =
         let front = part_code y t s in
         let last : List Line = (InstrOf.Assign t, Operand (Record t) ∷ s) ∷ [] in
         let after : Result Found → Act Done = on_goes (assign_found K t (found_at part)) in
         let next = arrives e d (place + length (take_over_code t y s)) ks ops in
         let end : place + length front + 1 ≡ place + length (take_over_code t y s) = omega (arith, length-append front last) in
         subst (Runs ask code (Kept k code w0) 6 6 (at d place ks (Located part ∷ ops) l w) c next)
-        (sym (bind_add 1 (find_by K (steps_of y) v d c l w) after))
+        (sym (bind_add 1 (find_by K act (steps_of y) (start_of y) d c l w) after))
         (added ask code (Kept k code w0) 1 6 6 6 6 _ c next _ (omega arith) (omega arith)
-        (part_then ask code K (λ r. Since k code w0) next after d ks (Located part ∷ ops) c l w 6 6 y t s place walked (agree_part k code setting.places y runs) (no_copy_at k code (master_of d v) v.slot w fits.0) long (laid_front code place front last has)
-        (λ source. subst (λ q. Runs ask code (Kept k code w0) 6 6 (at d (place + length front) ks (Located source ∷ Located part ∷ ops) l w) c (arrives e d q ks ops) (assign_found K t (found_at part) (found_at source) c l w)) end
-        (assigns part source e w0 d (place + length front) ks ops c l w le fits (laid_back code place front last has).0))
-        (no_step ask code (Kept k code w0) 6 6 _ c 0 next (Leaves (ByRaise constraint_error)) l w fits refl)))
+        (part_then ask k code bound w0 call default (λ r. Since k code w0) next after d ks (Located part ∷ ops) 6 6 y act begun t s place c l w walked (agree_part k code setting.places y runs) le fits long (laid_front code place front last has)
+        (λ c1 l1 w1 lo fits1 source. subst (λ q. Runs ask code (Kept k code w0) 6 6 (at d (place + length front) ks (Located source ∷ Located part ∷ ops) l1 w1) c1 (arrives e d q ks ops) (assign_found K t (found_at part) (found_at source) c1 l1 w1)) end
+        (assigns part source e w0 d (place + length front) ks ops c1 l1 w1 (omega (arith, lo, le)) fits1 (laid_back code place front last has).0))
+        (λ z c1 l1 w1 lo fits1. no_step ask code (Kept k code w0) 6 6 _ c1 0 next (Leaves (ByRaise z)) l1 w1 fits1 refl)))
 
-  -- the target is found, and then the source
-  abbrev assigned : Reached → Reached → List ℕ → Act Done
-  assigned x y d = ticked (find_by K (steps_of x) (variable_of x) d >>= (λ f. ticked (find_by K (steps_of y) (variable_of y) d) >>= assign_found K t f))
+  -- the target is found, and then the source; each begins with the value of such an act, if it begins with one
+  abbrev assigned : Reached → (List ℕ → Act (List ℕ)) → Reached → (List ℕ → Act (List ℕ)) → List ℕ → Act Done
+  assigned x to y from d = ticked (find_by K to (steps_of x) (start_of x) d >>= (λ f. ticked (find_by K from (steps_of y) (start_of y) d) >>= assign_found K t f))
 
   -- its operations are in scope, as the code is well formed
   scope : (x y : Reached) (s : List Kind) (place : ℕ) → Laid code place (record_code x t y s) → IsDeclarable code outermost t
@@ -215,18 +213,17 @@ module _ (ask : Ask) (k : Tables) (code : Code) (setting : Setting k code) (call
       let there = laid_back code (place + length (part_code x t s)) (part_code y t over) ((InstrOf.Assign t, Operand (Record t) ∷ over) ∷ []) (laid_back code place (part_code x t s) (take_over_code t y over) has) in
       (setting.valid.each _ (InstrOf.Assign t) (Operand (Record t) ∷ over) there.0 there.1).0
 
-  pub record_does : (bound : ℕ) → Calls ask k code setting bound call → (x y : Reached) → are_walked false (steps_before x) ≡ true → are_walked false (steps_before y) ≡ true → part_is_run x k.records ≡ true → part_is_run y k.records ≡ true → Does ask k code bound (λ a. record_code x t y a.stack) (λ d caught. assigned x y d)
+  pub record_does : (bound : ℕ) → Calls ask k code setting bound call → (x : Reached) (to : List ℕ → Act (List ℕ)) (y : Reached) (from : List ℕ → Act (List ℕ)) → ((w0 : World) → Starts ask k code bound w0 (start_of x) to) → ((w0 : World) → Starts ask k code bound w0 (start_of y) from) → are_followed (start_of x) (steps_before x) ≡ true → are_followed (start_of y) (steps_before y) ≡ true → part_is_run x k.records ≡ true → part_is_run y k.records ≡ true → Does ask k code bound (λ a. record_code x t y a.stack) (λ d caught. assigned x to y from d)
   unfolding opened_outcome
-  record_does bound calls x y walked walked1 runs runs1 a w0 d place ks ops c l w le fits sees has =
+  record_does bound calls x to y from begun begun1 walked walked1 runs runs1 a w0 d place ks ops c l w le fits sees has =
       let s = a.stack in
-      let v = variable_of x in
       let front = part_code x t s in
       let back = take_over_code t y (Operand (Record t) ∷ s) in
-      let after : Result Found → Act Done = on_goes (λ f. ticked (find_by K (steps_of y) (variable_of y) d) >>= assign_found K t f) in
+      let after : Result Found → Act Done = on_goes (λ f. ticked (find_by K from (steps_of y) (start_of y) d) >>= assign_found K t f) in
       let next = arrives (lands a place) d (place + length (record_code x t y s)) ks ops in
       let end : place + length front + length back ≡ place + length (record_code x t y s) = omega (arith, length-append front back) in
       added ask code (Kept k code w0) 1 6 6 0 0 _ c next _ (omega arith) (omega arith)
-      (part_then ask code K (λ r. Since k code w0) next after d ks ops c l w 6 6 x t s place walked (agree_part k code setting.places x runs) (no_copy_at k code (master_of d v) v.slot w fits.0) sees.long (laid_front code place front back has)
-      (λ part. subst (λ q. Runs ask code (Kept k code w0) 6 6 (at d (place + length front) ks (Located part ∷ ops) l w) c (arrives (lands a place) d q ks ops) (after (Goes (found_at part)) c l w)) end
-      (source_runs bound calls (scope x y s place has) part y walked1 runs1 (lands a place) (Operand (Record t) ∷ s) w0 d (place + length front) ks ops c l w le fits sees.long (laid_back code place front back has)))
-      (no_step ask code (Kept k code w0) 6 6 _ c 0 next (Leaves (ByRaise constraint_error)) l w fits refl))
+      (part_then ask k code bound w0 call default (λ r. Since k code w0) next after d ks ops 6 6 x to (begun w0) t s place c l w walked (agree_part k code setting.places x runs) le fits (seen sees) (laid_front code place front back has)
+      (λ c1 l1 w1 lo fits1 part. subst (λ q. Runs ask code (Kept k code w0) 6 6 (at d (place + length front) ks (Located part ∷ ops) l1 w1) c1 (arrives (lands a place) d q ks ops) (after (Goes (found_at part)) c1 l1 w1)) end
+      (source_runs bound calls (scope x y s place has) part y from w0 (begun1 w0) walked1 runs1 (lands a place) (Operand (Record t) ∷ s) d (place + length front) ks ops c1 l1 w1 (omega (arith, lo, le)) fits1 (seen sees) (laid_back code place front back has)))
+      (λ z c1 l1 w1 lo fits1. no_step ask code (Kept k code w0) 6 6 _ c1 0 next (Leaves (ByRaise z)) l1 w1 fits1 refl))

@@ -13,13 +13,13 @@ use Rattle.ctl_meaning.specs.Types.{category_of, cells_of}
 use Rattle.ctl_meaning.specs.Names.{Found, Tools, read_found}
 use Rattle.ctl_meaning.specs.Expressions.{Supplied, Valued, eval, eval_name, eval_step, actual_step as actual_meaning, supply}
 use Rattle.ctl_meaning.proofs.Trees.{actual_roll as supply_roll, eval_roll}
-use Rattle.ctl_layout.specs.Parts.{Reached, Variable, Part, Object, are_walked}
+use Rattle.ctl_layout.specs.Parts.{Reached, Variable, Part, Object, are_followed}
 use Rattle.ctl_layout.specs.Values.{ActualCode, ValueCode, copied, is_of, read, reached_by, reached_if, sourced, value_code}
 use Rattle.ctl_program.specs.declared.expression.Actual.TheVariants.{rolls-Part}
 use Rattle.ctl_layout.proofs.TreeLayers.{value_roll, actual_roll}
 use Rattle.ctl_layout.proofs.Layers.{part_source}
-use Rattle.ctl_gen.proofs.Parts.{composite_leads, find_by, name_leads}
-use Rattle.ctl_gen.proofs.Walked.{copy_reaches, new_reaches, steps_before, steps_of, variable_of}
+use Rattle.ctl_gen.proofs.Parts.{composite_leads, find_by, given_by, name_leads}
+use Rattle.ctl_gen.proofs.Walked.{copy_reaches, new_reaches, start_of, steps_before, steps_of}
 
 -- the value of this type that is found so
 abbrev pub read_by : Tools → Ty → (List ℕ → Act Found) → List ℕ → Act (List ℕ)
@@ -60,10 +60,12 @@ none_copied t z none = ap (λ o. reached_if o (is_of t z.own)) none ∙ by (is_o
     by false = refl
 
 module _ (K : Tools) where
-  -- a value of this record type that is read from this part: the part is found
+  -- a value of this record type that is read from this part: the part that a name denotes is found
   pub record Reads (t : ℕ) (x : Reached) (m : Valued) : Type 0 where
-    pub walked : are_walked false (steps_before x) ≡ true
-    pub reads : m K ≡ read_by K (Record t) (find_by K (steps_of x) (variable_of x))
+    pub name : Name
+    pub reaches : reached_by name ≡ Some x
+    pub walked : are_followed (start_of x) (steps_before x) ≡ true
+    pub reads : m K ≡ read_by K (Record t) (find_by K (given_by name K) (steps_of x) (start_of x))
 
   abbrev IsCopied : Expr → Type 0
   IsCopied e = (t : ℕ) (x : Reached) → copied t (value_code e) ≡ Some x → Reads t x (eval e)
@@ -77,8 +79,10 @@ module _ (K : Tools) where
       let h = is_read (reached_by n) ty t x is in
       let leads = name_leads K n x h.0 in
       record {
+        name = n;
+        reaches = h.0;
         walked = leads.walked;
-        reads = ap (λ (u : Ty). read_by K u (eval_name n (category_of u) K)) h.1 ∙ ap (read_by K (Record t)) (composite_leads K x (eval_name n) leads);
+        reads = ap (λ (u : Ty). read_by K u (eval_name n (category_of u) K)) h.1 ∙ ap (read_by K (Record t)) (composite_leads K x (given_by n K) (eval_name n) leads);
       }
 
   expr_rolled : (y : Expr-F Actual Expr Name Operand) → IsCopied (roll-Expr y)
@@ -103,15 +107,17 @@ module _ (K : Tools) where
 
   -- an actual that is a name: that is an expression node
   pub record IsSource (x : Reached) (m : Supplied) : Type 0 where
-    pub walked : are_walked false (steps_before x) ≡ true
-    pub finds : m.source K ≡ (λ d. ticked (find_by K (steps_of x) (variable_of x) d))
+    pub name : Name
+    pub reaches : reached_by name ≡ Some x
+    pub walked : are_followed (start_of x) (steps_before x) ≡ true
+    pub finds : m.source K ≡ (λ d. ticked (find_by K (given_by name K) (steps_of x) (start_of x) d))
 
   is_source : (n : Name) (ty : Ty) (x : Reached) → reached_by n ≡ Some x → IsSource x (actual_meaning (Actual-F.Part (eval_name n) ty))
   unfolding actual_meaning
   is_source n ty x is =
       let at_node : (List ℕ → Act Found) → List ℕ → Act Found = λ find d. ticked (find d) in
       let h = name_leads K n x is in
-      record { walked = h.walked; finds = ap at_node (composite_leads K x (eval_name n) h) }
+      record { name = n; reaches = is; walked = h.walked; finds = ap at_node (composite_leads K x (given_by n K) (eval_name n) h) }
 
   actual_rolled : (y : Actual-F Actual Expr Name Operand) (x : Reached) → sourced (roll-Actual y) ≡ Some x → IsSource x (supply (roll-Actual y))
   actual_rolled (Actual-F.Part n ty) x is = subst (IsSource x) (sym (supply_roll (Actual-F.Part n ty))) (is_source n ty x (sym (part_source n ty) ∙ sym (ap (λ (a : Actual). sourced a) (rolls-Part n ty)) ∙ is))

@@ -102,11 +102,12 @@ impl Emitter {
     }
 
     /// Emits what finds the part that a name denotes.
+    #[cycle(expressions)]
     fn reference(&mut self, name: &Name, ty: Ty) -> Result<(), AllocError>
         ensures { OnOk result (self.new ≡ lined (values.by_reference (values.reached_by name.now) ty).code self.old) }
     {
         match (reached_by(name), ty) {
-            (Some(part), Ty::Record(record)) => self.part(part, record),
+            (Some(part), Ty::Record(record)) => self.part(name, part, record),
             _ => self.put(Instr::Missing),
         }
     }

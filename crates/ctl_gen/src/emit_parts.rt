@@ -5,14 +5,14 @@ ghost use Rattle.ctl_program.specs.declared.types.Ty.TheVariants.{Record};
 ghost use Rattle.ctl_code.specs.declared.code.Instr.TheVariants.{Dereference};
 ghost use Rattle.ctl_code.specs.Windows.{height};
 ghost use Rattle.ctl_layout.specs.Parts as spec;
-ghost use Rattle.ctl_layout.specs.Parts.{seen};
-ghost use Rattle.ctl_layout.specs.Values.{by_reference};
-ghost use Rattle.ctl_gen.specs.Emitted.{lined};
+ghost use Rattle.ctl_layout.specs.Parts.{OfVariable, seen};
+ghost use Rattle.ctl_layout.specs.Values.{begun_by, by_reference};
+ghost use Rattle.ctl_gen.specs.Emitted.{lined, rest_of};
 
 use crate::emit::Emitter;
 use ctl_code::code::{Cell, Instr};
-use ctl_layout::right::Reached;
-use ctl_program::expression::Step;
+use ctl_layout::right::{Reached, is_dereferenced};
+use ctl_program::expression::{Name, Step};
 use ctl_program::types::{Ty, Var};
 use std::alloc::AllocError;
 
@@ -20,9 +20,22 @@ use std::alloc::AllocError;
 const ACCESS_VALUE: Ty = Ty::Integer;
 
 impl Emitter {
+    /// Emits the access value that a name begins with, if it begins with one, as a new operand (RM 4.1).
+    #[cycle(expressions)]
+    pub fn begin(&mut self, name: &Name) -> Result<(), AllocError>
+        ensures { OnOk result (self.new ≡ lined (spec.begun_code (begun_by name.now)) self.old) }
+    {
+        match name {
+            Name::Variable(..) => Ok(()),
+            Name::Given(given, _) => {
+                self.expression(self.new_operand(), ACCESS_VALUE, given.get())
+            }
+        }
+    }
+
     /// Emits what finds the object in a variable, of this record type.
     fn locate(&mut self, of: Var, record: usize) -> Result<(), AllocError>
-        ensures { OnOk result (self.new ≡ lined (spec.located_code of [] «record») self.old) }
+        ensures { OnOk result (self.new ≡ lined (spec.located_code (OfVariable of) [] «record») self.old) }
     {
         let (out, slot, at) = (self.out_to(of), of.slot, self.height());
         self.put(Instr::Locate {
@@ -98,82 +111,146 @@ impl Emitter {
         Ok(())
     }
 
-    /// Emits what finds the part behind these steps from a variable, of this record type.
-    pub fn located(&mut self, of: Var, steps: &[Step], record: usize) -> Result<(), AllocError>
-        ensures { OnOk result (self.new ≡ lined (spec.located_code of steps.now «record») self.old) }
+    /// Emits what finds the object in a variable or reads its value, where a name begins with one.
+    #[tactic(auto, using(ctl_layout::proofs::Layers::begun_variable, ctl_layout::proofs::Layers::begun_given))]
+    fn find_first(&mut self, of: &Name, steps: &[Step], record: usize) -> Result<(), AllocError>
+        ensures { OnOk result (self.new ≡ lined (spec.first_code (begun_by of.now) steps.now «record») self.old) }
     {
-        self.find(of, steps, record)?;
+        match of {
+            Name::Variable(variable, _) => self.find(*variable, steps, record),
+            Name::Given(..) => Ok(()),
+        }
+    }
+
+    /// Emits what finds the part behind these steps from what a name begins with, of this record type; an access value that it begins with
+    /// stands there.
+    fn behind_start(&mut self, of: &Name, steps: &[Step], record: usize) -> Result<(), AllocError>
+        ensures { OnOk result (self.new ≡ lined (spec.behind_code (begun_by of.now) steps.now «record») self.old) }
+    {
+        self.find_first(of, steps, record)?;
         self.selects(steps, record)
     }
 
-    /// Emits what finds the part that a name denotes, of this record type.
-    pub fn part(&mut self, part: Reached<'_>, record: usize) -> Result<(), AllocError>
-        ensures { OnOk result (self.new ≡ lined (by_reference (seen (Some part.entry)) (Record «record»)).code self.old) }
+    /// Emits what finds the part behind these steps from what a name begins with, of this record type.
+    pub fn located(&mut self, of: &Name, steps: &[Step], record: usize) -> Result<(), AllocError>
+        ensures { OnOk result (self.new ≡ lined (spec.located_code (begun_by of.now) steps.now «record») self.old) }
+    {
+        self.begin(of)?;
+        self.behind_start(of, steps, record)
+    }
+
+    /// Emits what finds a component at a position of the part behind these steps, of this record type; an access value that the name begins
+    /// with stands there.
+    fn select(
+        &mut self,
+        of: &Name,
+        steps: &[Step],
+        whole: usize,
+        position: usize,
+        record: usize,
+    ) -> Result<(), AllocError>
+        ensures { OnOk result (self.new ≡ lined (spec.rest_code (spec.Part (begun_by of.now) steps.now whole position) «record») self.old) }
+    {
+        self.behind_start(of, steps, whole)?;
+        self.over_operand(
+            Ty::Record(whole),
+            Instr::Select {
+                record: whole,
+                position,
+                part: record,
+            },
+        )
+    }
+
+    /// Emits what finds the part that a name denotes, of this record type; an access value that it begins with stands there.
+    pub fn rest_of(&mut self, of: &Name, part: Reached<'_>, record: usize) -> Result<(), AllocError>
+        ensures { OnOk result (self.new ≡ lined (rest_of (seen (begun_by of.now) (Some part.entry)) «record») self.old) }
     {
         match part {
-            Reached::Variable(of) => self.locate(of, record),
+            Reached::Variable(variable) => self.locate(variable, record),
             Reached::Part {
-                of,
+                steps,
+                record: whole,
+                position,
+            } => self.select(of, steps, whole, position, record),
+            Reached::Object { steps } => self.behind_start(of, steps, record),
+        }
+    }
+
+    /// Emits what finds the part that a name denotes, of this record type.
+    #[cycle(expressions)]
+    pub fn part(&mut self, of: &Name, part: Reached<'_>, record: usize) -> Result<(), AllocError>
+        ensures { OnOk result (self.new ≡ lined (by_reference (seen (begun_by of.now) (Some part.entry)) (Record «record»)).code self.old) }
+    {
+        match part {
+            Reached::Variable(variable) => self.locate(variable, record),
+            Reached::Part {
                 steps,
                 record: whole,
                 position,
             } => {
-                self.located(of, steps, whole)?;
-                self.over_operand(
-                    Ty::Record(whole),
-                    Instr::Select {
-                        record: whole,
-                        position,
-                        part: record,
-                    },
-                )
+                self.begin(of)?;
+                self.select(of, steps, whole, position, record)
             }
-            Reached::Object { of, steps } => self.located(of, steps, record),
+            Reached::Object { steps } => {
+                self.begin(of)?;
+                self.behind_start(of, steps, record)
+            }
         }
     }
 
-    /// Emits the value of a component, which goes into a cell: of the object in a variable, or of a part of it.
-    pub fn component(
+    /// Emits the value of a component of the part that these steps lead to, which goes into a cell.
+    fn taken(
         &mut self,
-        of: Var,
+        of: &Name,
         steps: &[Step],
         record: usize,
         position: usize,
         ty: Ty,
         to: Cell,
     ) -> Result<(), AllocError>
-        ensures { OnOk result (self.new ≡ lined (spec.component_code of steps.now «record» position ty to) self.old) }
+        ensures { OnOk result (self.new ≡ lined (spec.rest_taken (begun_by of.now) steps.now «record» position ty to) self.old) }
     {
-        match steps {
-            [] => self.put(Instr::FetchPart {
-                out: self.out_to(of),
-                slot: of.slot,
+        self.behind_start(of, steps, record)?;
+        self.over_operand(
+            Ty::Record(record),
+            Instr::TakePart {
                 record,
                 position,
                 ty,
                 to,
-            }),
-            [..] => {
-                self.located(of, steps, record)?;
-                self.over_operand(
-                    Ty::Record(record),
-                    Instr::TakePart {
-                        record,
-                        position,
-                        ty,
-                        to,
-                    },
-                )
-            }
+            },
+        )
+    }
+
+    /// Emits the value of a component, which goes into a cell: of the object in a variable, or of another part; an access value that the name
+    /// begins with stands there.
+    pub fn component(
+        &mut self,
+        of: &Name,
+        steps: &[Step],
+        record: usize,
+        position: usize,
+        ty: Ty,
+        to: Cell,
+    ) -> Result<(), AllocError>
+        ensures { OnOk result (self.new ≡ lined (spec.rest_component (begun_by of.now) steps.now «record» position ty to) self.old) }
+    {
+        match of {
+            Name::Variable(variable, _) => match steps {
+                [] => self.put(Instr::FetchPart {
+                    out: self.out_to(*variable),
+                    slot: variable.slot,
+                    record,
+                    position,
+                    ty,
+                    to,
+                }),
+                [..] => self.taken(of, steps, record, position, ty, to),
+            },
+            Name::Given(..) => self.taken(of, steps, record, position, ty, to),
         }
     }
-}
-
-/// Tells whether the first of these steps is a dereference.
-fn is_dereferenced(steps: &[Step]) -> bool
-    ensures { result ≡ spec.is_dereferenced steps.now }
-{
-    matches!(steps, [Step::Dereference, ..])
 }
 
 /// Gives the record type of what stands before these steps, the first of which is a selector, or this one, of what they lead to.

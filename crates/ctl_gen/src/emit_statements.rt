@@ -6,16 +6,16 @@
 ghost use Rattle.std.specs.Prelude.{◌≡◌, ◌≤◌, ◌<◌, ◌+◌, ◌-◌, [], IfOk, drop, length, map, option_map, OnOk, None, Some};
 ghost use Rattle.std.specs.Option.{ForSome};
 ghost use Rattle.ctl_layout.specs.Parts as parts;
-ghost use Rattle.ctl_layout.specs.Parts.{seen};
 ghost use Rattle.ctl_gen.specs.Emitted.{appended, first_end, further_arms, lined, open_arms, repeated, skipping, standing, stated, without_image, without_images};
 ghost use Rattle.ctl_layout.specs.Values as values;
+ghost use Rattle.ctl_layout.specs.Values.{begun_by, denoted};
 ghost use Rattle.ctl_layout.specs.Texts as texts;
 ghost use Rattle.ctl_layout.specs.Layout as spec;
 
 use crate::emit::Emitter;
 use ctl_code::code::{Instr, Way};
 use ctl_code::kinds::Kind;
-use ctl_layout::right::{Reached, reached_by, sourced};
+use ctl_layout::right::{Denoted, Reached, denoted_by, reached_by, sourced};
 use ctl_layout::typing::{copied, value_type};
 use ctl_program::expression::{Actual, Expr, Name, Step};
 use ctl_program::operators::Direction;
@@ -120,7 +120,7 @@ impl Emitter {
         let Some(part) = copied(record, value) else {
             return self.put(Instr::Missing);
         };
-        self.part(part, record)?;
+        self.part(part.name, part.reached, record)?;
         self.over_operand(Ty::Record(record), Instr::DeclareCopy { slot, record })
     }
 
@@ -215,12 +215,11 @@ impl Emitter {
             Some(Reached::Variable(variable)) => self.assign_variable(variable, value),
             Some(
                 Reached::Part {
-                    of,
                     steps,
                     record,
                     position,
                 },
-            ) => self.assign_component(of, steps, record, position, value),
+            ) => self.assign_component(name, steps, record, position, value),
             Some(Reached::Object { .. }) | None => self.put(Instr::Missing),
         }
     }
@@ -248,13 +247,13 @@ impl Emitter {
     /// Emits the assignment of a value to a component: the part that has it comes before the value (RM 5.2).
     fn assign_component(
         &mut self,
-        of: Var,
+        of: &Name,
         steps: &[Step],
         record: usize,
         position: usize,
         value: &Expr,
     ) -> Result<(), AllocError>
-        ensures { OnOk result (self.new ≡ stated (spec.assign (Some (parts.Part of steps.now «record» position)) (values.value_code value.now)) None self.old) }
+        ensures { OnOk result (self.new ≡ stated (spec.assign (Some (parts.Part (begun_by of.now) steps.now «record» position)) (values.value_code value.now)) None self.old) }
     {
         self.located(of, steps, record)?;
         self.store_part(record, position, value)
@@ -292,12 +291,11 @@ impl Emitter {
             Some(Reached::Variable(variable)) => self.free_variable(access, variable),
             Some(
                 Reached::Part {
-                    of,
                     steps,
                     record,
                     position,
                 },
-            ) => self.free_component(access, of, steps, record, position),
+            ) => self.free_component(access, name, steps, record, position),
             Some(Reached::Object { .. }) | None => self.put(Instr::Missing),
         }
     }
@@ -314,12 +312,12 @@ impl Emitter {
     fn free_component(
         &mut self,
         access: usize,
-        of: Var,
+        of: &Name,
         steps: &[Step],
         record: usize,
         position: usize,
     ) -> Result<(), AllocError>
-        ensures { OnOk result (self.new ≡ stated (spec.free access (Some (parts.Part of steps.now «record» position))) None self.old) }
+        ensures { OnOk result (self.new ≡ stated (spec.free access (Some (parts.Part (begun_by of.now) steps.now «record» position))) None self.old) }
     {
         self.located(of, steps, record)?;
         self.over_operand(
@@ -341,7 +339,7 @@ impl Emitter {
     ) -> Result<(), AllocError>
         ensures { OnOk result (self.new ≡ stated (spec.assign_record (values.reached_by name.now) «record» (values.sourced value.now)) None self.old) }
     {
-        match (reached_by(name), sourced(value)) {
+        match (denoted_by(name), sourced(value)) {
             (Some(target), Some(source)) => self.overwrite(target, record, source),
             (None, _) | (_, None) => self.put(Instr::Missing),
         }
@@ -350,15 +348,15 @@ impl Emitter {
     /// Emits the assignment of one part to another: the target is found before the source (RM 5.2).
     fn overwrite(
         &mut self,
-        target: Reached<'_>,
+        target: Denoted<'_>,
         record: usize,
-        source: Reached<'_>,
+        source: Denoted<'_>,
     ) -> Result<(), AllocError>
-        ensures { OnOk result (self.new ≡ stated (spec.assign_record (seen (Some target.entry)) «record» (seen (Some source.entry))) None self.old) }
+        ensures { OnOk result (self.new ≡ stated (spec.assign_record (denoted (Some target.entry)) «record» (denoted (Some source.entry))) None self.old) }
     {
-        self.part(target, record)?;
+        self.part(target.name, target.reached, record)?;
         self.enter(Kind::Operand(Ty::Record(record)))?;
-        self.part(source, record)?;
+        self.part(source.name, source.reached, record)?;
         self.over_operand(Ty::Record(record), Instr::Assign { record })?;
         self.leave();
         Ok(())

@@ -12,17 +12,17 @@ use clap::ArgMatches;
 use ctl_tree::request::{Order, Show};
 use std::alloc::{AllocError, Global};
 
-/// How many steps a run takes at most where the words do not say it.
+/// The limit on the machine steps of a run if the words name none.
 const STEPS: u64 = 10_000_000;
 
-/// The value of an argument.
+/// Returns the value of an argument, or `None` if it has none.
 fn value_of<'a>(entries: &ArgMatches<'a>, id: &str) -> Option<&'a str>
     ensures { option_map (λ value. value.now) result ≡ first_of id.now (rows_of (found_of entries.now)) }
 {
     entries.get_str(id)
 }
 
-/// Whether an argument has this value.
+/// Returns whether an argument has this value.
 fn has_value(entries: &ArgMatches<'_>, id: &str, wanted: &str) -> bool
     ensures { IsTrue result ↔ (first_of id.now (rows_of (found_of entries.now)) ≡ Some wanted.now) }
 {
@@ -32,14 +32,14 @@ fn has_value(entries: &ArgMatches<'_>, id: &str, wanted: &str) -> bool
     }
 }
 
-/// The file.
+/// Returns the file.
 fn file_of(alloc: Global, entries: &ArgMatches<'_>) -> Result<String, AllocError>
     ensures { IfOk result (λ file. string_bytes file ≡ file_in (rows_of (found_of entries.now))) }
 {
     value_of(entries, "file").unwrap_or("").to_string(alloc)
 }
 
-/// What is written of the run: its trace where `--trace` stands.
+/// Returns what is shown of the run: its trace if `--trace` is given, else its output.
 fn show_of(entries: &ArgMatches<'_>) -> Show
     ensures { IsShowIn (rows_of (found_of entries.now)) result }
 {
@@ -50,7 +50,7 @@ fn show_of(entries: &ArgMatches<'_>) -> Show
     }
 }
 
-/// The order, newest where none stands.
+/// Returns the order, newest if none is given.
 fn order_of(entries: &ArgMatches<'_>) -> Order
     ensures { IsOrderIn (rows_of (found_of entries.now)) result }
 {
@@ -61,7 +61,7 @@ fn order_of(entries: &ArgMatches<'_>) -> Order
     }
 }
 
-/// The limit of steps.
+/// Returns the limit on steps, `STEPS` if none is given.
 fn steps_of(entries: &ArgMatches<'_>) -> u64
     ensures { IsLimitIn (rows_of (found_of entries.now)) result }
 {
@@ -71,7 +71,7 @@ fn steps_of(entries: &ArgMatches<'_>) -> u64
     }
 }
 
-/// What `check` asks for.
+/// Returns the job that `check` asks for.
 fn check_of(alloc: Global, entries: &ArgMatches<'_>) -> Result<Job, AllocError>
     ensures { IfOk result (AsksToCheck (rows_of (found_of entries.now))) }
 {
@@ -80,7 +80,7 @@ fn check_of(alloc: Global, entries: &ArgMatches<'_>) -> Result<Job, AllocError>
     })
 }
 
-/// What `run` asks for.
+/// Returns the job that `run` asks for.
 fn run_of(alloc: Global, entries: &ArgMatches<'_>) -> Result<Job, AllocError>
     ensures { IfOk result (AsksToRun (rows_of (found_of entries.now))) }
 {
@@ -92,7 +92,7 @@ fn run_of(alloc: Global, entries: &ArgMatches<'_>) -> Result<Job, AllocError>
     })
 }
 
-/// The job that the entries of the subcommand with this name ask for.
+/// Returns the job that the entries of the subcommand with this name ask for.
 fn job_by(alloc: Global, name: &str, entries: &ArgMatches<'_>) -> Result<Job, AllocError>
     requires { (name.now ≡ codes "check") ⊎ (name.now ≡ codes "run") }
     ensures { IfOk result (AsksBy name.now (rows_of (found_of entries.now))) }
@@ -104,9 +104,12 @@ fn job_by(alloc: Global, name: &str, entries: &ArgMatches<'_>) -> Result<Job, Al
     }
 }
 
-/// The job that these words ask for, those after the program's name: `check FILE`, or
-/// `run FILE [--trace] [--order newest|oldest] [--steps N]`. A usage fault comes only where the words are none of
-/// these; `--help` is one.
+/// Returns the job that these words ask for, those after the program's name: `check FILE`, or
+/// `run FILE [--trace] [--order newest|oldest] [--steps N]`.
+///
+/// # Errors
+///
+/// Returns `Usage` only if the words are none of these, as with `--help`, and `Memory` if it runs out of memory.
 pub fn job_of(alloc: Global, words: &[String]) -> Result<Job, UsageFault>
     ensures job { IfOk result (Asks (map string_bytes words.now)) }
     ensures usage { IsErrOf result Usage → IsRefused (map string_bytes words.now) }

@@ -4,14 +4,14 @@ use ctl_tree::request::{Order, Show};
 use std::alloc::AllocError;
 use thiserror::Error;
 
-/// What the program is to do.
+/// A job of the program.
 #[derive(Debug, PartialEq, Eq, Drop)]
 pub enum Job {
-    /// check the source text in this file
+    /// to check the source text in this file
     Check {
         file: String,
     },
-    /// run the program in this file, by at most so many machine steps
+    /// to run the program in this file, by at most `steps` machine steps
     Run {
         file: String,
         show: Show,
@@ -20,7 +20,7 @@ pub enum Job {
     },
 }
 
-/// Why words give no job.
+/// The reason why the words of a command line give no job.
 #[derive(Clone, Copy, Debug, PartialEq, Eq, Error)]
 pub enum UsageFault {
     /// the words are not what the command line takes

@@ -1,4 +1,4 @@
-//! What the words of a command line ask the program to do.
+//! The jobs that the words of a command line ask for.
 #![tactic(auto)]
 
 mod entries;

@@ -8,7 +8,7 @@ ghost use Rattle.ctl_job.specs.Line.{file_rule, trace_rule, order_rule, steps_ru
 use clap::{Arg, ArgAction, Command, value_parser};
 use std::alloc::{AllocError, Global};
 
-/// `FILE`
+/// Makes the argument `FILE`.
 fn file_argument<'a>(alloc: Global) -> Arg<'a>
     ensures rule { rule_of result ≡ file_rule }
     ensures local { result.global ≡ false }
@@ -16,7 +16,7 @@ fn file_argument<'a>(alloc: Global) -> Arg<'a>
     Arg::new(alloc, "file").required(true)
 }
 
-/// `--trace`
+/// Makes the argument `--trace`.
 fn trace_argument<'a>(alloc: Global) -> Arg<'a>
     ensures rule { rule_of result ≡ trace_rule }
     ensures local { result.global ≡ false }
@@ -26,7 +26,7 @@ fn trace_argument<'a>(alloc: Global) -> Arg<'a>
         .action(ArgAction::SetTrue)
 }
 
-/// `--order ORDER`, where an order has one of these names
+/// Makes the argument `--order ORDER`, where an order has one of these names.
 fn order_argument<'a>(alloc: Global, names: &'a [&'a str]) -> Arg<'a>
     ensures rule { rule_of result ≡ order_rule names.entry }
     ensures local { result.global ≡ false }
@@ -34,7 +34,7 @@ fn order_argument<'a>(alloc: Global, names: &'a [&'a str]) -> Arg<'a>
     Arg::new(alloc, "order").long("order").value_parser(names)
 }
 
-/// `--steps N`, where N is below 2^64
+/// Makes the argument `--steps N`, where N is below 2^64.
 fn steps_argument<'a>(alloc: Global) -> Arg<'a>
     ensures rule { rule_of result ≡ steps_rule }
     ensures local { result.global ≡ false }
@@ -44,7 +44,7 @@ fn steps_argument<'a>(alloc: Global) -> Arg<'a>
         .value_parser(value_parser!(u64))
 }
 
-/// `check FILE`
+/// Makes the subcommand `check FILE`.
 fn check_command<'a>(alloc: Global) -> Result<Command<'a>, AllocError>
     ensures app { IfOk result (λ c. app_of c ≡ check_app) }
     ensures local { IfOk result (λ c. (fields_of c).has_globals ≡ false) }
@@ -52,7 +52,7 @@ fn check_command<'a>(alloc: Global) -> Result<Command<'a>, AllocError>
     Command::new(alloc, "check").arg(file_argument(alloc))
 }
 
-/// `run FILE [--trace] [--order ORDER] [--steps N]`
+/// Makes the subcommand `run FILE [--trace] [--order ORDER] [--steps N]`.
 fn run_command<'a>(alloc: Global, names: &'a [&'a str]) -> Result<Command<'a>, AllocError>
     ensures app { IfOk result (λ c. app_of c ≡ run_app names.entry) }
     ensures local { IfOk result (λ c. (fields_of c).has_globals ≡ false) }
@@ -64,7 +64,7 @@ fn run_command<'a>(alloc: Global, names: &'a [&'a str]) -> Result<Command<'a>, A
         .arg(steps_argument(alloc))
 }
 
-/// The command line of the program, where an order has one of these names.
+/// Makes the command line of the program, where an order has one of these names.
 pub fn command_line<'a>(alloc: Global, names: &'a [&'a str]) -> Result<Command<'a>, AllocError>
     ensures app { IfOk result (λ c. app_of c ≡ line_of names.entry) }
     ensures local { IfOk result (λ c. (fields_of c).has_globals ≡ false) }

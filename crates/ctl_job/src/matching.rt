@@ -15,7 +15,8 @@ use std::alloc::Global;
 /// The names of the orders.
 static ORDERS: [&str; 2] = ["newest", "oldest"];
 
-/// What an error of a parse comes to: want of memory, or words that the command line does not take.
+/// Returns the fault for an error of a parse: `Memory` if it ran out of memory, `Usage` for words that the command
+/// line does not take.
 fn fault_of_error(error: &Error) -> UsageFault
     ensures { result ≡ Usage → kind_of error.now ≢ OutOfMemory }
 {
@@ -25,7 +26,11 @@ fn fault_of_error(error: &Error) -> UsageFault
     }
 }
 
-/// What the words say, where they are what the command line takes.
+/// Matches the words against the command line, and returns what they say.
+///
+/// # Errors
+///
+/// Returns `Usage` only if the command line does not take the words, and `Memory` if it runs out of memory.
 pub fn matches_of<'a>(alloc: Global, words: &'a [String]) -> Result<ArgMatches<'a>, UsageFault>
     ensures ok { IfOk result (IsMatched (map string_bytes words.entry.now)) }
     ensures usage { IsErrOf result Usage → IsRefused (map string_bytes words.entry.now) }

@@ -1,11 +1,11 @@
 -- The programs that this version runs: blocks; objects of types that extend Controlled or Limited_Controlled and of records that are not
 -- tagged, whose components are scalar, access values or of such types again, with their Initialize, Adjust and Finalize; access types whose
--- objects lie in the standard pool, their collections, allocators of such objects, without a value or with that of a part, access attributes,
--- and instances of Unchecked_Deallocation; expressions over constants, variables, components and calls of functions, of scalar and access
--- types; assignments to variables and components, also of what access values designate; calls of procedures, whose actuals are values, copies
--- of variables and parts of objects; return statements, texts with images, handlers of exceptions, and control. Also objects that take the
--- value of a part of their type, which may be any whose objects are declared, and assignments of records to one another where their type is
--- one of the main procedure's own declarative part.
+-- objects lie in the standard pool, their collections, allocators of such objects, without a value or with that of a part of a variable,
+-- access attributes, and instances of Unchecked_Deallocation; expressions over constants, variables, components and calls of functions, of
+-- scalar and access types; assignments to variables and components, also of what access values designate, and calls give these too; calls of
+-- procedures, whose actuals are values, copies of variables and parts of objects; return statements, texts with images, handlers of
+-- exceptions, and control. Also objects that take the value of a part of their type, which may be any whose objects are declared, and
+-- assignments of records to one another where their type is one of the main procedure's own declarative part.
 use Rattle.std.specs.Prelude.{◌≡◌, ℕ, List, [], ◌∷◌, slice_get, Option, Some, None, is_none, Bool, true, ◌&&◌, IsTrue}
 use Rattle.ctl_program.specs.declared.program.Subprogram.{Subprogram}
 use Rattle.ctl_program.specs.declared.program.Checked.{Checked}

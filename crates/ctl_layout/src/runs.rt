@@ -12,10 +12,11 @@ ghost use Rattle.ctl_layout.specs.Parts.{seen};
 ghost use Rattle.ctl_layout.specs.Run as whole;
 ghost use Rattle.ctl_layout.specs.Texts as texts;
 ghost use Rattle.ctl_layout.specs.Values as values;
+ghost use Rattle.ctl_layout.specs.Values.{denoted};
 
 use crate::copies::goes_back;
 use crate::forms::{Table, is_run_type};
-use crate::right::{Reached, reached_by, sourced};
+use crate::right::{Denoted, Reached, begins_with_variable, reached_by, sourced};
 use crate::typing::{copied, value_type};
 use ctl_program::expression::{Actual, Expr, Name, Operand, Step};
 use ctl_program::program::{Checked, Subprogram};
@@ -76,32 +77,95 @@ fn do_selectors_run(table: &Table, steps: &[Step]) -> bool
     true
 }
 
-/// Tells whether the record types of the selectors of a name are run, and the one of what they lead to (RM 4.1.3).
-fn are_laid_out(table: &Table, steps: &[Step], number: usize) -> bool
-    ensures { result ≡ parts.parts_run table.now.records.now steps.now number }
+/// Tells whether what a name begins with is run: a variable, or an access value (RM 4.1).
+#[cycle(values)]
+#[tactic(auto, using(crate::proofs::Layers::begun_variable, crate::proofs::Layers::begun_given))]
+fn is_begun(name: &Name, table: &Table) -> bool
+    ensures { result ≡ parts.is_begun (values.begun_by name.now) table.now.records.now }
 {
-    do_selectors_run(table, steps) && table.is_laid(number)
+    match name {
+        Name::Variable(..) => true,
+        Name::Given(given, _) => value(given.get(), table),
+    }
+}
+
+/// Tells whether what a name begins with is run, with the record types of its selectors and the one of what they lead to (RM 4.1.3).
+#[cycle(values)]
+fn are_laid_out(name: &Name, steps: &[Step], number: usize, table: &Table) -> bool
+    ensures { result ≡ parts.parts_run table.now.records.now (values.begun_by name.now) steps.now number }
+{
+    is_begun(name, table) && (do_selectors_run(table, steps) && table.is_laid(number))
 }
 
 /// Tells whether the value of a name is run: of a variable, or of a component of what the steps of the name lead to.
+#[cycle(values)]
 fn is_read(name: &Name, ty: Ty, table: &Table) -> bool
     ensures { result ≡ (values.read (values.reached_by name.now) ty).runs table.now.records.now }
 {
     match reached_by(name) {
         Some(Reached::Variable(_)) => is_run_type(ty),
         Some(Reached::Part { steps, record, .. }) => {
-            is_run_type(ty) && are_laid_out(table, steps, record)
+            is_run_type(ty) && are_laid_out(name, steps, record, table)
         }
         Some(Reached::Object { .. }) | None => false,
     }
 }
 
-/// Tells whether an object of a record type may take this value: that of a part of the type (RM 3.3.1, 4.8).
+/// Tells whether what a name denotes is run, as a part of an object.
+#[cycle(values)]
+fn is_part(name: &Name, reached: Option<Reached<'_>>, table: &Table) -> bool
+    ensures { result ≡ parts.may_be_part (seen (values.begun_by name.now) reached.entry) table.now.records.now }
+{
+    match reached {
+        Some(Reached::Variable(_)) => true,
+        Some(Reached::Part { steps, record, .. }) => are_laid_out(name, steps, record, table),
+        Some(Reached::Object { steps }) => is_begun(name, table) && do_selectors_run(table, steps),
+        None => false,
+    }
+}
+
+/// Tells the same of a name with what it denotes.
+fn may_be_part(part: Option<Denoted<'_>>, table: &Table) -> bool
+    ensures { result ≡ parts.may_be_part (denoted part.entry) table.now.records.now }
+{
+    match part {
+        Some(found) => is_part(found.name, Some(found.reached), table),
+        None => false,
+    }
+}
+
+/// Tells the same of it, if it begins with a variable; any other one is not run.
+#[tactic(auto, using(crate::proofs::Layers::variable_part, crate::proofs::Layers::variable_object))]
+fn is_variable_part(part: Option<Denoted<'_>>, table: &Table) -> bool
+    ensures { result ≡ parts.may_be_part (parts.in_variable (denoted part.entry)) table.now.records.now }
+{
+    match part {
+        Some(found) => match found.reached {
+            Reached::Variable(_) => true,
+            Reached::Part { steps, record, .. } => {
+                begins_with_variable(found.name)
+                    && (do_selectors_run(table, steps) && table.is_laid(record))
+            }
+            Reached::Object { steps } => {
+                begins_with_variable(found.name) && do_selectors_run(table, steps)
+            }
+        },
+        None => false,
+    }
+}
+
+/// Tells whether an object of a record type that is declared may take this value: that of a part of the type (RM 3.3.1).
 fn is_copied(table: &Table, number: usize, expression: &Expr) -> bool
-    ensures declared { (slot : ℕ) → result ≡ (spec.copy slot number (values.copied number (values.value_code expression.now))).runs table.now.records.now }
-    ensures allocated { (access : ℕ) → result ≡ (values.new_copy access number (values.copied number (values.value_code expression.now))).runs table.now.records.now }
+    ensures { (slot : ℕ) → result ≡ (spec.copy slot number (values.copied number (values.value_code expression.now))).runs table.now.records.now }
 {
     table.is_plain(number) && may_be_part(copied(number, expression), table)
+}
+
+/// Tells whether one that is allocated may take this value: that of a part of the type, whose name begins with a variable (RM 4.8).
+fn is_copied_anew(table: &Table, number: usize, expression: &Expr) -> bool
+    ensures { (access : ℕ) → result ≡ (values.new_copy access number (parts.in_variable (values.copied number (values.value_code expression.now)))).runs table.now.records.now }
+{
+    table.is_plain(number) && is_variable_part(copied(number, expression), table)
 }
 
 /// Tells whether an allocator is run: of an object of a record type, without a handle; its value, if it has one, is that of a part of the type
@@ -117,7 +181,7 @@ fn is_allocated(
     match ty {
         Ty::Record(number) => match (handle, value) {
             (None, None) => table.is_plain(number),
-            (None, Some(value)) => is_copied(table, number, value.get()),
+            (None, Some(value)) => is_copied_anew(table, number, value.get()),
             (Some(_), _) => false,
         },
         _ => false,
@@ -172,7 +236,7 @@ fn is_actual(actual: &Actual, table: &Table) -> bool
 {
     match actual {
         Actual::ByValue(expression, ty) => is_run_type(*ty) && value(expression, table),
-        Actual::Part(name, Ty::Record(_)) => may_be_part(reached_by(name), table),
+        Actual::Part(name, Ty::Record(_)) => is_part(name, reached_by(name), table),
         Actual::Part(..) => false,
         Actual::Copied(name, ty, _) => is_copied_back(name, *ty),
     }
@@ -321,21 +385,9 @@ fn is_assigned(name: &Name, expression: &Expr, table: &Table) -> bool
     match reached_by(name) {
         Some(Reached::Variable(_)) => value(expression, table),
         Some(Reached::Part { steps, record, .. }) => {
-            are_laid_out(table, steps, record) && value(expression, table)
+            are_laid_out(name, steps, record, table) && value(expression, table)
         }
         Some(Reached::Object { .. }) | None => false,
-    }
-}
-
-/// Tells whether what a name denotes is run, as a part of an object.
-fn may_be_part(part: Option<Reached<'_>>, table: &Table) -> bool
-    ensures { result ≡ parts.may_be_part (seen part.entry) table.now.records.now }
-{
-    match part {
-        Some(Reached::Variable(_)) => true,
-        Some(Reached::Part { steps, record, .. }) => are_laid_out(table, steps, record),
-        Some(Reached::Object { steps, .. }) => do_selectors_run(table, steps),
-        None => false,
     }
 }
 
@@ -343,8 +395,8 @@ fn may_be_part(part: Option<Reached<'_>>, table: &Table) -> bool
 fn is_record_assigned(name: &Name, number: usize, value: &Actual, table: &Table) -> bool
     ensures { result ≡ (spec.assign_record (values.reached_by name.now) number (values.sourced value.now)).runs table.now.records.now }
 {
-    let (target, source) = (reached_by(name), sourced(value));
-    may_be_part(target, table) && may_be_part(source, table) && is_assignable(table, number)
+    is_part(name, reached_by(name), table)
+        && (may_be_part(sourced(value), table) && is_assignable(table, number))
 }
 
 /// Tells whether what is freed is run: what a variable designates, or a component of what the steps of the name lead to (RM 13.11.2).
@@ -353,7 +405,7 @@ fn is_freed(name: &Name, table: &Table) -> bool
 {
     match reached_by(name) {
         Some(Reached::Variable(_)) => true,
-        Some(Reached::Part { steps, record, .. }) => are_laid_out(table, steps, record),
+        Some(Reached::Part { steps, record, .. }) => are_laid_out(name, steps, record, table),
         Some(Reached::Object { .. }) | None => false,
     }
 }

@@ -1,10 +1,11 @@
 //! The types of expressions (RM 4.4, 4.5).
 
 ghost use Rattle.std.specs.Prelude.{◌≡◌, map};
-ghost use Rattle.ctl_layout.specs.Parts.{seen};
+ghost use Rattle.ctl_layout.specs.Parts as parts;
 ghost use Rattle.ctl_layout.specs.Values as spec;
+ghost use Rattle.ctl_layout.specs.Values.{denoted};
 
-use crate::right::{Reached, reached_of};
+use crate::right::{Denoted, in_variable, reached_of};
 use ctl_program::expression::{Expr, Operand};
 use ctl_program::operators::BinaryOp;
 use ctl_program::types::Ty;
@@ -55,15 +56,22 @@ fn is_of(record: usize, ty: Option<Ty>) -> bool
     }
 }
 
-/// Gives the part of a record type that a value is read from, if it is read from one (RM 3.3.1).
-pub fn copied(record: usize, value: &Expr) -> Option<Reached<'_>>
-    ensures { seen result ≡ spec.copied «record» (spec.value_code value.now) }
+/// Gives the part of a record type that a value is read from, with its name, if it is read from one (RM 3.3.1).
+pub fn copied(record: usize, value: &Expr) -> Option<Denoted<'_>>
+    ensures { denoted result ≡ spec.copied «record» (spec.value_code value.now) }
 {
     let same = is_of(record, type_of(value));
     match reached_of(value) {
         Some(part) if same => Some(part),
         Some(_) | None => None,
     }
+}
+
+/// Gives that of an object which is allocated: its name begins with a variable (RM 4.8).
+pub fn allocated(record: usize, value: &Expr) -> Option<Denoted<'_>>
+    ensures { denoted result ≡ parts.in_variable (spec.copied «record» (spec.value_code value.now)) }
+{
+    in_variable(copied(record, value))
 }
 
 /// Gives the type of the first operand of a chain.

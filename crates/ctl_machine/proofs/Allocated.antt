@@ -102,6 +102,7 @@ allocating_ends g code e object t place fs k ops w h top u =
       below = h.below;
       waits = u.waits;
       objects = h.objects;
+      needs = h.needs;
       owns = h.owns;
       held = h.held;
       rise = h.rise;
@@ -207,6 +208,7 @@ forgets code e n stack k ops w none i =
         below = h.below;
         waits = h.waits;
         objects = ap (λ (l : List W.Object). forgotten n l) h.objects;
+        needs = h.needs;
         owns = owns_without n e.next_object e.objects e.owned none h.owns;
         held = h.held;
         rise = h.rise;
@@ -222,11 +224,11 @@ forgets code e n stack k ops w none i =
     }
 
 pub allocator_raises : (code : Code) (old new : Engine) (object place : ℕ) (s : State) (exception : ℕ) → IsMember code old object place s
-    → new.mode ≡ ModeOf.Transfers (WayOf.Raise exception) → kept new ≡ with_objects (forgotten object old.objects) (kept old) → new.events.items ≡ old.events.items → new.picks.items ≡ old.picks.items
+    → new.mode ≡ ModeOf.Transfers (WayOf.Raise exception) → kept new ≡ with_objects (forgotten object old.stock.objects) (kept old) → new.events.items ≡ old.events.items → new.picks.items ≡ old.picks.items
     → Makes code old new (by_creating (Raised exception) T.ByAllocator object (point_at place s) s.control s.world)
 allocator_raises code old new object place s exception m mode kept_is events picks =
     let i = forgets code (kept old) object m.stack s.control s.operands s.world m.foreign m.inside in
-    leaves_makes code old new (with_objects (forgotten object old.objects) (kept old)) (WayOf.Raise exception) m.stack s.control s.operands (forget object s.world) i
+    leaves_makes code old new (with_objects (forgotten object old.stock.objects) (kept old)) (WayOf.Raise exception) m.stack s.control s.operands (forget object s.world) i
     (record { mode = mode; kept = kept_is; events = events; picks = picks })
 
 -- It may not join --------------------------------------------------------------------------------------
@@ -295,10 +297,10 @@ unfolding opened_changes
 joined_heads n w = refl
 
 pub allocator_joins : (code : Code) (old new : Engine) (object place : ℕ) (s : State) (tried : Tried T.Handed) (h : T.Handed) → tried ≡ Fine h → IsValid code → IsMember code old object place s → MayJoin object s.world
-    → new.mode ≡ ModeOf.At place → kept new ≡ with_value (first_window (reverse old.masters.items) + height (drop 1 (stack_at code.kinds place))) object (with_objects (with_member object old.objects) (kept old)) → new.events.items ≡ old.events.items → new.picks.items ≡ old.picks.items
+    → new.mode ≡ ModeOf.At place → kept new ≡ with_value (first_window (reverse old.masters.items) + height (drop 1 (stack_at code.kinds place))) object (with_objects (with_member object old.stock.objects) (kept old)) → new.events.items ≡ old.events.items → new.picks.items ≡ old.picks.items
     → Makes code old new (by_creating tried T.ByAllocator object (point_at place s) s.control s.world)
 allocator_joins code old new object place s tried h is valid m may mode kept_is events picks =
-    let joined = with_objects (with_member object old.objects) (kept old) in
+    let joined = with_objects (with_member object old.stock.objects) (kept old) in
     let at = height (drop 1 (stack_at code.kinds place)) in
     let w = join object s.world in
     let heads : heads_of w.activations ≡ heads_of s.world.activations = joined_heads object s.world in

@@ -68,6 +68,7 @@ operand_set code e k above ops w x y at before after are become h is =
       below = h.below;
       waits = h.waits;
       objects = h.objects;
+      needs = h.needs;
       owns = h.owns;
       held = h.held;
       rise = h.rise;

@@ -1,9 +1,9 @@
 -- The members of collections that are still to be finalized are counted, and one of them is chosen.
 use Rattle.std.proofs.Common.{◌≡◌, ◌≢◌, ◌⊎◌, inl, inr, ◌∙◌, ℕ, zero, suc, ◌+◌, ◌-◌, ◌<◌, ◌≤◌, ◌^◌, List, [], ◌∷◌, ◌++◌, Option, Some, None, Bool, true, false, cond, refl, sym, ap, arith, subst, length}
-use Rattle.std.specs.Prelude.{nat_eq, nat_le, nat_lt, not, ◌&&◌, ◌||◌, IfSome}
-use Rattle.std.specs.List.{AllByRecursion}
+use Rattle.std.specs.Prelude.{nat_eq, nat_le, nat_lt, not, ◌&&◌, ◌||◌, IfSome, slice_get}
 use Rattle.std.specs.Option.{option_map, option_map_or}
 use Rattle.std.proofs.lemmas.Bool.Decides.{nat_tests}
+use Rattle.std.proofs.lemmas.Option.{slice_get-map}
 use Rattle.ctl_tree.specs.declared.request.Order.{Order}
 use Rattle.ctl_tree.specs.declared.request.Order.TheVariants as OrderOf
 use Rattle.ctl_program.specs.declared.types.Ty.{Ty}
@@ -17,22 +17,26 @@ use Rattle.ctl_objects.specs.declared.groups.Group.{Group}
 use Rattle.ctl_objects.specs.declared.groups.Start.{Start}
 use Rattle.ctl_objects.specs.declared.groups.Start.TheVariants.{Behind, Collection}
 use Rattle.ctl_objects.specs.declared.groups.Waiting.{Waiting}
+use Rattle.ctl_objects.specs.declared.needs.Need.{Need}
 use Rattle.ctl_objects.specs.Groups.{IsNextGroup, group_by, group_of, is_allocated, is_from, is_open, is_same, is_waiting, one, precedes, test}
 use Rattle.ctl_objects.specs.Members.{IsGreatest, IsLeast, is_between, passes}
+use Rattle.ctl_objects.specs.Needs.{is_finalization, needs_finalization}
 use Rattle.ctl_objects.specs.Order.{Rise}
+use Rattle.ctl_objects.specs.Stock.{Stock}
 use Rattle.ctl_objects.proofs.Counted.{each_there, fewer_left, greatest_pulled, kept_same, least_pulled, no_fewer, none_passes, passes_so, passing, some_kept, sums}
 use Rattle.ctl_objects.proofs.Grouped.{later, neither, never, not_itself, same_is, same_self}
-use Rattle.ctl_objects.proofs.Moved.{length_more, length_none}
 use Rattle.ctl_objects.proofs.Rising.{number_found, rise_lower}
 use Rattle.ctl_objects.proofs.Waits.{greatest_alike, least_alike}
 use Rattle.ctl_code.specs.declared.code.Code.{Code}
+use Rattle.ctl_code.specs.declared.code.Layout.{Layout}
 use Rattle.ctl_code.specs.declared.code.Parts.{Parts}
 use Rattle.ctl_code.specs.declared.code.Parts.TheVariants as PartsOf
-use Rattle.ctl_code.specs.Table.{has_part, has_part_in, is_candidate, numbers_to, parts_of}
+use Rattle.ctl_code.specs.Table.{has_part, has_part_in, is_candidate, numbers_to, parts_in, parts_of}
 use Rattle.ctl_machine.specs.declared.emptying.Candidates.{Candidates}
 use Rattle.ctl_machine.specs.declared.emptying.Member.{Member}
-use Rattle.ctl_machine.specs.Emptying.{AreCounted, IsEnd, IsMember, IsTaken, IsWith, due, is_ahead, is_counted, is_due, is_due_in, is_passed, taken_of, taken_with}
+use Rattle.ctl_machine.specs.Emptying.{AreCounted, IsEnd, IsMember, IsTaken, IsWith, due, is_ahead, is_counted, is_due, is_passed, taken_with}
 use Rattle.ctl_machine.specs.Filling.{pick_among}
+use Rattle.ctl_machine.specs.Needs.{need_of, needs_of}
 use Rattle.ctl_machine.specs.Owned.{AreFromTo}
 
 -- Numbers of collections -----------------------------------------------------------------------------------
@@ -147,11 +151,30 @@ undue true true b = refl
 undue true false b = refl
 undue false u b = refl
 
-outside : (h j u : Bool) → (h && (j && (u && false))) ≡ false
-outside true true true = refl
-outside true true false = refl
-outside true false u = refl
-outside false j u = refl
+outside : (j u : Bool) → (j && (u && false)) ≡ false
+outside true true = refl
+outside true false = refl
+outside false u = refl
+
+-- What the record types need -------------------------------------------------------------------------------
+
+-- a record type needs finalization just if some part of its objects is controlled
+abbrev pub AreKnown : Code → List Need → Type 0
+AreKnown code needs = (t : ℕ) → needs_finalization needs t ≡ has_part (parts_of code t)
+
+pub needs_known : (code : Code) (needs : List Need) → needs ≡ needs_of code → AreKnown code needs
+needs_known code needs is t =
+    ap (λ (l : List Need). needs_finalization l t) is
+    ∙ (ap (λ (x : Option Need). option_map_or is_finalization x false) (slice_get-map (λ (x : Layout). need_of x.parts) code.layouts.items t) ∙ by (slice_get code.layouts.items t))
+  where
+    known : (p : Parts) → is_finalization (need_of p) ≡ has_part p
+    known PartsOf.Plain = refl
+    known PartsOf.Controlled = refl
+    known PartsOf.Within = refl
+
+    by : (x : Option Layout) → option_map_or is_finalization (option_map (λ (y : Layout). need_of y.parts) x) false ≡ has_part (parts_in x)
+    by None = refl
+    by (Some x) = known x.parts
 
 -- The groups come one after another ------------------------------------------------------------------------
 
@@ -159,106 +182,112 @@ from_later : (start : Start) (g h : Group) → is_from start g ≡ true → prec
 from_later (Collection c) g h from before = grind (arith, nat_tests, from, before)
 from_later (Behind a) g h from before = later a g h from before
 
-abbrev counted_by : Code → ℕ → ℕ → Start → Bool → State → Origin → Ty → Bool
-counted_by code first last start j s x ty = (j && (is_untouched s && has_part_in code ty)) && (is_between first last x && is_passed start (group_by x ty))
+abbrev counted_by : Code → List Need → ℕ → ℕ → Start → Bool → State → Origin → Ty → Bool
+counted_by code needs first last start j s x ty = (j && (is_untouched s && has_part_in code ty)) && (is_between first last x && is_passed start (group_by needs x ty))
 
-abbrev in_by : Group → Origin → Ty → Bool
-in_by g x ty = option_map_or (λ h. is_same h g) (group_by x ty) false
+-- this is a group
+abbrev is_so : Group → Option Group → Bool
+is_so g r = option_map_or (λ h. is_same h g) r false
 
-abbrev due_by : Code → Group → Bool → State → Origin → Ty → Bool
-due_by code g j s x ty = has_part (parts_of code g.record_type) && (j && (is_untouched s && in_by g x ty))
+abbrev in_by : List Need → Group → Origin → Ty → Bool
+in_by needs g x ty = is_so g (group_by needs x ty)
 
--- no group before this one, from the start on, has an object that is untouched
-abbrev NoneBetween : Start → Group → Bool → Origin → Ty → Type 0
-NoneBetween start g u x ty = (h : Group) → is_from start h ≡ true → precedes h g ≡ true → (u && in_by h x ty) ≡ false
+abbrev waits_by : List Need → Group → Bool → State → Origin → Ty → Bool
+waits_by needs g j s x ty = j && (is_untouched s && in_by needs g x ty)
 
-zeros : (h j u b c : Bool) → one ((j && (u && false)) && b) ≡ one ((j && (u && false)) && c) + one (h && (j && (u && false)))
-zeros h j u b c =
+-- an object whose group this is, if it has one, is untouched in no group before this one, from the start on
+abbrev NoneBetween : Start → Group → Bool → Option Group → Type 0
+NoneBetween start g u r = (h : Group) → is_from start h ≡ true → precedes h g ≡ true → (u && is_so h r) ≡ false
+
+zeros : (j u b c : Bool) → one ((j && (u && false)) && b) ≡ one ((j && (u && false)) && c) + one (j && (u && false))
+zeros j u b c =
     let p : one ((j && (u && false)) && b) ≡ 0 = ap one (undue j u b) in
     let q : one ((j && (u && false)) && c) ≡ 0 = ap one (undue j u c) in
-    let r : one (h && (j && (u && false))) ≡ 0 = ap one (outside h j u) in
+    let r : one (j && (u && false)) ≡ 0 = ap one (outside j u) in
     omega (arith, p, q, r)
 
--- one object: it is counted before, or with the group (h: its parts are controlled; b: it is between; f: its group comes from the start on;
--- q: it comes behind the group; same: it is the group)
-one_object : (h hg j u b f q same : Bool) → (q ≡ true → f ≡ true) → (same ≡ true → (f ≡ true) × (q ≡ false) × (b ≡ true) × (hg ≡ h)) → (same ≡ false → q ≡ false → f ≡ true → u ≡ false)
-    → one ((j && (u && h)) && (b && not q)) ≡ one ((j && (u && h)) && (b && not f)) + one (hg && (j && (u && same)))
-one_object h hg j u b false q true behind own between = absurd (let it = (own refl).0 in cc)
-one_object h hg j u b true true true behind own between = absurd (let it = (own refl).1 in cc)
-one_object h hg j u b true false true behind own between =
-    let it = own refl in
-    subst (λ (c : Bool). one ((j && (u && h)) && (c && true)) ≡ one ((j && (u && h)) && (c && false)) + one (hg && (j && (u && true)))) (sym it.2)
-    (subst (λ (c : Bool). one ((j && (u && h)) && true) ≡ one ((j && (u && h)) && false) + one (c && (j && (u && true)))) (sym it.3) (by h j u))
+-- one object that has a group: it is counted before, or with the group (b: it is between; f: its group comes from the start on; q: it comes
+-- behind the group; same: it is the group)
+one_object : (j u b f q same : Bool) → (q ≡ true → f ≡ true) → (same ≡ true → (f ≡ true) × (q ≡ false) × (b ≡ true)) → (same ≡ false → q ≡ false → f ≡ true → u ≡ false)
+    → one ((j && (u && true)) && (b && not q)) ≡ one ((j && (u && true)) && (b && not f)) + one (j && (u && same))
+one_object j u b false q true behind own between = absurd (let it = (own refl).0 in cc)
+one_object j u b true true true behind own between = absurd (let it = (own refl).1 in cc)
+one_object j u b true false true behind own between =
+    subst (λ (c : Bool). one ((j && (u && true)) && (c && true)) ≡ one ((j && (u && true)) && (c && false)) + one (j && (u && true))) (sym (own refl).2) (by j u)
   where
-    by : (h j u : Bool) → one ((j && (u && h)) && true) ≡ one ((j && (u && h)) && false) + one (h && (j && (u && true)))
-    by true true true = refl
-    by true true false = refl
-    by true false u = refl
-    by false true true = refl
-    by false true false = refl
-    by false false u = refl
-one_object h hg j u b true true false behind own between = let none : one (hg && (j && (u && false))) ≡ 0 = ap one (outside hg j u) in omega (arith, none)
-one_object h hg j u b false true false behind own between = absurd (let it = behind refl in cc)
-one_object h hg j u b false false false behind own between = let none : one (hg && (j && (u && false))) ≡ 0 = ap one (outside hg j u) in omega (arith, none)
-one_object h hg j u b true false false behind own between =
-    let none : one (hg && (j && (u && false))) ≡ 0 = ap one (outside hg j u) in
-    let p : one ((j && (u && h)) && (b && true)) ≡ 0 = ap (λ c. one ((j && (c && h)) && (b && true))) (between refl refl refl) ∙ ap one (begun j (b && true)) in
-    let q : one ((j && (u && h)) && (b && false)) ≡ 0 = ap (λ c. one ((j && (c && h)) && (b && false))) (between refl refl refl) ∙ ap one (begun j (b && false)) in
+    by : (j u : Bool) → one ((j && (u && true)) && true) ≡ one ((j && (u && true)) && false) + one (j && (u && true))
+    by true true = refl
+    by true false = refl
+    by false u = refl
+one_object j u b true true false behind own between = let none : one (j && (u && false)) ≡ 0 = ap one (outside j u) in omega (arith, none)
+one_object j u b false true false behind own between = absurd (let it = behind refl in cc)
+one_object j u b false false false behind own between = let none : one (j && (u && false)) ≡ 0 = ap one (outside j u) in omega (arith, none)
+one_object j u b true false false behind own between =
+    let none : one (j && (u && false)) ≡ 0 = ap one (outside j u) in
+    let p : one ((j && (u && true)) && (b && true)) ≡ 0 = ap (λ c. one ((j && (c && true)) && (b && true))) (between refl refl refl) ∙ ap one (begun j (b && true)) in
+    let q : one ((j && (u && true)) && (b && false)) ≡ 0 = ap (λ c. one ((j && (c && true)) && (b && false))) (between refl refl refl) ∙ ap one (begun j (b && false)) in
     omega (arith, none, p, q)
   where
     begun : (j b : Bool) → ((j && false) && b) ≡ false
     begun true b = refl
     begun false b = refl
 
-one_more : (code : Code) (first last : ℕ) (start : Start) (g : Group) (j : Bool) (s : State) (x : Origin) (ty : Ty) → is_from start g ≡ true → first ≤ g.collection → g.collection ≤ last → NoneBetween start g (is_untouched s) x ty
-    → one (counted_by code first last (Behind g) j s x ty) ≡ one (counted_by code first last start j s x ty) + one (due_by code g j s x ty)
-one_more code first last start g j s (Declared m) ty from low high none =
-    let a = is_untouched s in
-    let p : one (counted_by code first last (Behind g) j s (Declared m) ty) ≡ 0 = ap one (right_false (j && (a && has_part_in code ty))) in
-    let q : one (counted_by code first last start j s (Declared m) ty) ≡ 0 = ap one (right_false (j && (a && has_part_in code ty))) in
-    let r : one (due_by code g j s (Declared m) ty) ≡ 0 = ap one (outside (has_part (parts_of code g.record_type)) j a) in
-    omega (arith, p, q, r)
-one_more code first last start g j s (Allocated c p) TyOf.Integer from low high none = zeros (has_part (parts_of code g.record_type)) j (is_untouched s) (is_between first last (Allocated c p) && false) (is_between first last (Allocated c p) && false)
-one_more code first last start g j s (Allocated c p) TyOf.Count from low high none = zeros (has_part (parts_of code g.record_type)) j (is_untouched s) (is_between first last (Allocated c p) && false) (is_between first last (Allocated c p) && false)
-one_more code first last start g j s (Allocated c p) TyOf.Boolean from low high none = zeros (has_part (parts_of code g.record_type)) j (is_untouched s) (is_between first last (Allocated c p) && false) (is_between first last (Allocated c p) && false)
-one_more code first last start g j s (Allocated c p) TyOf.Address from low high none = zeros (has_part (parts_of code g.record_type)) j (is_untouched s) (is_between first last (Allocated c p) && false) (is_between first last (Allocated c p) && false)
-one_more code first last start g j s (Allocated c p) TyOf.Handle from low high none = zeros (has_part (parts_of code g.record_type)) j (is_untouched s) (is_between first last (Allocated c p) && false) (is_between first last (Allocated c p) && false)
-one_more code first last start g j s (Allocated c p) (TyOf.Access t) from low high none = zeros (has_part (parts_of code g.record_type)) j (is_untouched s) (is_between first last (Allocated c p) && false) (is_between first last (Allocated c p) && false)
-one_more code first last start g j s (Allocated c p) (Record t) from low high none =
-    one_object (has_part (parts_of code t)) (has_part (parts_of code g.record_type)) j (is_untouched s) (is_between first last (Allocated c p)) (is_from start own) (precedes g own) (is_same own g) (from_later start g own from) here between
+not_untouched : (g : Group) (u : Bool) → (u && is_same g g) ≡ false → u ≡ false
+not_untouched g false is = refl
+not_untouched g true is = absurd (never (is_same g g) (same_self g) is)
+
+-- the group of an object of a record type, if that needs finalization
+abbrev group_if : Bool → Group → Option Group
+group_if needed g = cond needed (Some g) None
+
+one_record : (start : Start) (g own : Group) (needed j u b : Bool) → is_from start g ≡ true → (own ≡ g → b ≡ true) → NoneBetween start g u (group_if needed own)
+    → one ((j && (u && needed)) && (b && is_passed (Behind g) (group_if needed own))) ≡ one ((j && (u && needed)) && (b && is_passed start (group_if needed own))) + one (j && (u && is_so g (group_if needed own)))
+one_record start g own false j u b from within none = zeros j u (b && false) (b && false)
+one_record start g own true j u b from within none = one_object j u b (is_from start own) (precedes g own) (is_same own g) (from_later start g own from) here between
   where
-    own : Group
-    own = record { collection = c; record_type = t }
+    here : is_same own g ≡ true → (is_from start own ≡ true) × (precedes g own ≡ false) × (b ≡ true)
+    here same = let is : own ≡ g = same_is own g same in (ap (λ (h : Group). is_from start h) is ∙ from, ap (λ (h : Group). precedes g h) is ∙ not_itself g, within is)
 
-    here : is_same own g ≡ true → (is_from start own ≡ true) × (precedes g own ≡ false) × (is_between first last (Allocated c p) ≡ true) × (has_part (parts_of code g.record_type) ≡ has_part (parts_of code t))
-    here same =
-        let is : own ≡ g = same_is own g same in
-        let set : c ≡ g.collection = ap (λ (h : Group). h.collection) is in (
-          ap (λ (h : Group). is_from start h) is ∙ from,
-          ap (λ (h : Group). precedes g h) is ∙ not_itself g,
-          within set,
-          ap (λ (h : Group). has_part (parts_of code h.record_type)) (sym is),
-        )
-      where
-        within : c ≡ g.collection → (nat_le first c && nat_le c last) ≡ true
-        within set = grind (arith, nat_tests, set, low, high)
-
-    untouched : (u : Bool) → (u && is_same own own) ≡ false → u ≡ false
-    untouched false is = refl
-    untouched true is = absurd (never (is_same own own) (same_self own) is)
-
-    between : is_same own g ≡ false → precedes g own ≡ false → is_from start own ≡ true → is_untouched s ≡ false
-    between differs not_behind from_start = untouched (is_untouched s) (none own from_start (before (precedes own g) refl))
+    between : is_same own g ≡ false → precedes g own ≡ false → is_from start own ≡ true → u ≡ false
+    between differs not_behind from_start = not_untouched own u (none own from_start (before (precedes own g) refl))
       where
         before : (b : Bool) → precedes own g ≡ b → precedes own g ≡ true
         before true is = is
         before false is = absurd (never (is_same own g) (neither own g is not_behind) differs)
 
+one_more : (code : Code) (needs : List Need) (first last : ℕ) (start : Start) (g : Group) (j : Bool) (s : State) (x : Origin) (ty : Ty) → AreKnown code needs → is_from start g ≡ true → first ≤ g.collection → g.collection ≤ last
+    → NoneBetween start g (is_untouched s) (group_by needs x ty)
+    → one (counted_by code needs first last (Behind g) j s x ty) ≡ one (counted_by code needs first last start j s x ty) + one (waits_by needs g j s x ty)
+one_more code needs first last start g j s (Declared m) ty known from low high none =
+    let a = is_untouched s in
+    let p : one (counted_by code needs first last (Behind g) j s (Declared m) ty) ≡ 0 = ap one (right_false (j && (a && has_part_in code ty))) in
+    let q : one (counted_by code needs first last start j s (Declared m) ty) ≡ 0 = ap one (right_false (j && (a && has_part_in code ty))) in
+    let r : one (waits_by needs g j s (Declared m) ty) ≡ 0 = ap one (outside j a) in
+    omega (arith, p, q, r)
+one_more code needs first last start g j s (Allocated c p) TyOf.Integer known from low high none = zeros j (is_untouched s) (is_between first last (Allocated c p) && false) (is_between first last (Allocated c p) && false)
+one_more code needs first last start g j s (Allocated c p) TyOf.Count known from low high none = zeros j (is_untouched s) (is_between first last (Allocated c p) && false) (is_between first last (Allocated c p) && false)
+one_more code needs first last start g j s (Allocated c p) TyOf.Boolean known from low high none = zeros j (is_untouched s) (is_between first last (Allocated c p) && false) (is_between first last (Allocated c p) && false)
+one_more code needs first last start g j s (Allocated c p) TyOf.Address known from low high none = zeros j (is_untouched s) (is_between first last (Allocated c p) && false) (is_between first last (Allocated c p) && false)
+one_more code needs first last start g j s (Allocated c p) TyOf.Handle known from low high none = zeros j (is_untouched s) (is_between first last (Allocated c p) && false) (is_between first last (Allocated c p) && false)
+one_more code needs first last start g j s (Allocated c p) (TyOf.Access t) known from low high none = zeros j (is_untouched s) (is_between first last (Allocated c p) && false) (is_between first last (Allocated c p) && false)
+one_more code needs first last start g j s (Allocated c p) (Record t) known from low high none =
+    subst (λ part. one ((j && (is_untouched s && part)) && (is_between first last (Allocated c p) && is_passed (Behind g) (group_if needed own))) ≡ one ((j && (is_untouched s && part)) && (is_between first last (Allocated c p) && is_passed start (group_if needed own))) + one (waits_by needs g j s (Allocated c p) (Record t)))
+    (known t) (one_record start g own needed j (is_untouched s) (is_between first last (Allocated c p)) from (λ is. within (ap (λ (h : Group). h.collection) is)) none)
+  where
+    own : Group
+    own = record { collection = c; record_type = t }
+
+    needed : Bool
+    needed = needs_finalization needs t
+
+    within : c ≡ g.collection → (nat_le first c && nat_le c last) ≡ true
+    within set = grind (arith, nat_tests, set, low, high)
+
 -- each object is counted before, or with the group
-each_object : (code : Code) (first last : ℕ) (start : Start) (w : Waiting) (os : List Object) → ((g : Group) → is_from start g ≡ true → first ≤ g.collection) → IsNextGroup start last (Some w) os → (o : Object) → object_in o.number os ≡ Some o
-    → one (is_counted code first last (Behind w.group) o) ≡ one (is_counted code first last start o) + one (is_due_in code w.group o)
-each_object code first last start w os within next o there =
-    one_more code first last start w.group o.joined o.state o.origin o.ty next.0 (within w.group next.0) next.1 (λ h from before. sym (ap (test (is_open h)) there) ∙ next.4 h o.number from before)
+each_object : (code : Code) (first last : ℕ) (start : Start) (w : Waiting) (s : Stock) → AreKnown code s.needs → ((g : Group) → is_from start g ≡ true → first ≤ g.collection) → IsNextGroup s.needs start last (Some w) s.objects → (o : Object) → object_in o.number s.objects ≡ Some o
+    → one (is_counted code s.needs first last (Behind w.group) o) ≡ one (is_counted code s.needs first last start o) + one (is_waiting s.needs w.group o)
+each_object code first last start w s known within next o there =
+    one_more code s.needs first last start w.group o.joined o.state o.origin o.ty known next.0 (within w.group next.0) next.1 (λ h from before. sym (ap (test (is_open s.needs h)) there) ∙ next.4 h o.number from before)
 
 -- The first or the last ------------------------------------------------------------------------------------
 
@@ -317,18 +346,25 @@ IsTyped os m = (o : Object) → object_in m.number os ≡ Some o → o.ty ≡ Re
 -- The members are counted ----------------------------------------------------------------------------------
 
 -- its type is the group's
-type_in : (g : Group) (x : Origin) (ty : Ty) → in_by g x ty ≡ true → ty ≡ Record g.record_type
-type_in g (Declared m) ty is = absurd (cc)
-type_in g (Allocated c p) TyOf.Integer is = absurd (cc)
-type_in g (Allocated c p) TyOf.Count is = absurd (cc)
-type_in g (Allocated c p) TyOf.Boolean is = absurd (cc)
-type_in g (Allocated c p) TyOf.Address is = absurd (cc)
-type_in g (Allocated c p) TyOf.Handle is = absurd (cc)
-type_in g (Allocated c p) (TyOf.Access t) is = absurd (cc)
-type_in g (Allocated c p) (Record t) is = ap (λ (h : Group). Record h.record_type) (same_is (record { collection = c; record_type = t }) g is)
+type_in : (needs : List Need) (g : Group) (x : Origin) (ty : Ty) → in_by needs g x ty ≡ true → ty ≡ Record g.record_type
+type_in needs g (Declared m) ty is = absurd (cc)
+type_in needs g (Allocated c p) TyOf.Integer is = absurd (cc)
+type_in needs g (Allocated c p) TyOf.Count is = absurd (cc)
+type_in needs g (Allocated c p) TyOf.Boolean is = absurd (cc)
+type_in needs g (Allocated c p) TyOf.Address is = absurd (cc)
+type_in needs g (Allocated c p) TyOf.Handle is = absurd (cc)
+type_in needs g (Allocated c p) (TyOf.Access t) is = absurd (cc)
+type_in needs g (Allocated c p) (Record t) is = by (needs_finalization needs t) is
+  where
+    own : Group
+    own = record { collection = c; record_type = t }
 
-due_type : (code : Code) (g : Group) (o : Object) → is_due_in code g o ≡ true → o.ty ≡ Record g.record_type
-due_type code g o is = type_in g o.origin o.ty (second_holds (is_untouched o.state) (in_by g o.origin o.ty) (second_holds o.joined (is_open g o) (second_holds (has_part (parts_of code g.record_type)) (is_waiting g o) is)))
+    by : (needed : Bool) → is_so g (group_if needed own) ≡ true → Record t ≡ Record g.record_type
+    by true same = ap (λ (h : Group). Record h.record_type) (same_is own g same)
+    by false none = absurd (cc)
+
+waiting_type : (needs : List Need) (g : Group) (o : Object) → is_waiting needs g o ≡ true → o.ty ≡ Record g.record_type
+waiting_type needs g o is = type_in needs g o.origin o.ty (second_holds (is_untouched o.state) (in_by needs g o.origin o.ty) (second_holds o.joined (is_open needs g o) is))
 
 one_is : (a b c : Bool) → one a ≡ one b + one c → b ≡ true → a ≡ true
 one_is true b c e is = refl
@@ -346,9 +382,9 @@ either_is a false true e is = inr refl
 either_is true false false e is = absurd (let no = e in omega (arith, no))
 either_is false false false e is = absurd (cc)
 
-pub counted_next : (code : Code) (order : Order) (first last : ℕ) (os : List Object) (start : Start) (w : Waiting) (found more : Candidates) → Rise 1 os → IsNextGroup start last (Some w) os → IsWith code order os found w.group more
-    → AreCounted code order first last os start found → AreCounted code order first last os (Behind w.group) more
-counted_next code order first last os start w found more rise next m c = record {
+pub counted_next : (code : Code) (order : Order) (first last : ℕ) (s : Stock) (start : Start) (w : Waiting) (found more : Candidates) → AreKnown code s.needs → Rise 1 s.objects → IsNextGroup s.needs start last (Some w) s.objects → IsWith order s found w.group more
+    → AreCounted code order first last s start found → AreCounted code order first last s (Behind w.group) more
+counted_next code order first last s start w found more known rise next m c = record {
   count = let all = sums after before with_it os (each_there (λ o. one (after o) ≡ one (before o) + one (with_it o)) 1 os rise each) in let had = c.count in let now = m.count in omega (arith, all, had, now);
   end = subst (λ (z : Option Member). IsEnd order (λ k. passes after k os ≡ true) (option_map (λ m. m.number) z)) (sym m.chosen)
       (end_with order (λ k. passes before k os ≡ true) (λ k. passes with_it k os ≡ true) (λ k. passes after k os ≡ true) found.chosen m.member w.group c.end m.end was own back);
@@ -356,17 +392,20 @@ counted_next code order first last os start w found more rise next m c = record 
   within = λ h behind. let from = c.within w.group next.0 in beyond h from behind;
 }
   where
+    os : List Object
+    os = s.objects
+
     after : Object → Bool
-    after = is_counted code first last (Behind w.group)
+    after = is_counted code s.needs first last (Behind w.group)
 
     before : Object → Bool
-    before = is_counted code first last start
+    before = is_counted code s.needs first last start
 
     with_it : Object → Bool
-    with_it = is_due_in code w.group
+    with_it = is_waiting s.needs w.group
 
     each : (o : Object) → object_in o.number os ≡ Some o → one (after o) ≡ one (before o) + one (with_it o)
-    each = each_object code first last start w os c.within next
+    each = each_object code first last start w s known c.within next
 
     found_so : (n : ℕ) (o : Object) → object_in n os ≡ Some o → object_in o.number os ≡ Some o
     found_so n o there = ap (λ k. object_in k os) (number_found n os o there) ∙ there
@@ -388,7 +427,7 @@ counted_next code order first last os start w found more rise next m c = record 
     beyond h from behind = grind (arith, nat_tests, from, behind)
 
     type_of : (n : ℕ) → passes with_it n os ≡ true → (o : Object) → object_in n os ≡ Some o → o.ty ≡ Record w.group.record_type
-    type_of n is o there = due_type code w.group o (sym (ap (test with_it) there) ∙ is)
+    type_of n is o there = waiting_type s.needs w.group o (sym (ap (test with_it) there) ∙ is)
 
     one_of : (b : Bool) (x y : Member) → IsTyped os x → IsTyped os y → IsTyped os (cond b x y)
     one_of true x y p q = p
@@ -402,44 +441,51 @@ counted_next code order first last os start w found more rise next m c = record 
     types OrderOf.Oldest (Some m) (Some n) t l = one_of (nat_lt n m.number) (record { number = n; record_type = w.group.record_type }) m (type_of n l.0) t
 
 -- at the start none is counted
-nothing_yet : (first last : ℕ) (a : Bool) (x : Origin) (ty : Ty) → (a && (is_between first last x && is_passed (Collection first) (group_by x ty))) ≡ false
-nothing_yet first last a (Declared m) ty = right_false a
-nothing_yet first last a (Allocated c p) TyOf.Integer = ap (λ b. a && b) (right_false (is_between first last (Allocated c p))) ∙ right_false a
-nothing_yet first last a (Allocated c p) TyOf.Count = ap (λ b. a && b) (right_false (is_between first last (Allocated c p))) ∙ right_false a
-nothing_yet first last a (Allocated c p) TyOf.Boolean = ap (λ b. a && b) (right_false (is_between first last (Allocated c p))) ∙ right_false a
-nothing_yet first last a (Allocated c p) TyOf.Address = ap (λ b. a && b) (right_false (is_between first last (Allocated c p))) ∙ right_false a
-nothing_yet first last a (Allocated c p) TyOf.Handle = ap (λ b. a && b) (right_false (is_between first last (Allocated c p))) ∙ right_false a
-nothing_yet first last a (Allocated c p) (TyOf.Access t) = ap (λ b. a && b) (right_false (is_between first last (Allocated c p))) ∙ right_false a
-nothing_yet first last a (Allocated c p) (Record t) = ap (λ b. a && b) (by (nat_le first c) (nat_le c last)) ∙ right_false a
+nothing_yet : (needs : List Need) (first last : ℕ) (a : Bool) (x : Origin) (ty : Ty) → (a && (is_between first last x && is_passed (Collection first) (group_by needs x ty))) ≡ false
+nothing_yet needs first last a (Declared m) ty = right_false a
+nothing_yet needs first last a (Allocated c p) TyOf.Integer = ap (λ b. a && b) (right_false (is_between first last (Allocated c p))) ∙ right_false a
+nothing_yet needs first last a (Allocated c p) TyOf.Count = ap (λ b. a && b) (right_false (is_between first last (Allocated c p))) ∙ right_false a
+nothing_yet needs first last a (Allocated c p) TyOf.Boolean = ap (λ b. a && b) (right_false (is_between first last (Allocated c p))) ∙ right_false a
+nothing_yet needs first last a (Allocated c p) TyOf.Address = ap (λ b. a && b) (right_false (is_between first last (Allocated c p))) ∙ right_false a
+nothing_yet needs first last a (Allocated c p) TyOf.Handle = ap (λ b. a && b) (right_false (is_between first last (Allocated c p))) ∙ right_false a
+nothing_yet needs first last a (Allocated c p) (TyOf.Access t) = ap (λ b. a && b) (right_false (is_between first last (Allocated c p))) ∙ right_false a
+nothing_yet needs first last a (Allocated c p) (Record t) = ap (λ b. a && b) (by (needs_finalization needs t)) ∙ right_false a
   where
-    by : (b d : Bool) → ((b && d) && not b) ≡ false
-    by true true = refl
-    by true false = refl
-    by false d = refl
+    own : Group
+    own = record { collection = c; record_type = t }
 
-pub counted_none : (code : Code) (order : Order) (first last : ℕ) (os : List Object) → Rise 1 os → AreCounted code order first last os (Collection first) (record { count = 0; chosen = None })
-counted_none code order first last os rise = record {
-  count = sym (ap (λ (l : List Object). length l) (none_passes before os (rise_lower 0 1 os (omega arith) rise) none));
+    among : (b d : Bool) → ((b && d) && not b) ≡ false
+    among true true = refl
+    among true false = refl
+    among false d = refl
+
+    by : (needed : Bool) → (is_between first last (Allocated c p) && is_passed (Collection first) (group_if needed own)) ≡ false
+    by true = among (nat_le first c) (nat_le c last)
+    by false = right_false (is_between first last (Allocated c p))
+
+pub counted_none : (code : Code) (order : Order) (first last : ℕ) (s : Stock) → Rise 1 s.objects → AreCounted code order first last s (Collection first) (record { count = 0; chosen = None })
+counted_none code order first last s rise = record {
+  count = sym (ap (λ (l : List Object). length l) (none_passes before s.objects (rise_lower 0 1 s.objects (omega arith) rise) none));
   end = by order;
   ty = tt;
   within = λ g from. grind (arith, nat_tests, from);
 }
   where
     before : Object → Bool
-    before = is_counted code first last (Collection first)
+    before = is_counted code s.needs first last (Collection first)
 
-    none : (n : ℕ) → passes before n os ≡ true → ⊥
-    none n is = let it = passing before n os is in never (before it.0) it.2 (nothing_yet first last (is_due code it.0) it.0.origin it.0.ty)
+    none : (n : ℕ) → passes before n s.objects ≡ true → ⊥
+    none n is = let it = passing before n s.objects is in never (before it.0) it.2 (nothing_yet s.needs first last (is_due code it.0) it.0.origin it.0.ty)
 
-    by : (k : Order) → IsEnd k (λ n. passes before n os ≡ true) (option_map (λ (m : Member). m.number) None)
+    by : (k : Order) → IsEnd k (λ n. passes before n s.objects ≡ true) (option_map (λ (m : Member). m.number) None)
     by OrderOf.Newest = none
     by OrderOf.Oldest = none
 
 -- in the end all are counted
-one_left : (h j u b f : Bool) → (f ≡ true → b ≡ true → u ≡ false) → ((j && (u && h)) && (b && not f)) ≡ ((j && (u && h)) && b)
-one_left h j u b false none = ap (λ c. (j && (u && h)) && c) (right_true b)
-one_left h j u false true none = refl
-one_left h j u true true none = ap (λ c. (j && (c && h)) && false) (none refl refl) ∙ (by j ∙ sym (ap (λ c. (j && (c && h)) && true) (none refl refl)))
+one_left : (j u b f : Bool) → (f ≡ true → b ≡ true → u ≡ false) → ((j && (u && true)) && (b && not f)) ≡ ((j && (u && true)) && b)
+one_left j u b false none = ap (λ c. (j && (u && true)) && c) (right_true b)
+one_left j u false true none = refl
+one_left j u true true none = ap (λ c. (j && (c && true)) && false) (none refl refl) ∙ (by j ∙ sym (ap (λ c. (j && (c && true)) && true) (none refl refl)))
   where
     by : (j : Bool) → ((j && false) && false) ≡ ((j && false) && true)
     by true = refl
@@ -448,16 +494,23 @@ one_left h j u true true none = ap (λ c. (j && (c && h)) && false) (none refl r
 both_undue : (j u b c : Bool) → ((j && (u && false)) && b) ≡ ((j && (u && false)) && c)
 both_undue j u b c = undue j u b ∙ sym (undue j u c)
 
-all_counted : (code : Code) (first last : ℕ) (start : Start) (j : Bool) (s : State) (x : Origin) (ty : Ty) → ((h : Group) → is_from start h ≡ true → h.collection ≤ last → (is_untouched s && in_by h x ty) ≡ false)
-    → counted_by code first last start j s x ty ≡ ((j && (is_untouched s && has_part_in code ty)) && is_between first last x)
-all_counted code first last start j s (Declared m) ty none = refl
-all_counted code first last start j s (Allocated c p) TyOf.Integer none = both_undue j (is_untouched s) (is_between first last (Allocated c p) && false) (is_between first last (Allocated c p))
-all_counted code first last start j s (Allocated c p) TyOf.Count none = both_undue j (is_untouched s) (is_between first last (Allocated c p) && false) (is_between first last (Allocated c p))
-all_counted code first last start j s (Allocated c p) TyOf.Boolean none = both_undue j (is_untouched s) (is_between first last (Allocated c p) && false) (is_between first last (Allocated c p))
-all_counted code first last start j s (Allocated c p) TyOf.Address none = both_undue j (is_untouched s) (is_between first last (Allocated c p) && false) (is_between first last (Allocated c p))
-all_counted code first last start j s (Allocated c p) TyOf.Handle none = both_undue j (is_untouched s) (is_between first last (Allocated c p) && false) (is_between first last (Allocated c p))
-all_counted code first last start j s (Allocated c p) (TyOf.Access t) none = both_undue j (is_untouched s) (is_between first last (Allocated c p) && false) (is_between first last (Allocated c p))
-all_counted code first last start j s (Allocated c p) (Record t) none = one_left (has_part (parts_of code t)) j (is_untouched s) (is_between first last (Allocated c p)) (is_from start own) (λ from between. untouched (is_untouched s) (none own from (up_to between)))
+record_left : (start : Start) (own : Group) (needed j u b : Bool) → (is_from start own ≡ true → b ≡ true → (u && is_so own (group_if needed own)) ≡ false)
+    → ((j && (u && needed)) && (b && is_passed start (group_if needed own))) ≡ ((j && (u && needed)) && b)
+record_left start own false j u b none = both_undue j u (b && false) b
+record_left start own true j u b none = one_left j u b (is_from start own) (λ from between. not_untouched own u (none from between))
+
+all_counted : (code : Code) (needs : List Need) (first last : ℕ) (start : Start) (j : Bool) (s : State) (x : Origin) (ty : Ty) → AreKnown code needs → ((h : Group) → is_from start h ≡ true → h.collection ≤ last → (is_untouched s && in_by needs h x ty) ≡ false)
+    → counted_by code needs first last start j s x ty ≡ ((j && (is_untouched s && has_part_in code ty)) && is_between first last x)
+all_counted code needs first last start j s (Declared m) ty known none = refl
+all_counted code needs first last start j s (Allocated c p) TyOf.Integer known none = both_undue j (is_untouched s) (is_between first last (Allocated c p) && false) (is_between first last (Allocated c p))
+all_counted code needs first last start j s (Allocated c p) TyOf.Count known none = both_undue j (is_untouched s) (is_between first last (Allocated c p) && false) (is_between first last (Allocated c p))
+all_counted code needs first last start j s (Allocated c p) TyOf.Boolean known none = both_undue j (is_untouched s) (is_between first last (Allocated c p) && false) (is_between first last (Allocated c p))
+all_counted code needs first last start j s (Allocated c p) TyOf.Address known none = both_undue j (is_untouched s) (is_between first last (Allocated c p) && false) (is_between first last (Allocated c p))
+all_counted code needs first last start j s (Allocated c p) TyOf.Handle known none = both_undue j (is_untouched s) (is_between first last (Allocated c p) && false) (is_between first last (Allocated c p))
+all_counted code needs first last start j s (Allocated c p) (TyOf.Access t) known none = both_undue j (is_untouched s) (is_between first last (Allocated c p) && false) (is_between first last (Allocated c p))
+all_counted code needs first last start j s (Allocated c p) (Record t) known none =
+    subst (λ part. ((j && (is_untouched s && part)) && (is_between first last (Allocated c p) && is_passed start (group_by needs (Allocated c p) (Record t)))) ≡ ((j && (is_untouched s && part)) && is_between first last (Allocated c p))) (known t)
+    (record_left start own (needs_finalization needs t) j (is_untouched s) (is_between first last (Allocated c p)) (λ from between. none own from (up_to between)))
   where
     own : Group
     own = record { collection = c; record_type = t }
@@ -465,18 +518,15 @@ all_counted code first last start j s (Allocated c p) (Record t) none = one_left
     up_to : (nat_le first c && nat_le c last) ≡ true → c ≤ last
     up_to is = let less = second_holds (nat_le first c) (nat_le c last) is in grind (arith, nat_tests, less)
 
-    untouched : (u : Bool) → (u && is_same own own) ≡ false → u ≡ false
-    untouched false is = refl
-    untouched true is = absurd (never (is_same own own) (same_self own) is)
-
-counted_due : (code : Code) (first last : ℕ) (start : Start) (sets : List ℕ) (os : List Object) → Rise 1 os → AreFromTo first last sets → IsNextGroup start last None os → keep (is_counted code first last start) os ≡ due code sets os
-counted_due code first last start sets os rise range next = kept_same (is_counted code first last start) (is_candidate code sets) os (each_there (λ o. is_counted code first last start o ≡ is_candidate code sets o) 1 os rise (λ o there.
-    all_counted code first last start o.joined o.state o.origin o.ty (λ h from to. sym (ap (test (is_open h)) there) ∙ next h o.number from to)
+counted_due : (code : Code) (first last : ℕ) (start : Start) (sets : List ℕ) (s : Stock) → AreKnown code s.needs → Rise 1 s.objects → AreFromTo first last sets → IsNextGroup s.needs start last None s.objects → keep (is_counted code s.needs first last start) s.objects ≡ due code sets s.objects
+counted_due code first last start sets s known rise range next =
+    kept_same (is_counted code s.needs first last start) (is_candidate code sets) s.objects (each_there (λ o. is_counted code s.needs first last start o ≡ is_candidate code sets o) 1 s.objects rise (λ o there.
+    all_counted code s.needs first last start o.joined o.state o.origin o.ty known (λ h from to. sym (ap (test (is_open s.needs h)) there) ∙ next h o.number from to)
     ∙ ap (λ b. is_due code o && b) (sym (group_is first last sets o.origin range))))
 
-pub counted_all : (code : Code) (order : Order) (first last : ℕ) (start : Start) (sets : List ℕ) (os : List Object) (found : Candidates) → Rise 1 os → AreFromTo first last sets → IsNextGroup start last None os → AreCounted code order first last os start found
-    → found.count ≡ length (due code sets os)
-counted_all code order first last start sets os found rise range next c = c.count ∙ ap (λ (l : List Object). length l) (counted_due code first last start sets os rise range next)
+pub counted_all : (code : Code) (order : Order) (first last : ℕ) (start : Start) (sets : List ℕ) (s : Stock) (found : Candidates) → AreKnown code s.needs → Rise 1 s.objects → AreFromTo first last sets → IsNextGroup s.needs start last None s.objects → AreCounted code order first last s start found
+    → found.count ≡ length (due code sets s.objects)
+counted_all code order first last start sets s found known rise range next c = c.count ∙ ap (λ (l : List Object). length l) (counted_due code first last start sets s known rise range next)
 
 has_some_part : (p : Parts) → has_part p ≡ true → p ≢ PartsOf.Plain
 has_some_part PartsOf.Plain h is = absurd (cc)
@@ -492,12 +542,15 @@ first_holds : (a b : Bool) → (a && b) ≡ true → a ≡ true
 first_holds true b h = refl
 first_holds false b h = absurd (cc)
 
-pub taken_all : (code : Code) (order : Order) (first last : ℕ) (start : Start) (sets : List ℕ) (os : List Object) (found : Candidates) → Rise 1 os → AreFromTo first last sets → IsNextGroup start last None os → AreCounted code order first last os start found
-    → IsTaken code order found.count (due code sets os) found.chosen
-taken_all code order first last start sets os found rise range next c = subst (λ (l : List Object). IsTaken code order found.count l found.chosen) (counted_due code first last start sets os rise range next) (by order found.chosen c.end c.ty)
+pub taken_all : (code : Code) (order : Order) (first last : ℕ) (start : Start) (sets : List ℕ) (s : Stock) (found : Candidates) → AreKnown code s.needs → Rise 1 s.objects → AreFromTo first last sets → IsNextGroup s.needs start last None s.objects → AreCounted code order first last s start found
+    → IsTaken code order found.count (due code sets s.objects) found.chosen
+taken_all code order first last start sets s found known rise range next c = subst (λ (l : List Object). IsTaken code order found.count l found.chosen) (counted_due code first last start sets s known rise range next) (by order found.chosen c.end c.ty)
   where
+    os : List Object
+    os = s.objects
+
     before : Object → Bool
-    before = is_counted code first last start
+    before = is_counted code s.needs first last start
 
     low : Rise 0 os
     low = rise_lower 0 1 os (omega arith) rise
@@ -530,25 +583,25 @@ taken_all code order first last start sets os found rise range next c = subst (�
 
 -- There are not too many -----------------------------------------------------------------------------------
 
-counted_allocated : (code : Code) (first last : ℕ) (start : Start) (o : Object) → is_counted code first last start o ≡ true → is_allocated o.origin ≡ true
-counted_allocated code first last start o is = by o.origin (second_holds (is_due code o) (is_between first last o.origin && is_passed start (group_of o)) is)
+counted_allocated : (code : Code) (needs : List Need) (first last : ℕ) (start : Start) (o : Object) → is_counted code needs first last start o ≡ true → is_allocated o.origin ≡ true
+counted_allocated code needs first last start o is = by o.origin (second_holds (is_due code o) (is_between first last o.origin && is_passed start (group_of needs o)) is)
   where
-    by : (x : Origin) → (is_between first last x && is_passed start (group_by x o.ty)) ≡ true → is_allocated x ≡ true
+    by : (x : Origin) → (is_between first last x && is_passed start (group_by needs x o.ty)) ≡ true → is_allocated x ≡ true
     by (Declared m) t = absurd (cc)
     by (Allocated c p) t = refl
 
-waiting_allocated : (g : Group) (o : Object) → is_waiting g o ≡ true → is_allocated o.origin ≡ true
-waiting_allocated g o is = by o.origin (second_holds (is_untouched o.state) (in_by g o.origin o.ty) (second_holds o.joined (is_open g o) is))
+waiting_allocated : (needs : List Need) (g : Group) (o : Object) → is_waiting needs g o ≡ true → is_allocated o.origin ≡ true
+waiting_allocated needs g o is = by o.origin (second_holds (is_untouched o.state) (in_by needs g o.origin o.ty) (second_holds o.joined (is_open needs g o) is))
   where
-    by : (x : Origin) → in_by g x o.ty ≡ true → is_allocated x ≡ true
+    by : (x : Origin) → in_by needs g x o.ty ≡ true → is_allocated x ≡ true
     by (Declared m) t = absurd (cc)
     by (Allocated c p) t = refl
 
-pub few_counted : (code : Code) (order : Order) (first last : ℕ) (os : List Object) (start : Start) (w : Waiting) (found : Candidates) → length (keep (λ o. is_allocated o.origin) os) < 2 ^ 63 → w.count ≡ length (keep (is_waiting w.group) os)
-    → AreCounted code order first last os start found → found.count + w.count < 2 ^ 64
-few_counted code order first last os start w found few many c =
-    let a = no_fewer (is_counted code first last start) (λ o. is_allocated o.origin) os (counted_allocated code first last start) in
-    let b = no_fewer (is_waiting w.group) (λ o. is_allocated o.origin) os (waiting_allocated w.group) in
+pub few_counted : (code : Code) (order : Order) (first last : ℕ) (s : Stock) (start : Start) (w : Waiting) (found : Candidates) → length (keep (λ o. is_allocated o.origin) s.objects) < 2 ^ 63 → w.count ≡ length (keep (is_waiting s.needs w.group) s.objects)
+    → AreCounted code order first last s start found → found.count + w.count < 2 ^ 64
+few_counted code order first last s start w found few many c =
+    let a = no_fewer (is_counted code s.needs first last start) (λ o. is_allocated o.origin) s.objects (counted_allocated code s.needs first last start) in
+    let b = no_fewer (is_waiting s.needs w.group) (λ o. is_allocated o.origin) s.objects (waiting_allocated s.needs w.group) in
     let count = c.count in
     omega (arith, few, many, a, b, count)
 
@@ -557,75 +610,17 @@ few_counted code order first last os start w found few many c =
 abbrev ahead_of : Start → Option Group → Bool
 ahead_of start r = option_map_or (λ g. is_from start g) r false
 
-in_group : (g : Group) (r : Option Group) → option_map_or (λ h. is_same h g) r false ≡ true → r ≡ Some g
+in_group : (g : Group) (r : Option Group) → is_so g r ≡ true → r ≡ Some g
 in_group g None is = absurd (cc)
 in_group g (Some h) is = ap (λ (x : Group). Some x) (same_is h g is)
 
-pub fewer_ahead : (os : List Object) (start : Start) (last : ℕ) (w : Waiting) → Rise 1 os → IsNextGroup start last (Some w) os → length (keep (is_ahead (Behind w.group)) os) < length (keep (is_ahead start) os)
-fewer_ahead os start last w rise next =
-    let it = passing (is_open w.group) next.2.0 os next.2.1 in
-    let own : group_of it.0 ≡ Some w.group = in_group w.group (group_of it.0) (second_holds (is_untouched it.0.state) (in_by w.group it.0.origin it.0.ty) it.2) in
-    fewer_left (is_ahead (Behind w.group)) (is_ahead start) next.2.0 1 os rise (λ o is. by (group_of o) is) (ap (test (is_ahead (Behind w.group))) it.1 ∙ (ap (ahead_of (Behind w.group)) own ∙ not_itself w.group))
-    (ap (test (is_ahead start)) it.1 ∙ (ap (ahead_of start) own ∙ next.0))
+pub fewer_ahead : (s : Stock) (start : Start) (last : ℕ) (w : Waiting) → Rise 1 s.objects → IsNextGroup s.needs start last (Some w) s.objects → length (keep (is_ahead s.needs (Behind w.group)) s.objects) < length (keep (is_ahead s.needs start) s.objects)
+fewer_ahead s start last w rise next =
+    let it = passing (is_open s.needs w.group) next.2.0 s.objects next.2.1 in
+    let own : group_of s.needs it.0 ≡ Some w.group = in_group w.group (group_of s.needs it.0) (second_holds (is_untouched it.0.state) (in_by s.needs w.group it.0.origin it.0.ty) it.2) in
+    fewer_left (is_ahead s.needs (Behind w.group)) (is_ahead s.needs start) next.2.0 1 s.objects rise (λ o is. by (group_of s.needs o) is) (ap (test (is_ahead s.needs (Behind w.group))) it.1 ∙ (ap (ahead_of (Behind w.group)) own ∙ not_itself w.group))
+    (ap (test (is_ahead s.needs start)) it.1 ∙ (ap (ahead_of start) own ∙ next.0))
   where
     by : (r : Option Group) → option_map_or (λ h. precedes w.group h) r false ≡ true → ahead_of start r ≡ true
     by None is = absurd (cc)
     by (Some h) is = from_later start w.group h next.0 is
-
--- A group whose objects have no controlled part ------------------------------------------------------------
-
-pub plain_with : (code : Code) (order : Order) (os : List Object) (found : Candidates) (g : Group) → parts_of code g.record_type ≡ PartsOf.Plain → IsWith code order os found g found
-plain_with code order os found g plain = record {
-  count = let none = nothing os in omega (arith, none);
-  member = None;
-  end = by order;
-  chosen = refl;
-}
-  where
-    fails : (o : Object) → is_due_in code g o ≡ false
-    fails o = ap (λ p. has_part p && is_waiting g o) plain
-
-    no_one : (n : ℕ) → passes (is_due_in code g) n os ≡ true → ⊥
-    no_one n is = let it = passing (is_due_in code g) n os is in never (is_due_in code g it.0) it.2 (fails it.0)
-
-    by : (k : Order) → IsEnd k (λ n. passes (is_due_in code g) n os ≡ true) None
-    by OrderOf.Newest = no_one
-    by OrderOf.Oldest = no_one
-
-    nothing : (l : List Object) → length (keep (is_due_in code g) l) ≡ 0
-    nothing [] = length_none (is_due_in code g)
-    nothing (x ∷ xs) =
-        let more = length_more (is_due_in code g) x xs in
-        let rest = nothing xs in
-        let out : one (is_due_in code g x) ≡ 0 = ap one (fails x) in
-        omega (arith, more, rest, out)
-
--- A group whose objects have one
-pub group_with : (code : Code) (order : Order) (os : List Object) (found more : Candidates) (w : Waiting) → parts_of code w.group.record_type ≢ PartsOf.Plain → w.count ≡ length (keep (is_waiting w.group) os) → more.count ≡ found.count + w.count
-    → (n : Option ℕ) × IsEnd order (λ k. passes (is_waiting w.group) k os ≡ true) n × (more.chosen ≡ taken_with order found.chosen w.group n) → IsWith code order os found w.group more
-group_with code order os found more w parts many count taken = record {
-  count = let all = ap (λ (l : List Object). length l) (kept_same (is_due_in code w.group) (is_waiting w.group) os (each os)) in omega (arith, all, many, count);
-  member = taken.0;
-  end = by order taken.0 taken.1;
-  chosen = taken.2;
-}
-  where
-    has_some : (p : Parts) → p ≢ PartsOf.Plain → has_part p ≡ true
-    has_some PartsOf.Plain h = absurd (h refl)
-    has_some PartsOf.Controlled h = refl
-    has_some PartsOf.Within h = refl
-
-    same : (o : Object) → is_due_in code w.group o ≡ is_waiting w.group o
-    same o = ap (λ b. b && is_waiting w.group o) (has_some (parts_of code w.group.record_type) parts)
-
-    each : (l : List Object) → AllByRecursion (λ o. is_due_in code w.group o ≡ is_waiting w.group o) l
-    each [] = tt
-    each (x ∷ xs) = (same x, each xs)
-
-    same_found : (r : Option Object) → test (is_due_in code w.group) r ≡ test (is_waiting w.group) r
-    same_found None = refl
-    same_found (Some o) = same o
-
-    by : (k : Order) (n : Option ℕ) → IsEnd k (λ m. passes (is_waiting w.group) m os ≡ true) n → IsEnd k (λ m. passes (is_due_in code w.group) m os ≡ true) n
-    by OrderOf.Newest n e = greatest_alike (λ m. passes (is_waiting w.group) m os ≡ true) (λ m. passes (is_due_in code w.group) m os ≡ true) n (λ m q. same_found (object_in m os) ∙ q) (λ m q. sym (same_found (object_in m os)) ∙ q) e
-    by OrderOf.Oldest n e = least_alike (λ m. passes (is_waiting w.group) m os ≡ true) (λ m. passes (is_due_in code w.group) m os ≡ true) n (λ m q. same_found (object_in m os) ∙ q) (λ m q. sym (same_found (object_in m os)) ∙ q) e

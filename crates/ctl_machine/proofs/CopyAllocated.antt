@@ -145,7 +145,7 @@ taken_is code old new access place set t at ty o s b are =
       scalar = b.fine.0;
       leads = b.fine.2.2.1;
       inside = subst (λ (z : Kept). Inside code z b.fine.2.0 s.control x.operands x.world) (sym are) inside;
-      foreign = subst (λ (l : List Owned). OwnsNone (old.numbered.objects + 1) l) (sym (ap (λ (z : Kept). z.owned) are)) (owns_no_next old.owned.items (old.numbered.objects + 1) old.objects b.inside.holds.owns);
+      foreign = subst (λ (l : List Owned). OwnsNone (old.numbered.objects + 1) l) (sym (ap (λ (z : Kept). z.owned) are)) (owns_no_next old.owned.items (old.numbered.objects + 1) old.stock.objects b.inside.holds.owns);
     }
 
 pub taken_makes : (code : Code) (old mid new : Engine) (access place set t at : ℕ) (ty : Ty) (o : W.Object) (s : State) → Before code old place (NewCopy access t ty at) s → mid.events.items ≡ old.events.items → mid.picks.items ≡ old.picks.items
@@ -177,18 +177,18 @@ object_or None = new_object 0 (Record 0) [] (Allocated 0 Standard)
 object_or (Some o) = o
 
 pub source_found : (code : Code) (e : Engine) (access place t at : ℕ) (ty : Ty) (s : State) → Before code e place (NewCopy access t ty at) s → (count number : ℕ) (x : Spot) → count ≡ length e.spots.items → x ≡ slice_index_or e.spots.items (count - 1) x → number ≡ x.object
-    → is_some (object_in number e.objects) ≡ true → object_at (first_spot s.operands).object s.world ≡ Some (object_or (object_at (first_spot s.operands).object s.world))
+    → is_some (object_in number e.stock.objects) ≡ true → object_at (first_spot s.operands).object s.world ≡ Some (object_or (object_at (first_spot s.operands).object s.world))
 source_found code e access place t at ty s b count number x all read is there =
     let y = first_spot s.operands in
     let p = source_part code e access place t at ty s b in
     let same : x ≡ y = newest_read e.spots.items (standing s.control (drop 1 s.operands)) y x count p.spots all read in
-    let some = some_there (object_in number e.objects) there in
-    let found : object_in y.object e.objects ≡ Some some.0 = ap (λ n. object_in n e.objects) (sym (is ∙ ap (λ (z : Spot). z.object) same)) ∙ some.1 in
+    let some = some_there (object_in number e.stock.objects) there in
+    let found : object_in y.object e.stock.objects ≡ Some some.0 = ap (λ n. object_in n e.stock.objects) (sym (is ∙ ap (λ (z : Spot). z.object) same)) ∙ some.1 in
     let shown : object_at y.object s.world ≡ Some some.0 = object_shown code (kept e) s.control s.operands s.world y.object b.inside.holds ∙ found in
     shown ∙ ap (λ (z : Option W.Object). Some (object_or z)) (sym shown)
 
 -- the object of the part is gone
-pub source_gone : (code : Code) (old new : Engine) (access place t at : ℕ) (ty : Ty) (s : State) → Before code old place (NewCopy access t ty at) s → object_in (first_spot s.operands).object old.objects ≡ None
+pub source_gone : (code : Code) (old new : Engine) (access place t at : ℕ) (ty : Ty) (s : State) → Before code old place (NewCopy access t ty at) s → object_in (first_spot s.operands).object old.stock.objects ≡ None
     → GoesOn old new (ModeOf.Stopped UseAfterFree) old.cells.items → Makes code old new (by_instr code (Some (NewCopy access t ty at)) s.operands (here_of place s))
 source_gone code old new access place t at ty s b none goes =
     let y = first_spot s.operands in

@@ -121,7 +121,7 @@ made_so code mid below slot t s m value inside newest =
     let taken = holds_changed code zeros s.control rest created (mid.numbered.objects + 1) (with_cells 0 value) (cells_keep 0 value) h in
     record {
       begun = x;
-      there = ap (λ c. object_at c created) (sym is) ∙ (object_shown code zeros s.control rest created (mid.numbered.objects + 1) h ∙ new_found mid.owned.items (mid.numbered.objects + 1) mid.objects x inside.holds.owns refl);
+      there = ap (λ c. object_at c created) (sym is) ∙ (object_shown code zeros s.control rest created (mid.numbered.objects + 1) h ∙ new_found mid.owned.items (mid.numbered.objects + 1) mid.stock.objects x inside.holds.owns refl);
       holds = subst (λ c. Holds code (with_copy m slot t (size_of code t) value (kept mid)) s.control rest (write_cells c 0 value created)) is taken;
       heads = has.made.heads;
       owned = has.owned;
@@ -132,7 +132,7 @@ made_so code mid below slot t s m value inside newest =
 
 -- the newest object has taken the value of a part of another one, and is to be adjusted
 pub copied_is : (code : Code) (old mid new : Engine) (place slot t : ℕ) (s : State) (m : Master) (o : W.Object) → Before code old place (DeclareCopy slot t) s → kept mid ≡ with_spots (kept old) (standing s.control (drop 1 s.operands))
-    → slice_get mid.masters.items (length mid.masters.items - 1) ≡ Some m → object_in (first_spot s.operands).object mid.objects ≡ Some o
+    → slice_get mid.masters.items (length mid.masters.items - 1) ≡ Some m → object_in (first_spot s.operands).object mid.stock.objects ≡ Some o
     → kept new ≡ with_copy m slot t (size_of code t) (cells_at (first_spot s.operands).offset (size_of code t) o) (kept mid) → new.numbered.objects ≡ mid.numbered.objects + 1
     → IsCopied code new t (place + 1) (copied_at code (place + 1) slot t s) × ((new' : Engine) → new.events.items ≡ old.events.items → new.picks.items ≡ old.picks.items
     → (let x = copied_at code (place + 1) slot t s in Makes code new new' (adjust_new code (parts_of code t) T.ByDeclaration (Table.newborn x.number t (OwnerOf.Master (last_of x.point.display))) x.point x.control x.world)) → Makes code old new' (by_instr code (Some (DeclareCopy slot t)) s.operands (here_of place s)))
@@ -174,7 +174,7 @@ copied_is code old mid new place slot t s m o b mid_is newest there are given =
 table_gone : (code : Code) (slot t : ℕ) (y : Spot) (ops rest : List Word) (h : Here) → ops ≡ Located y ∷ rest → object_at y.object h.world ≡ None → by_declare_copy code slot t ops h ≡ gone h.control h.world
 table_gone code slot t y ops rest h are none = rw (are, none) refl
 
-pub copied_gone : (code : Code) (old new : Engine) (place slot t : ℕ) (s : State) → Before code old place (DeclareCopy slot t) s → object_in (first_spot s.operands).object old.objects ≡ None
+pub copied_gone : (code : Code) (old new : Engine) (place slot t : ℕ) (s : State) → Before code old place (DeclareCopy slot t) s → object_in (first_spot s.operands).object old.stock.objects ≡ None
     → GoesOn old new (ModeOf.Stopped UseAfterFree) old.cells.items → Makes code old new (by_instr code (Some (DeclareCopy slot t)) s.operands (here_of place s))
 copied_gone code old new place slot t s b none goes =
     let g = copied_part code old place slot t s b in

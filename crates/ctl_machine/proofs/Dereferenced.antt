@@ -62,7 +62,7 @@ number_designates : (x : ℕ) (ops : List Word) (h : Here) → x ≢ 0 → by_de
 number_designates zero ops h some = absurd (some refl)
 number_designates (suc x) ops h some = refl
 
-designated_move : (code : Code) (e : Engine) (place t at x : ℕ) (s : State) (o : Option W.Object) → (b : Before code e place (Dereference t at) s) → slice_get e.cells.items (first_window (reverse e.masters.items) + at) ≡ Some x → x ≢ 0 → object_in x e.objects ≡ o
+designated_move : (code : Code) (e : Engine) (place t at x : ℕ) (s : State) (o : Option W.Object) → (b : Before code e place (Dereference t at) s) → slice_get e.cells.items (first_window (reverse e.masters.items) + at) ≡ Some x → x ≢ 0 → object_in x e.stock.objects ≡ o
     → (t' : ℕ) → by_instr code (Some (Dereference t' at)) s.operands (here_of place s) ≡ designated x o (access_on_top code e place t at s b).rest (here_of place s)
 designated_move code e place t at x s o b read some found t' =
     let n = access_on_top code e place t at s b in
@@ -72,7 +72,7 @@ designated_move code e place t at x s o b read some found t' =
     ∙ ap (λ (y : Option W.Object). designated x y n.rest h) (object_shown code (kept e) s.control s.operands s.world x b.inside.holds ∙ found))
 
 -- it has ceased to exist
-pub designated_gone : (code : Code) (old new : Engine) (place t at x : ℕ) (s : State) → Before code old place (Dereference t at) s → slice_get old.cells.items (first_window (reverse old.masters.items) + at) ≡ Some x → x ≢ 0 → object_in x old.objects ≡ None
+pub designated_gone : (code : Code) (old new : Engine) (place t at x : ℕ) (s : State) → Before code old place (Dereference t at) s → slice_get old.cells.items (first_window (reverse old.masters.items) + at) ≡ Some x → x ≢ 0 → object_in x old.stock.objects ≡ None
     → GoesOn old new (ModeOf.Stopped UseAfterFree) old.cells.items → (t' : ℕ) → Makes code old new (by_instr code (Some (Dereference t' at)) s.operands (here_of place s))
 designated_gone code old new place t at x s b read some none g t' =
     subst (λ (m : Move). Makes code old new m) (sym (designated_move code old place t at x s None b read some none t')) (gone_makes code old new s.control s.operands s.world b.inside.holds g)
@@ -86,6 +86,7 @@ in_place code e k x ops w h = record {
   below = h.below;
   waits = h.waits;
   objects = h.objects;
+  needs = h.needs;
   owns = h.owns;
   held = h.held;
   rise = h.rise;
@@ -112,7 +113,7 @@ designated_there code e t x below k ops w i h =
       spots = ap (λ (l : List Spot). l ++ s ∷ []) i.spots ∙ append_assoc (spots_in k) (located ops) (s ∷ []);
     }
 
-pub designated_makes : (code : Code) (old new : Engine) (place t at x : ℕ) (s : State) (o : W.Object) → Before code old place (Dereference t at) s → slice_get old.cells.items (first_window (reverse old.masters.items) + at) ≡ Some x → x ≢ 0 → object_in x old.objects ≡ Some o
+pub designated_makes : (code : Code) (old new : Engine) (place t at x : ℕ) (s : State) (o : W.Object) → Before code old place (Dereference t at) s → slice_get old.cells.items (first_window (reverse old.masters.items) + at) ≡ Some x → x ≢ 0 → object_in x old.stock.objects ≡ Some o
     → new.mode ≡ ModeOf.At (place + 1) → kept new ≡ with_part (whole_spot x) (kept old) → new.events.items ≡ old.events.items → new.picks.items ≡ old.picks.items
     → (t' : ℕ) → Makes code old new (by_instr code (Some (Dereference t' at)) s.operands (here_of place s))
 designated_makes code old new place t at x s o b read some found mode kept_is events picks t' =

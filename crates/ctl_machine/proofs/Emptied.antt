@@ -117,6 +117,7 @@ member_over code e first last failed fails fs sets k w h top =
       waits = subst (λ (l : List Frame). Wait (FrameOf.Emptying first last fails ∷ l) e.masters (heads_of w.activations) e.owned (T.Emptying sets fails ∷ k)) (sym rest)
           (emptying_stays fails (subst (λ (l : List Frame). Wait l e.masters (heads_of w.activations) e.owned (T.Emptying sets failed ∷ k)) top h.waits));
       objects = h.objects;
+      needs = h.needs;
       owns = h.owns;
       held = h.held;
       rise = h.rise;
@@ -154,6 +155,7 @@ emptied code e first last failed fs sets k w h top = record {
   below = h.below;
   waits = below_emptying (subst (λ (l : List Frame). Wait l e.masters (heads_of w.activations) e.owned (T.Emptying sets failed ∷ k)) top h.waits);
   objects = h.objects;
+  needs = h.needs;
   owns = h.owns;
   held = h.held;
   rise = h.rise;
@@ -185,7 +187,7 @@ none_left [] e = refl
 none_left (o ∷ os) e = absurd (omega (arith, e))
 
 pub resumes_empty : (code : Code) (old new : Engine) (order : Order) (ended handed_on : Ended) (first last : ℕ) (failed fails : Bool) (s : State) (fs : List Frame) → BeforeResuming code old s → reverse old.control.items ≡ FrameOf.Emptying first last failed ∷ fs
-    → fails ≡ (failed || says_failed (tried_of ended)) → tried_of handed_on ≡ Fine (handed fails) → 0 ≡ length (due code (sets_in s.control) old.objects)
+    → fails ≡ (failed || says_failed (tried_of ended)) → tried_of handed_on ≡ Fine (handed fails) → 0 ≡ length (due code (sets_in s.control) old.stock.objects)
     → kept new ≡ record (kept old) { control = fs } → new.events.items ≡ old.events.items → new.picks.items ≡ old.picks.items → new.mode ≡ ModeOf.Giving handed_on → Resumes code old new order (tried_of ended) s
 resumes_empty code old new order ended handed_on first last failed fails s fs b top are_failed on many is events picks mode =
     let u = empties code old s first last failed fs b top in
@@ -197,7 +199,7 @@ resumes_empty code old new order ended handed_on first last failed fails s fs b 
       sized = u.sized;
     } in
     let made = finished_gives code old new x handed_on (Fine (handed fails)) f mode on events picks in
-    let none : candidates code t.sets s.world ≡ [] = due_are code (kept old) (T.Emptying t.sets failed ∷ t.control) [] s.world t.sets u.holds ∙ none_left (due code t.sets old.objects) many in
+    let none : candidates code t.sets s.world ≡ [] = due_are code (kept old) (T.Emptying t.sets failed ∷ t.control) [] s.world t.sets u.holds ∙ none_left (due code t.sets old.stock.objects) many in
     let k = t.control in
     resumes_so code old new order (tried_of ended) (T.Emptying t.sets failed) s k (gives (Fine (handed fails)) k s.world) [] (emptying_on_top code old s first last failed fs b top) (
       ap (λ (l : List Object). empty_next code t.sets (failed || says_failed (tried_of ended)) (pick_among order (frame_width code (tried_of ended) (T.Emptying t.sets failed) s.world)) l k s.world) none ∙ ap (λ (y : Bool). gives (Fine (handed y)) k s.world) (sym are_failed),
@@ -213,7 +215,7 @@ chosen_next code sets fails pick type o [] k w some is ty = absurd (omega (arith
 chosen_next code sets fails pick type o (x ∷ xs) k w some is ty = rw (is x, ty) refl
 
 pub resumes_member : (code : Code) (old new : Engine) (order : Order) (ended : Ended) (first last : ℕ) (failed fails : Bool) (s : State) (fs : List Frame) (count : ℕ) (m : Member) → BeforeResuming code old s → reverse old.control.items ≡ FrameOf.Emptying first last failed ∷ fs
-    → fails ≡ (failed || says_failed (tried_of ended)) → count ≡ length (due code (sets_in s.control) old.objects) → 0 < count → IsMember code order count (due code (sets_in s.control) old.objects) m
+    → fails ≡ (failed || says_failed (tried_of ended)) → count ≡ length (due code (sets_in s.control) old.stock.objects) → 0 < count → IsMember code order count (due code (sets_in s.control) old.stock.objects) m
     → Chooses code old new (finalize_object code (parts_of code m.record_type) CauseOf.Collection m.number m.record_type (T.Emptying (sets_in s.control) fails ∷ drop 1 s.control) s.world) (noted_among count (pick_among order count)) → Resumes code old new order (tried_of ended) s
 resumes_member code old new order ended first last failed fails s fs count m b top are_failed many some is made =
     let u = empties code old s first last failed fs b top in
@@ -221,10 +223,10 @@ resumes_member code old new order ended first last failed fails s fs count m b t
     let k = drop 1 s.control in
     let are = due_are code (kept old) (T.Emptying sets failed ∷ k) [] s.world sets u.holds in
     let same : frame_width code (tried_of ended) (T.Emptying sets failed) s.world ≡ count = emptying_width code (tried_of ended) sets failed s.world ∙ (ap (λ (l : List Object). length l) are ∙ sym many) in
-    let next = chosen_next code sets fails (pick_among order count) m.record_type is.object (due code sets old.objects) k s.world (subst (λ n. 0 < n) many some) is.chosen is.ty ∙ ap (λ n. finalize_object code (parts_of code m.record_type) CauseOf.Collection n m.record_type (T.Emptying sets fails ∷ k) s.world) is.number in
+    let next = chosen_next code sets fails (pick_among order count) m.record_type is.object (due code sets old.stock.objects) k s.world (subst (λ n. 0 < n) many some) is.chosen is.ty ∙ ap (λ n. finalize_object code (parts_of code m.record_type) CauseOf.Collection n m.record_type (T.Emptying sets fails ∷ k) s.world) is.number in
     resumes_so code old new order (tried_of ended) (T.Emptying sets failed) s k _ _ (emptying_on_top code old s first last failed fs b top) (
       ap (λ n. empty_next code sets (failed || says_failed (tried_of ended)) (pick_among order n) (candidates code sets s.world) k s.world) same
           ∙ (ap (λ (l : List Object). empty_next code sets (failed || says_failed (tried_of ended)) (pick_among order count) l k s.world) are
-          ∙ (ap (λ (y : Bool). empty_next code sets y (pick_among order count) (due code sets old.objects) k s.world) (sym are_failed) ∙ next)),
+          ∙ (ap (λ (y : Bool). empty_next code sets y (pick_among order count) (due code sets old.stock.objects) k s.world) (sym are_failed) ∙ next)),
       ap (λ n. noted_among n (pick_among order n)) same,
     ) made

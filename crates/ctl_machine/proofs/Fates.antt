@@ -155,17 +155,17 @@ found_moves : (code : Code) (nulled : T.Nulled) (v : Var) (ops : List Word) (pla
 found_moves code nulled v ops place s y o is = rw is refl
 
 -- it is there
-pub fate_known : (code : Code) (e : Engine) (v : Var) (n set : ℕ) (x : Existing) (s : State) → Holds code (kept e) s.control s.operands s.world → IsKnown n (Some x) e.objects
+pub fate_known : (code : Code) (e : Engine) (v : Var) (n set : ℕ) (x : Existing) (s : State) → Holds code (kept e) s.control s.operands s.world → IsKnown n (Some x) e.stock.objects
     → set ≡ set_in (slot_at (master_of (first_display (heads_of s.world.activations)) v) v.slot s.world).content → IsFate code v n e.owned.items s (fate_of code set x)
 fate_known code e v n set x s h knows is =
-    let there = known_there n x e.objects knows in
+    let there = known_there n x e.stock.objects knows in
     let o = there.0 in
     let found : object_at n s.world ≡ Some o = object_shown code (kept e) s.control s.operands s.world n h ∙ there.1 in
     let same = is_known_object n x o there.2 in
     let origin : o.origin ≡ origin_of x.origin = ap (λ (z : Object). z.origin) there.2 in
     record {
       may = freed_may code set n x e.owned.items (λ c from.
-          allocated_foreign n (e.numbered.objects + 1) e.objects e.owned.items o h.owns there.1 (subst (λ (z : W.Origin). Order.IsAllocated z) (sym (origin ∙ ap origin_of from)) tt));
+          allocated_foreign n (e.numbered.objects + 1) e.stock.objects e.owned.items o h.owns there.1 (subst (λ (z : W.Origin). Order.IsAllocated z) (sym (origin ∙ ap origin_of from)) tt));
       moves = λ place nulled ops.
           let p = behind_declaration ops (here_of place s) in
           found_moves code nulled v ops place s (object_at n s.world) o found
@@ -178,8 +178,8 @@ none_moves : (code : Code) (nulled : T.Nulled) (v : Var) (ops : List Word) (plac
 none_moves code nulled v ops place s y is = rw is refl
 
 -- it is gone
-pub fate_unknown : (code : Code) (e : Engine) (v : Var) (n : ℕ) (s : State) → Holds code (kept e) s.control s.operands s.world → IsKnown n None e.objects → IsFate code v n e.owned.items s (FateOf.Stops StopOf.UseAfterFree)
+pub fate_unknown : (code : Code) (e : Engine) (v : Var) (n : ℕ) (s : State) → Holds code (kept e) s.control s.operands s.world → IsKnown n None e.stock.objects → IsFate code v n e.owned.items s (FateOf.Stops StopOf.UseAfterFree)
 fate_unknown code e v n s h knows = record {
   may = tt;
-  moves = λ place nulled ops. none_moves code nulled v ops place s (object_at n s.world) (object_shown code (kept e) s.control s.operands s.world n h ∙ none_known n e.objects knows);
+  moves = λ place nulled ops. none_moves code nulled v ops place s (object_at n s.world) (object_shown code (kept e) s.control s.operands s.world n h ∙ none_known n e.stock.objects knows);
 }

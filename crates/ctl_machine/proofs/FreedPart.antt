@@ -77,7 +77,7 @@ gone_so part object failed y p k w is = ap (λ z. freed_part part object failed 
 
 -- the object of the component is gone
 pub part_stops : (code : Code) (old new : Engine) (ended : Ended) (object place : ℕ) (fs : List Frame) (s : State) → BeforeResuming code old s → reverse old.control.items ≡ FrameOf.Freeing object NulledOf.Part place ∷ fs
-    → (u : IsFreeingIn old object NulledOf.Part place fs s) → (x : IsNulled old object u.point u.waiting s) → object_in x.part.object old.objects ≡ None
+    → (u : IsFreeingIn old object NulledOf.Part place fs s) → (x : IsNulled old object u.point u.waiting s) → object_in x.part.object old.stock.objects ≡ None
     → new.mode ≡ ModeOf.Stopped UseAfterFree → kept new ≡ behind_frame fs (standing u.waiting u.point.operands) (kept old) → new.events.items ≡ old.events.items → new.picks.items ≡ old.picks.items
     → Makes code old new (act code (Giving (tried_of ended)) s.control s.operands s.world 0)
 part_stops code old new ended object place fs s b top u x none mode are events picks =
@@ -118,7 +118,7 @@ there_so : (part : Spot) (object : ℕ) (failed : Bool) (y : Option W.Object) (o
 there_so part object failed y o p k w is = ap (λ z. freed_part part object failed z p k w) is
 
 pub part_ends : (code : Code) (old new : Engine) (ended : Ended) (object place : ℕ) (fs : List Frame) (s : State) (o : W.Object) → BeforeResuming code old s → reverse old.control.items ≡ FrameOf.Freeing object NulledOf.Part place ∷ fs
-    → (u : IsFreeingIn old object NulledOf.Part place fs s) → (x : IsNulled old object u.point u.waiting s) → object_in x.part.object old.objects ≡ Some o
+    → (u : IsFreeingIn old object NulledOf.Part place fs s) → (x : IsNulled old object u.point u.waiting s) → object_in x.part.object old.stock.objects ≡ Some o
     → new.mode ≡ mode_freed ended place → (let e = with_null x.part (behind_frame fs (standing u.waiting u.point.operands) (kept old)) in kept new ≡ with_objects (forgotten object e.objects) e) → new.events.items ≡ old.events.items → new.picks.items ≡ old.picks.items
     → Makes code old new (act code (Giving (tried_of ended)) s.control s.operands s.world 0)
 part_ends code old new ended object place fs s o b top u x found mode are events picks =

@@ -35,6 +35,7 @@ numbered code e k ops w h = record {
   below = h.below;
   waits = h.waits;
   objects = h.objects;
+  needs = h.needs;
   owns = owns_further e.owned e.next_object e.objects h.owns;
   held = h.held;
   rise = h.rise;

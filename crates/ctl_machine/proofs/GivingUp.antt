@@ -117,7 +117,7 @@ failing_moves code tried p e all rest ops w is = rw is refl
 
 pub fails_further : (code : Code) (old mid new : Engine) (tried : Tried T.Handed) (e raised : ℕ) (s : State) (fs : List Frame) (popped : Spot) → BeforeResuming code old s → reverse old.control.items ≡ FrameOf.Failing e ∷ fs → DropsFrame old mid popped
     → ((k : List T.Frame) (ops : List Word) (w : World) → Holds code (kept mid) k ops w → Holds code (kept new) k ops (if is_whole popped then end_finalization popped.object w else w))
-    → kept new ≡ with_objects new.objects (kept mid) → new.mode ≡ ModeOf.Giving (EndedOf.Raised raised) → raised ≡ failed_with e (says_failed tried) → new.events.items ≡ mid.events.items → new.picks.items ≡ mid.picks.items
+    → kept new ≡ with_objects new.stock.objects (kept mid) → new.mode ≡ ModeOf.Giving (EndedOf.Raised raised) → raised ≡ failed_with e (says_failed tried) → new.events.items ≡ mid.events.items → new.picks.items ≡ mid.picks.items
     → Makes code old new (act code (Giving tried) s.control s.operands s.world 0)
 fails_further code old mid new tried e raised s fs popped b top d holds are mode is events picks =
     let p = part_in s.control in

@@ -124,3 +124,4 @@ pub mod Fates
 pub mod Freed
 pub mod FreedPart
 pub mod CopyAllocated
+pub mod Stocked

@@ -120,6 +120,7 @@ changed_part code e spots t part below k (y ∷ ops) w x are i same is =
         below = h.below;
         waits = h.waits;
         objects = h.objects;
+        needs = h.needs;
         owns = h.owns;
         held = h.held;
         rise = h.rise;

@@ -54,6 +54,7 @@ member_added code e set t k ops w h =
       waits = h.waits;
       objects = ap (λ (l : List W.Object). l ++ new_object w.ledger.next_object (Record t) (replicate size 0) (Allocated set Standard) ∷ []) h.objects
           ∙ same_object e.objects w.ledger.next_object e.next_object set t size h.next_object;
+      needs = h.needs;
       owns = owns_member e.owned e.next_object e.objects set (Record t) (replicate size 0) h.owns;
       held = h.held;
       rise = h.rise;
@@ -81,7 +82,7 @@ member_awaits code old mid access place set t at ty s b is =
     let e = with_new_member set t (replicate (size_of code t) 0) (kept old) in
     let added = member_added code (kept old) set t s.control s.operands s.world h in
     let seen : p.display ≡ first_display (heads_of g.world.activations) = ap first_display (sym (member_heads code set t s.world)) in
-    let waits = allocator_begins Creates code e n t (place + 1) p s.control g.world tt added (owns_no_next old.owned.items n old.objects h.owns) refl seen in
+    let waits = allocator_begins Creates code e n t (place + 1) p s.control g.world tt added (owns_no_next old.owned.items n old.stock.objects h.owns) refl seen in
     record {
       holds = subst (λ (x : Kept). Holds code x g.control [] g.world) (sym is) (subst (λ i. Holds code (with_frame (FrameOf.Allocating n (place + 1)) e) (T.Creating T.ByAllocator i t p ∷ s.control) [] g.world) (sym h.next_object) waits);
       spots = ap (λ (e : Kept). e.spots) is ∙ b.inside.spots;

@@ -126,6 +126,7 @@ gathered code e g after fs m ms n slot count j g' after' k ops w acts h top is o
       waits = subst (λ (l : List Head). Wait e.control e.masters l owned' k') (sym same)
           (subst (λ (l : List Frame). Wait l e.masters hs owned' k') (sym top) (subst (λ (l : List Master). Wait (FrameOf.InMaster g after ∷ fs) l hs owned' k') (sym is) waits'));
       objects = h.objects;
+      needs = h.needs;
       owns = owns_set e.owned e.next_object e.objects x false count refl h.owns;
       held = subst (λ (l : List Master). AreHeld l acts owned' e.formals) (sym is) held;
       rise = set_comes e.owned 0 e.given_collections x false count h.rise refl refl refl;

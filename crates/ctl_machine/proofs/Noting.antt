@@ -89,6 +89,7 @@ notes code e s k k' w d h = record {
   below = h.below;
   waits = waits_same d h.waits;
   objects = h.objects;
+  needs = h.needs;
   owns = h.owns;
   held = h.held;
   rise = h.rise;

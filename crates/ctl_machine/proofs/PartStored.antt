@@ -78,7 +78,7 @@ abbrev pub stored_in : ℕ → ℕ → ℕ → Kept → Kept
 stored_in n at x e = with_objects (change_in n (with_cells at (x ∷ [])) e.objects) e
 
 pub part_makes : (code : Code) (old new : Engine) (place : ℕ) (s : State) (from : Cell) (t position offset x : ℕ) (ty : Ty) (o : W.Object) → Before code old place (StorePart from ty t position) s
-    → slice_get old.cells.items (cell_of old from) ≡ Some x → (let y = first_spot (parts_of from s) in object_in y.object old.objects ≡ Some o
+    → slice_get old.cells.items (cell_of old from) ≡ Some x → (let y = first_spot (parts_of from s) in object_in y.object old.stock.objects ≡ Some o
     → new.mode ≡ ModeOf.At (place + 1) → kept new ≡ with_spots (stored_in y.object (y.offset + offset) x (kept old)) (standing s.control (drop 1 (parts_of from s))) → new.events.items ≡ old.events.items → new.picks.items ≡ old.picks.items
     → (t' position' : ℕ) (ty' : Ty) → offset ≡ offset_of code t' position' → Makes code old new (by_instr code (Some (StorePart from ty' t' position')) s.operands (here_of place s)))
 unfolding opened_changes
@@ -106,7 +106,7 @@ part_makes code old new place s from t position offset x ty o b value_read there
     (subst (λ (m : Move). Makes code old new m) (sym (i.move offset ∙ ap (λ (z : Option W.Object). stored y.object at i.value z rest h) object)) made)
 
 pub store_gone : (code : Code) (old new : Engine) (place : ℕ) (s : State) (from : Cell) (t position offset : ℕ) (ty : Ty) → Before code old place (StorePart from ty t position) s
-    → object_in (first_spot (parts_of from s)).object old.objects ≡ None → GoesOn old new (ModeOf.Stopped UseAfterFree) old.cells.items
+    → object_in (first_spot (parts_of from s)).object old.stock.objects ≡ None → GoesOn old new (ModeOf.Stopped UseAfterFree) old.cells.items
     → (t' position' : ℕ) (ty' : Ty) → offset ≡ offset_of code t' position' → Makes code old new (by_instr code (Some (StorePart from ty' t' position')) s.operands (here_of place s))
 store_gone code old new place s from t position offset ty b none g t' position' ty' same =
     let i = is_given code old place s from t position ty b in

@@ -97,7 +97,7 @@ own_passes : (code : Code) (f : Option ℕ) (s : Spot) (t : ℕ) (o : Option W.O
 own_passes code f s t o there k w none is = rw (none, is) refl
 
 -- the user wrote none
-pub no_own_undone : (code : Code) (old new : Engine) (type : ℕ) (o : W.Object) (t : Finished) → Finishes code old t → object_in t.spot.object old.objects ≡ Some o → operation_of (λ x. x.finalize) code type ≡ None
+pub no_own_undone : (code : Code) (old new : Engine) (type : ℕ) (o : W.Object) (t : Finished) → Finishes code old t → object_in t.spot.object old.stock.objects ≡ Some o → operation_of (λ x. x.finalize) code type ≡ None
     → Makes code old new (undo_components code t.spot type t.control t.world) → Makes code old new (undo_by code (operation_of (λ x. x.finalize) code type) t.spot type (object_at t.spot.object t.world) t.control t.world)
 no_own_undone code old new type o t b found none made =
     subst (λ (m : Move). Makes code old new m) (sym (own_passes code (operation_of (λ x. x.finalize) code type) t.spot type (object_at t.spot.object t.world) o t.control t.world none (part_there code old t o b found))) made
@@ -123,8 +123,8 @@ undone_makes code old mid new entry type master t x event b c shows events picks
     (call_makes code old mid new x (undo_call x.object x.body type t) event (Finalize (part_at t.spot) CauseOf.Failed) c.is shows events picks made)
 
 -- the body that the user wrote
-pub calls_it : (code : Code) (e : Engine) (entry : Entry) (type master : ℕ) (t : Finished) → IsObject e.owned.items e.objects t.spot.object master (object_or t.spot.object e.objects) → IsFinalizeOf code type entry
-    → CallsUndone code e entry type master t (undo_call (object_or t.spot.object e.objects) (body_of_finalize code type) type t)
+pub calls_it : (code : Code) (e : Engine) (entry : Entry) (type master : ℕ) (t : Finished) → IsObject e.owned.items e.stock.objects t.spot.object master (object_or t.spot.object e.stock.objects) → IsFinalizeOf code type entry
+    → CallsUndone code e entry type master t (undo_call (object_or t.spot.object e.stock.objects) (body_of_finalize code type) type t)
 calls_it code e entry type master t there i =
     let body : body_of_finalize code type ≡ i.body = ap (λ (x : Option ℕ). unwrap_or x 0) i.operation in
     record {

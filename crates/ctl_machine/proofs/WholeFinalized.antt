@@ -25,6 +25,7 @@ whole_comes code e n k w h = record {
   below = h.below;
   waits = finalizing_waits refl h.waits;
   objects = h.objects;
+  needs = h.needs;
   owns = h.owns;
   held = h.held;
   rise = h.rise;

@@ -29,7 +29,7 @@ adjust_call o body x t = record { object = o; spot = t.spot; body = body; contro
 -- the user wrote this body as the Adjust of a record type, and it is called for an object of a master
 pub record CallsAdjust (code : Code) (e : Engine) (entry : Entry) (y : Adjustment) (master : ℕ) (t : Finished) (x : Called) : Type 0 where
   pub is : x ≡ adjust_call x.object x.body y t
-  pub object : IsObject e.owned.items e.objects t.spot.object master x.object
+  pub object : IsObject e.owned.items e.stock.objects t.spot.object master x.object
   pub operation : operation_of (λ o. o.adjust) code y.record_type ≡ Some x.body
   pub body : slice_get code.entries.items x.body ≡ Some entry
   pub slots : 1 ≤ entry.slots

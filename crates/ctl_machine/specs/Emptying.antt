@@ -4,19 +4,20 @@ use Rattle.std.specs.Option.{option_map, option_map_or}
 use Rattle.ctl_program.specs.declared.types.Ty.TheVariants.{Record}
 use Rattle.ctl_tree.specs.declared.request.Order.{Order}
 use Rattle.ctl_tree.specs.declared.request.Order.TheVariants as OrderOf
-use Rattle.ctl_meaning.specs.Changes.{begin_finalization}
 use Rattle.ctl_meaning.specs.Lists.{keep, pull_item}
 use Rattle.ctl_meaning.specs.Objects.{object_in}
 use Rattle.ctl_meaning.specs.World.{Object, World}
 use Rattle.ctl_objects.specs.declared.groups.Group.{Group}
 use Rattle.ctl_objects.specs.declared.groups.Start.{Start}
+use Rattle.ctl_objects.specs.declared.needs.Need.{Need}
 use Rattle.ctl_objects.specs.Groups.{group_of, is_from, is_waiting}
 use Rattle.ctl_objects.specs.Members.{IsGreatest, IsLeast, is_between, passes}
+use Rattle.ctl_objects.specs.Stock.{Stock}
 use Rattle.ctl_code.specs.declared.code.Code.{Code}
 use Rattle.ctl_code.specs.declared.code.Parts.TheVariants as PartsOf
 use Rattle.ctl_code.specs.States as T
 use Rattle.ctl_code.specs.States.{whole_spot}
-use Rattle.ctl_code.specs.Table.{has_part, is_candidate, parts_of}
+use Rattle.ctl_code.specs.Table.{is_candidate, parts_of}
 pub use Rattle.ctl_code.specs.Table.{is_due}
 use Rattle.ctl_code.specs.Fits.{Waits}
 use Rattle.ctl_machine.specs.declared.emptying.Candidates.{Candidates}
@@ -68,19 +69,15 @@ abbrev pub taken_with : Order → Option Member → Group → Option ℕ → Opt
 taken_with order chosen g None = chosen
 taken_with order chosen g (Some n) = Some (taken_of order chosen (record { number = n; record_type = g.record_type }))
 
--- an object of a group is still to be finalized
-abbrev pub is_due_in : Code → Group → Object → Bool
-is_due_in code g o = has_part (parts_of code g.record_type) && is_waiting g o
-
 -- which member an order takes, where it takes this one among all but the objects of a group that wait
-abbrev pub IsTakenWith : Order → List Object → Option Member → Group → Option Member → Type 0
-IsTakenWith order objects chosen g r = (n : Option ℕ) × IsEnd order (λ k. passes (is_waiting g) k objects ≡ true) n × (r ≡ taken_with order chosen g n)
+abbrev pub IsTakenWith : Order → Stock → Option Member → Group → Option Member → Type 0
+IsTakenWith order s chosen g r = (n : Option ℕ) × IsEnd order (λ k. passes (is_waiting s.needs g) k s.objects ≡ true) n × (r ≡ taken_with order chosen g n)
 
 -- the candidates with those of a group besides
-pub record IsWith (code : Code) (order : Order) (objects : List Object) (found : Candidates) (g : Group) (more : Candidates) : Type 0 where
-  pub count : more.count ≡ found.count + length (keep (is_due_in code g) objects)
+pub record IsWith (order : Order) (s : Stock) (found : Candidates) (g : Group) (more : Candidates) : Type 0 where
+  pub count : more.count ≡ found.count + length (keep (is_waiting s.needs g) s.objects)
   pub member : Option ℕ
-  pub end : IsEnd order (λ k. passes (is_due_in code g) k objects ≡ true) member
+  pub end : IsEnd order (λ k. passes (is_waiting s.needs g) k s.objects ≡ true) member
   pub chosen : more.chosen ≡ taken_with order found.chosen g member
 
 -- a group comes before a start, if there is one
@@ -89,19 +86,19 @@ is_passed start None = false
 is_passed start (Some g) = not (is_from start g)
 
 -- an object of a collection between two is still to be finalized, and its group comes before a start
-abbrev pub is_counted : Code → ℕ → ℕ → Start → Object → Bool
-is_counted code first last start o = is_due code o && (is_between first last o.origin && is_passed start (group_of o))
+abbrev pub is_counted : Code → List Need → ℕ → ℕ → Start → Object → Bool
+is_counted code needs first last start o = is_due code o && (is_between first last o.origin && is_passed start (group_of needs o))
 
 -- what is found among the objects whose groups come before a start
-pub record AreCounted (code : Code) (order : Order) (first last : ℕ) (objects : List Object) (start : Start) (found : Candidates) : Type 0 where
-  pub count : found.count ≡ length (keep (is_counted code first last start) objects)
-  pub end : IsEnd order (λ k. passes (is_counted code first last start) k objects ≡ true) (option_map (λ m. m.number) found.chosen)
-  pub ty : IfSome found.chosen (λ m. (o : Object) → object_in m.number objects ≡ Some o → o.ty ≡ Record m.record_type)
+pub record AreCounted (code : Code) (order : Order) (first last : ℕ) (s : Stock) (start : Start) (found : Candidates) : Type 0 where
+  pub count : found.count ≡ length (keep (is_counted code s.needs first last start) s.objects)
+  pub end : IsEnd order (λ k. passes (is_counted code s.needs first last start) k s.objects ≡ true) (option_map (λ m. m.number) found.chosen)
+  pub ty : IfSome found.chosen (λ m. (o : Object) → object_in m.number s.objects ≡ Some o → o.ty ≡ Record m.record_type)
   pub within : (g : Group) → is_from start g ≡ true → first ≤ g.collection
 
 -- an object whose group is still to be looked at
-abbrev pub is_ahead : Start → Object → Bool
-is_ahead start o = option_map_or (λ g. is_from start g) (group_of o) false
+abbrev pub is_ahead : List Need → Start → Object → Bool
+is_ahead needs start o = option_map_or (λ g. is_from start g) (group_of needs o) false
 
 -- Frames -------------------------------------------------------------------------------------
 

@@ -33,3 +33,4 @@ pub mod Undoing
 pub mod Owned
 pub mod Freeing
 pub mod Copying
+pub mod Needs

@@ -54,7 +54,7 @@ undo_call o body type t = record { object = o; spot = t.spot; body = body; contr
 -- the user wrote this body as the Finalize of a record type, and it is called for an object of a master
 pub record CallsUndone (code : Code) (e : Engine) (entry : Entry) (type master : ℕ) (t : Finished) (x : Called) : Type 0 where
   pub is : x ≡ undo_call x.object x.body type t
-  pub object : IsObject e.owned.items e.objects t.spot.object master x.object
+  pub object : IsObject e.owned.items e.stock.objects t.spot.object master x.object
   pub operation : operation_of (λ o. o.finalize) code type ≡ Some x.body
   pub body : slice_get code.entries.items x.body ≡ Some entry
   pub slots : 1 ≤ entry.slots

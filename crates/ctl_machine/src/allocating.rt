@@ -178,7 +178,7 @@ impl Engine {
         size: usize,
     ) -> Result<(), AllocError>
         requires number { self.old.numbered.objects + 1 < 2 ^ 64 }
-        requires numbers { AreBelow (self.old.numbered.objects + 1) self.old.objects }
+        requires numbers { AreBelow (self.old.numbered.objects + 1) self.old.stock.objects }
         ensures kept { OnOk result (kept self.new ≡ with_new_member set «record» (replicate size 0) (kept self.old)) }
         ensures err { OnErr result (GoesOn self.old self.new self.old.mode self.old.cells.items) }
         ensures control { OnOk result (vec_len self.new.control + 2 ≤ vec_capacity self.new.control) }
@@ -190,8 +190,7 @@ impl Engine {
         let number = self.numbered.objects + 1;
         self.control.reserve(2)?;
         self.spots.reserve(1)?;
-        self.objects
-            .allocate(number, Ty::Record(record), set, size)?;
+        self.stock.allocate(number, Ty::Record(record), set, size)?;
         self.numbered.objects = number;
         Ok(())
     }
@@ -260,7 +259,7 @@ impl Engine {
         ensures not { IsFalse result → MayJoin object s.world → ⊥ }
     {
         let _ = code;
-        let Some(existing) = self.objects.find(object) else {
+        let Some(existing) = self.stock.find(object) else {
             return false;
         };
         match existing.origin {
@@ -281,7 +280,7 @@ impl Engine {
         ensures { Makes code.now self.old self.new (Table.by_creating (Shows.tried_of ended) ByAllocator object (point_at place s) s.control s.world) }
     {
         if let Ended::Raised(exception) = ended {
-            self.objects.forget(object);
+            self.stock.forget(object);
             self.mode = Mode::Transfers(Way::Raise(exception));
             return;
         }
@@ -289,7 +288,7 @@ impl Engine {
             self.mode = Mode::Stopped(Stop::UseAfterFree);
             return;
         }
-        self.objects.join(object);
+        self.stock.join(object);
         let cell = self.window() + code.kinds.height_at(place, 1);
         self.cells[cell] = object;
         self.mode = Mode::At(place);

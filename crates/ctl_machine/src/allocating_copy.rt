@@ -75,7 +75,7 @@ impl Engine {
         let size = size_of(code, record);
         self.add_member(set, record, size)?;
         let number = self.numbered.objects;
-        self.objects.copy(source, start, number, 0, size);
+        self.stock.copy(source, start, number, 0, size);
         let _ = self.spots.take_last();
         self.adjust_member(code, set, number, record, place + 1);
         Ok(())
@@ -101,7 +101,7 @@ impl Engine {
         ensures err { OnErr result (GoesOn self.old self.new self.old.mode self.old.cells.items) }
     {
         let newest = self.count_spots() - 1;
-        if !self.objects.exists(self.spots[newest].object()) {
+        if !self.stock.exists(self.spots[newest].object()) {
             self.go_on(Mode::Stopped(Stop::UseAfterFree));
             return Ok(());
         }

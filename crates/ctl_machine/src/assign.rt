@@ -126,7 +126,7 @@ impl Engine {
         let offset = self.spots[newest].offset();
         let start = self.saved.as_slice().len() - size;
         let value = &self.saved.as_slice()[start..];
-        self.objects.write_all(target, offset, value);
+        self.stock.write_all(target, offset, value);
         self.saved.truncate(start);
     }
 
@@ -162,7 +162,7 @@ impl Engine {
     {
         let source = self.spots.take_last();
         let _ = self
-            .objects
+            .stock
             .save(source.object(), source.offset(), size, &mut self.saved);
     }
 
@@ -181,7 +181,7 @@ impl Engine {
         ensures err { OnErr result (GoesOn self.old self.new self.old.mode self.old.cells.items) }
     {
         let below = self.count_spots() - 2;
-        if !self.objects.exists(self.spots[below].object()) {
+        if !self.stock.exists(self.spots[below].object()) {
             self.mode = Mode::Stopped(Stop::UseAfterFree);
             return Ok(());
         }
@@ -276,7 +276,7 @@ impl Engine {
         let count = self.count_spots();
         let source = &self.spots[count - 1];
         let target = &self.spots[count - 2];
-        if !self.objects.exists(source.object()) {
+        if !self.stock.exists(source.object()) {
             self.mode = Mode::Stopped(Stop::UseAfterFree);
             return Ok(());
         }
@@ -301,7 +301,7 @@ impl Engine {
         ensures err { OnErr result (GoesOn self.old self.new self.old.mode self.old.cells.items) }
     {
         let newest = self.count_spots() - 1;
-        if !self.objects.exists(self.spots[newest].object()) {
+        if !self.stock.exists(self.spots[newest].object()) {
             let stopped = Mode::Stopped(Stop::UseAfterFree);
             self.end_assignment(code, record, Value::Saved, stopped);
             return Ok(());

@@ -171,7 +171,7 @@ impl Engine {
         ensures objects { self.new.numbered ≡ self.old.numbered }
         ensures waiting { vec_len self.new.control ≡ vec_len self.old.control }
         ensures owned { self.new.owned ≡ self.old.owned }
-        ensures existing { self.new.objects ≡ self.old.objects }
+        ensures existing { self.new.stock ≡ self.old.stock }
         ensures saved { self.new.saved ≡ self.old.saved }
         ensures spots { self.new.spots ≡ self.old.spots }
         ensures noted { self.new.noted ≡ self.old.noted }

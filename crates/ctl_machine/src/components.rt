@@ -73,7 +73,7 @@ impl Engine {
         ensures { result ≡ part_in (start + offset) (object_at object s.world) }
     {
         let _ = code;
-        self.objects.read_part(object, start, offset)
+        self.stock.read_part(object, start, offset)
     }
 
     /// Reads a component of what this slot holds, by the first cell of the component; None where there is no such object.

@@ -48,8 +48,8 @@ impl Engine {
     ) -> Result<(), AllocError>
         requires room { vec_len self.old.owned < vec_capacity self.old.owned }
         requires number { self.old.numbered.objects + 1 < 2 ^ 64 }
-        requires numbers { AreBelow (self.old.numbered.objects + 1) self.old.objects }
-        requires newest { AreUpTo newest.number self.old.objects }
+        requires numbers { AreBelow (self.old.numbered.objects + 1) self.old.stock.objects }
+        requires newest { AreUpTo newest.number self.old.stock.objects }
         requires cell { slot < newest.slots → newest.base + slot < length self.old.cells.items }
         ensures kept { OnOk result (kept self.new ≡ with_object newest slot «record» (replicate size 0) (kept self.old)) }
         ensures err { OnErr result (GoesOn self.old self.new self.old.mode self.old.cells.items) }
@@ -61,7 +61,7 @@ impl Engine {
         ensures picks { self.new.picks ≡ self.old.picks }
     {
         let number = self.numbered.objects + 1;
-        self.objects.declare(number, record, newest.number, size)?;
+        self.stock.declare(number, record, newest.number, size)?;
         self.numbered.objects = number;
         self.owned.push_reserved(Owned {
             number,
@@ -148,14 +148,14 @@ impl Engine {
         let spot = &self.spots[newest_spot];
         let start = spot.offset();
         let source = spot.object();
-        if !self.objects.exists(source) {
+        if !self.stock.exists(source) {
             self.mode = Mode::Stopped(Stop::UseAfterFree);
             return Ok(());
         }
         let size = size_of(code, record);
         self.reserve_object()?;
         self.create(newest, slot, record, size)?;
-        self.objects
+        self.stock
             .copy(source, start, self.numbered.objects, 0, size);
         let _ = self.spots.take_last();
         self.adjust_new(code, record, newest.number, place + 1);

@@ -44,7 +44,7 @@ impl Engine {
             self.go_on(raised);
             return Ok(Some(raised));
         }
-        if !self.objects.exists(object) {
+        if !self.stock.exists(object) {
             return Ok(None);
         }
         self.spots.reserve(1)?;

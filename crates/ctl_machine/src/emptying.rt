@@ -17,6 +17,7 @@ ghost use Rattle.ctl_machine.specs.Departing.{Departed, EmptiesLayer};
 ghost use Rattle.ctl_machine.specs.Emptying.{Emptied, Empties, IsTaken, IsTakenWith, IsWith, due, member_finished, taken_of};
 ghost use Rattle.ctl_machine.specs.Filling.{noted_among, pick_among};
 ghost use Rattle.ctl_machine.specs.Finishing.{Finished};
+ghost use Rattle.ctl_machine.specs.Needs.{needs_of};
 ghost use Rattle.ctl_machine.specs.Moves.{BeforeResuming, Chooses, GoesOn, Makes, Resumes};
 ghost use Rattle.ctl_machine.specs.Owned.{AreFromTo, HaveCome, started, started_from};
 ghost use Rattle.ctl_machine.specs.Shows as Shows;
@@ -27,9 +28,8 @@ use crate::filling::note_pick;
 use crate::finalizing::{Finalization, doubled, handed};
 use crate::frame::{Ended, Frame, Mode, Owned, Role};
 use crate::layers::fails_with;
-use crate::parts::parts_of;
 use crate::spots::Spot;
-use ctl_code::code::{Code, Parts};
+use ctl_code::code::Code;
 use ctl_objects::{Group, Start, Waiting};
 use ctl_tree::event::Cause;
 use ctl_tree::request::Order;
@@ -128,11 +128,11 @@ fn pick_of(order: Order, count: usize) -> usize
 impl Engine {
     /// Answers which member an order takes, where it takes this one among all but the objects of a group that are still to be finalized.
     fn taken_with(&self, order: Order, chosen: Option<Member>, group: Group) -> Option<Member>
-        ensures { IsTakenWith order self.now.objects chosen group result }
+        ensures { IsTakenWith order self.now.stock chosen group result }
     {
         let waiting = match order {
-            Order::Newest => self.objects.last_waiting(group),
-            Order::Oldest => self.objects.first_waiting(group),
+            Order::Newest => self.stock.last_waiting(group),
+            Order::Oldest => self.stock.first_waiting(group),
         };
         let Some(number) = waiting else {
             return chosen;
@@ -144,24 +144,15 @@ impl Engine {
         Some(taken(order, chosen, member))
     }
 
-    /// Adds the objects of a group that are still to be finalized to the candidates, if some part of them is controlled (RM 7.6.1).
-    fn with_group(
-        &self,
-        code: &Code,
-        order: Order,
-        found: Candidates,
-        waiting: Waiting,
-    ) -> Candidates
+    /// Adds the objects of a group that are still to be finalized to the candidates (RM 7.6.1).
+    fn with_group(&self, order: Order, found: Candidates, waiting: Waiting) -> Candidates
         requires few { found.count + waiting.count < 2 ^ 64 }
-        requires count { waiting.count ≡ length (keep (is_waiting waiting.group) self.now.objects) }
-        ensures { IsWith code.now order self.now.objects found waiting.group result }
+        requires count { waiting.count ≡ length (keep (is_waiting self.now.stock.needs waiting.group) self.now.stock.objects) }
+        ensures { IsWith order self.now.stock found waiting.group result }
     {
-        match parts_of(code, waiting.group.record_type) {
-            Parts::Plain => found,
-            _ => Candidates {
-                count: found.count + waiting.count,
-                chosen: self.taken_with(order, found.chosen, waiting.group),
-            },
+        Candidates {
+            count: found.count + waiting.count,
+            chosen: self.taken_with(order, found.chosen, waiting.group),
         }
     }
 
@@ -170,17 +161,19 @@ impl Engine {
     fn candidates(&self, code: &Code, order: Order, first: u64, last: u64) -> Candidates
         ghost sets: { List ℕ }
         requires range { AreFromTo first last sets }
-        requires rise { Rise 1 self.now.objects }
-        ensures count { result.count ≡ length (due code.now sets self.now.objects) }
-        ensures chosen { IsTaken code.now order result.count (due code.now sets self.now.objects) result.chosen }
+        requires rise { Rise 1 self.now.stock.objects }
+        requires needs { self.now.stock.needs ≡ needs_of code.now }
+        ensures count { result.count ≡ length (due code.now sets self.now.stock.objects) }
+        ensures chosen { IsTaken code.now order result.count (due code.now sets self.now.stock.objects) result.chosen }
     {
+        let _ = code;
         let mut found = Candidates {
             count: 0,
             chosen: None,
         };
         let mut start = Start::Collection(first);
-        while let Some(waiting) = self.objects.next_group(start, last) {
-            found = self.with_group(code, order, found, waiting);
+        while let Some(waiting) = self.stock.next_group(start, last) {
+            found = self.with_group(order, found, waiting);
             start = Start::Behind(waiting.group);
         }
         found

@@ -202,12 +202,12 @@ impl Engine {
         let spot = &self.spots[newest];
         let start = spot.offset();
         let object = spot.object();
-        if !self.objects.exists(object) {
+        if !self.stock.exists(object) {
             let _ = self.control.take_last();
             self.mode = Mode::Stopped(Stop::UseAfterFree);
             return;
         }
-        self.objects.write_part(object, start, offset, value);
+        self.stock.write_part(object, start, offset, value);
         replace_top(
             &mut self.control,
             Frame::Filling {

@@ -164,7 +164,7 @@ impl Engine {
     /// Begins the finalization of the object of this number, if it is there (RM 7.6.1).
     pub(crate) fn begin_finalization(&mut self, number: u64)
         ensures holds { (code : Code) (k : List T.Frame) (ops : List Word) (w : World) → Holds code (kept self.old) k ops w → Holds code (kept self.new) k ops (Changes.begin_finalization number w) }
-        ensures kept { kept self.new ≡ with_objects self.new.objects (kept self.old) }
+        ensures kept { kept self.new ≡ with_objects self.new.stock.objects (kept self.old) }
         ensures control { self.new.control ≡ self.old.control }
         ensures spots { self.new.spots ≡ self.old.spots }
         ensures others { (self.new.masters ≡ self.old.masters) × (self.new.formals ≡ self.old.formals) }
@@ -172,20 +172,20 @@ impl Engine {
         ensures events { self.new.events ≡ self.old.events }
         ensures picks { self.new.picks ≡ self.old.picks }
     {
-        self.objects.begin_finalization(number);
+        self.stock.begin_finalization(number);
     }
 
     /// Ends the finalization of the object that is this part as a whole, if it is there (RM 7.6.1); nothing changes where it is a part
     /// inside of an object.
     pub(crate) fn end_whole(&mut self, spot: &Spot)
         ensures holds { (code : Code) (k : List T.Frame) (ops : List Word) (w : World) → Holds code (kept self.old) k ops w → Holds code (kept self.new) k ops (if S.is_whole spot.now then Changes.end_finalization spot.now.object w else w) }
-        ensures kept { kept self.new ≡ with_objects self.new.objects (kept self.old) }
+        ensures kept { kept self.new ≡ with_objects self.new.stock.objects (kept self.old) }
         ensures stacks { (self.new.control ≡ self.old.control) × (self.new.noted ≡ self.old.noted) }
         ensures events { self.new.events ≡ self.old.events }
         ensures picks { self.new.picks ≡ self.old.picks }
     {
         if spot.is_whole() {
-            self.objects.end_finalization(spot.object());
+            self.stock.end_finalization(spot.object());
         }
     }
 
@@ -207,7 +207,7 @@ impl Engine {
         ensures choices { self.new.picks ≡ self.old.picks }
         ensures waiting { vec_len self.new.control ≡ vec_len self.old.control }
         ensures owned { self.new.owned ≡ self.old.owned }
-        ensures objects { self.new.objects ≡ self.old.objects }
+        ensures existing { self.new.stock ≡ self.old.stock }
         ensures saved { self.new.saved ≡ self.old.saved }
         ensures notes { OnOk result (vec_len self.new.noted < vec_capacity self.new.noted) }
     {

@@ -115,7 +115,7 @@ impl Engine {
         requires level { 1 ≤ access.now.level }
         ensures { IsFate code.now access.now object self.now.owned.items s result }
     {
-        match self.objects.find(object) {
+        match self.stock.find(object) {
             Some(existing) => fate_of(code, self.set_held(code, access), &existing),
             None => Fate::Stops(Stop::UseAfterFree),
         }
@@ -293,7 +293,7 @@ impl Engine {
     {
         self.give(code, out, slot, 0, place);
         let _ = self.control.take_last();
-        self.objects.forget(object);
+        self.stock.forget(object);
         self.mode = mode_freed(ended, place);
     }
 
@@ -307,13 +307,12 @@ impl Engine {
     {
         let _ = code;
         let component = self.drop_frame();
-        if !self.objects.exists(component.object()) {
+        if !self.stock.exists(component.object()) {
             self.mode = Mode::Stopped(Stop::UseAfterFree);
             return;
         }
-        self.objects
-            .write(component.object(), component.offset(), 0);
-        self.objects.forget(object);
+        self.stock.write(component.object(), component.offset(), 0);
+        self.stock.forget(object);
         self.mode = mode_freed(ended, place);
     }
 

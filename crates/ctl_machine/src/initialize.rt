@@ -87,7 +87,7 @@ impl Engine {
         ghost t: { Grown × Object }
         requires valid { IsValid code.now }
         requires grows { Grows code.now self.old creation.record_type creation.owner t.0 }
-        requires part { IsObject self.old.owned.items self.old.objects t.0.new.spot.object master t.1 }
+        requires part { IsObject self.old.owned.items self.old.stock.objects t.0.new.spot.object master t.1 }
         requires body { IsInitializeOf code.now creation.record_type entry.now }
         requires number { self.old.given_masters + 1 < 2 ^ 64 }
         ensures ok { OnOk result (Makes code.now self.old self.new (Table.initialize_by code.now (Table.operation_of (λ x. x.initialize) code.now creation.record_type) t.0.new (object_at t.0.new.spot.object t.0.world) t.0.control t.0.world)) }

@@ -95,30 +95,32 @@ fn may_gather(owned: &[Owned], start: usize) -> bool
 
 /// Forgets the objects of the collections that came from this place on, which belong to this master, behind its own (RM 7.6.1); no declared
 /// object has a greater master.
-fn forget_gathered(owned: &[Owned], start: usize, objects: &mut Objects, master: u64)
+fn forget_gathered(owned: &[Owned], start: usize, stock: &mut Objects, master: u64)
     requires bound { start ≤ length owned.now }
-    requires masters { AreUpTo master objects.old }
-    ensures { (all : List Object) → objects.old ≡ remaining master [] all → objects.new ≡ remaining master (set_numbers (drop start owned.now)) all }
+    requires masters { AreUpTo master stock.old.objects }
+    ensures objects { (all : List Object) → stock.old.objects ≡ remaining master [] all → stock.new.objects ≡ remaining master (set_numbers (drop start owned.now)) all }
+    ensures needs { stock.new.needs ≡ stock.old.needs }
 {
     for at in start..owned.len() {
         if let Role::Collection { .. } = owned[at].role {
-            objects.close_master(master, &[owned[at].number]);
+            stock.close_master(master, &[owned[at].number]);
         }
     }
 }
 
 /// Forgets what a master owned, which is what came last: its objects, and its collections with theirs (RM 7.6.1). No declared object has a
 /// greater master.
-pub(crate) fn forget_owned(owned: &mut Vec<Owned>, objects: &mut Objects, master: &Master)
+pub(crate) fn forget_owned(owned: &mut Vec<Owned>, stock: &mut Objects, master: &Master)
     requires bound { master.now.owned ≤ length owned.old.items }
     requires come { (given : ℕ) × HaveCome 0 owned.old.items given }
-    requires masters { AreUpTo master.now.number objects.old }
+    requires masters { AreUpTo master.now.number stock.old.objects }
     ensures owned { owned.new.items ≡ take master.now.owned owned.old.items }
-    ensures objects { objects.new ≡ remaining master.now.number (set_numbers (drop master.now.owned owned.old.items)) objects.old }
+    ensures objects { stock.new.objects ≡ remaining master.now.number (set_numbers (drop master.now.owned owned.old.items)) stock.old.objects }
+    ensures needs { stock.new.needs ≡ stock.old.needs }
 {
-    objects.close_master(master.number, &[]);
+    stock.close_master(master.number, &[]);
     if may_gather(owned.as_slice(), master.owned) {
-        forget_gathered(owned.as_slice(), master.owned, objects, master.number);
+        forget_gathered(owned.as_slice(), master.owned, stock, master.number);
     }
     owned.truncate(master.owned);
 }
@@ -167,7 +169,8 @@ impl Engine {
         ensures owned { self.new.owned.items ≡ slice_set self.old.owned.items at (out o) }
         ensures masters { self.new.masters ≡ self.old.masters }
         ensures cells { self.new.cells ≡ self.old.cells }
-        ensures objects { self.new.objects ≡ change_in o.number with_begun self.old.objects }
+        ensures objects { self.new.stock.objects ≡ change_in o.number with_begun self.old.stock.objects }
+        ensures needs { self.new.stock.needs ≡ self.old.stock.needs }
         ensures saved { self.new.saved ≡ self.old.saved }
         ensures noted { self.new.noted ≡ self.old.noted }
         ensures formals { self.new.formals ≡ self.old.formals }
@@ -179,7 +182,7 @@ impl Engine {
         let object = &mut self.owned[at];
         object.is_layer = false;
         let number = object.number;
-        self.objects.begin_finalization(number);
+        self.stock.begin_finalization(number);
         replace_top(&mut self.control, departure.frame(at));
         self.control.push_reserved(Frame::Finalizing(number));
     }
@@ -193,7 +196,7 @@ impl Engine {
         ensures done { Makes code.now self.old self.new (Table.act code.now (Giving (Shows.tried_of ended)) s.control s.operands s.world 0) }
     {
         let _ = code;
-        self.objects.end_finalization(number);
+        self.stock.end_finalization(number);
         let _ = self.control.take_last();
         self.mode = Mode::Giving(remembered(ended));
     }

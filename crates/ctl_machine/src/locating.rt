@@ -176,10 +176,10 @@ impl Engine {
         let spot = &self.spots[newest];
         let start = spot.offset();
         let object = spot.object();
-        if !self.objects.exists(object) {
+        if !self.stock.exists(object) {
             return None;
         }
-        self.objects.write_part(object, start, offset, value);
+        self.stock.write_part(object, start, offset, value);
         let _ = self.spots.take_last();
         self.mode = Mode::At(place + 1);
         Some(place + 1)

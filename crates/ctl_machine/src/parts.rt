@@ -1,10 +1,14 @@
-//! What the code knows of record types: how many cells their objects have, and their components (RM 3.8, 7.6.1).
+//! What the code knows of record types: how many cells their objects have, their components, and whether they need finalization (RM 3.8,
+//! 7.6, 7.6.1).
 
-ghost use Rattle.std.specs.Prelude.{◌≡◌, ◌-◌, ◌^◌, ◌<◌, Some, length, slice_get};
+ghost use Rattle.std.specs.Prelude.{◌≡◌, ◌-◌, ◌^◌, ◌<◌, IfOk, Some, length, slice_get};
 ghost use Rattle.ctl_meaning.specs.Lists.{item_or};
 ghost use Rattle.ctl_code.specs.Table as Table;
+ghost use Rattle.ctl_machine.specs.Needs.{need_of, needs_of};
 
 use ctl_code::code::{Begun, Code, Parts};
+use ctl_objects::Need;
+use std::alloc::{AllocError, Global};
 
 /// Answers how many cells an object of a record type has; none where the code knows no such type.
 #[inline(always)]
@@ -26,6 +30,26 @@ pub(crate) fn parts_of(code: &Code, record: usize) -> Parts
         Some(layout) => layout.parts,
         None => Parts::Plain,
     }
+}
+
+/// Answers what a record type needs whose objects have such parts: finalization if some part of them is controlled (RM 7.6).
+fn need_of(parts: Parts) -> Need
+    ensures { result ≡ need_of parts }
+{
+    match parts {
+        Parts::Plain => Need::Nothing,
+        _ => Need::Finalization,
+    }
+}
+
+/// Answers what the record types of the code need, by their numbers (RM 7.6).
+pub(crate) fn needs_of(alloc: Global, code: &Code) -> Result<Vec<Need>, AllocError>
+    ensures { IfOk result (λ needs. needs.items ≡ needs_of code.now) }
+{
+    code.layouts
+        .iter()
+        .map(|layout| need_of(layout.parts))
+        .collect(alloc)
 }
 
 /// Counts the components of a record type that begin with something (RM 3.8, 7.6); none where the code knows no such type.

@@ -7,6 +7,7 @@ ghost use Rattle.ctl_machine.specs.Shows.{Shows};
 
 use crate::engine::Engine;
 use crate::frame::{Mode, Numbered};
+use crate::parts::needs_of;
 use ctl_code::code::Code;
 use ctl_objects::Objects;
 use ctl_tree::event::Event;
@@ -19,6 +20,7 @@ impl Engine {
         ensures { IfOk result (λ engine. Shows code.now engine Steps.start) }
     {
         let cells = vec![in alloc; 0; code.room]?;
+        let needs = needs_of(alloc, code)?;
         Ok(Engine {
             alloc,
             mode: Mode::At(0),
@@ -28,7 +30,7 @@ impl Engine {
             owned: Vec::new(alloc),
             formals: Vec::new(alloc),
             spots: Vec::new(alloc),
-            objects: Objects::new(alloc),
+            stock: Objects::new(alloc, needs),
             saved: Vec::new(alloc),
             noted: Vec::new(alloc),
             given_masters: 0,
@@ -55,7 +57,7 @@ impl Engine {
             owned: _,
             formals: _,
             spots: _,
-            objects,
+            stock,
             saved: _,
             noted: _,
             given_masters: _,
@@ -63,7 +65,7 @@ impl Engine {
             events,
             picks,
         } = self;
-        objects.close();
+        stock.close();
         (events, picks)
     }
 }

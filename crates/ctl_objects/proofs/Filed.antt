@@ -15,6 +15,7 @@ use Rattle.ctl_objects.specs.declared.existing.Step.{Step}
 use Rattle.ctl_objects.specs.declared.groups.Group.{Group}
 use Rattle.ctl_objects.specs.declared.groups.Groups.{Groups}
 use Rattle.ctl_objects.specs.declared.stored.Allocation.{Allocation}
+use Rattle.ctl_objects.specs.declared.needs.Need.{Need}
 use Rattle.ctl_objects.specs.Existing.{bare}
 use Rattle.ctl_objects.specs.Filed.{AreFiled}
 use Rattle.ctl_objects.specs.Groups.{AreAlike, AreGrouped, AreNumbers, Has, IsSame, Moves, is_in, is_open, test}
@@ -51,9 +52,9 @@ same_changed n f os numbers k differs = in_change n f numbers k os ∙ ap (λ b.
 here_changed : (n : ℕ) (f : Object → Object) (os : List Object) → KeepsNumbers f → object_in n (change_in n f os) ≡ option_map f (object_in n os)
 here_changed n f os numbers = in_change n f numbers n os ∙ ap (λ b. cond b (option_map f (object_in n os)) (object_in n os)) (self_eq n)
 
-filed_changed : (os : List Object) (s : Sets) (g : Groups) (n : ℕ) (f : Object → Object) → KeepsNumbers f → ((o : Object) → (f o).origin ≡ o.origin) → AreGrouped (change_in n f os) g → AreListed os s → btree_set_len s ≡ length os → AreBelow (2 ^ 64) os
-    → AreFiled (change_in n f os) s g
-filed_changed os s g n f numbers origins grouped listed many below = record {
+filed_changed : (needs : List Need) (os : List Object) (s : Sets) (g : Groups) (n : ℕ) (f : Object → Object) → KeepsNumbers f → ((o : Object) → (f o).origin ≡ o.origin) → AreGrouped needs (change_in n f os) g → AreListed os s → btree_set_len s ≡ length os → AreBelow (2 ^ 64) os
+    → AreFiled needs (change_in n f os) s g
+filed_changed needs os s g n f numbers origins grouped listed many below = record {
   listed = listed_changed os s n f numbers origins listed;
   many = many ∙ sym (length_changed n f os);
   numbers = all_changed (λ o. o.number < 2 ^ 64) n f (λ o less. let same = numbers o in omega (arith, same, less)) os below;
@@ -61,31 +62,31 @@ filed_changed os s g n f numbers origins grouped listed many below = record {
 }
 
 -- the first of all
-pub filed_none : (os : List Object) (s : Sets) (g : Groups) → os ≡ [] → s.keys ≡ [] → AreGrouped [] g → AreFiled os s g
-filed_none os s g empty none grouped = subst (λ (l : List Object). AreFiled l s g) (sym empty) (record { listed = none_listed [] s refl none; many = ap (λ (l : List (ℕ × ℕ)). length l) none; numbers = tt; grouped = grouped })
+pub filed_none : (needs : List Need) (os : List Object) (s : Sets) (g : Groups) → os ≡ [] → s.keys ≡ [] → AreGrouped needs [] g → AreFiled needs os s g
+filed_none needs os s g empty none grouped = subst (λ (l : List Object). AreFiled needs l s g) (sym empty) (record { listed = none_listed [] s refl none; many = ap (λ (l : List (ℕ × ℕ)). length l) none; numbers = tt; grouped = grouped })
 
 -- cells are written
-pub filed_written : (os : List Object) (s : Sets) (g : Groups) (n offset : ℕ) (v : List ℕ) → AreFiled os s g → AreFiled (change_in n (with_cells offset v) os) s g
+pub filed_written : (needs : List Need) (os : List Object) (s : Sets) (g : Groups) (n offset : ℕ) (v : List ℕ) → AreFiled needs os s g → AreFiled needs (change_in n (with_cells offset v) os) s g
 unfolding opened_objects
-filed_written os s g n offset v h =
+filed_written needs os s g n offset v h =
     let f = with_cells offset v in
     let numbers = cells_keep offset v in
-    let grouped = grouped_alike os (change_in n f os) n g h.listed.rise (rise_change n f numbers 0 os h.listed.rise) (same_changed n f os numbers)
-    (subst (λ (o : Option Object). AreAlike (object_in n os) o) (sym (here_changed n f os numbers)) (by (object_in n os))) h.grouped in
-    filed_changed os s g n f numbers (cells_stay offset v) grouped h.listed h.many h.numbers
+    let grouped = grouped_alike needs os (change_in n f os) n g h.listed.rise (rise_change n f numbers 0 os h.listed.rise) (same_changed n f os numbers)
+    (subst (λ (o : Option Object). AreAlike needs (object_in n os) o) (sym (here_changed n f os numbers)) (by (object_in n os))) h.grouped in
+    filed_changed needs os s g n f numbers (cells_stay offset v) grouped h.listed h.many h.numbers
   where
-    by : (o : Option Object) → AreAlike o (option_map (with_cells offset v) o)
+    by : (o : Option Object) → AreAlike needs o (option_map (with_cells offset v) o)
     by None g = (refl, refl)
     by (Some x) g = (refl, refl)
 
 -- a step is taken
-pub filed_stepped : (os : List Object) (s : Sets) (g t : Groups) (n : ℕ) (z : Step) (a : Allocation) → IsBare n (Some a) os → Moves n (Some (bare_of n a)) (Some (with_step z (bare_of n a))) g t → AreFiled os s g → AreFiled (change_in n (with_step z) os) s t
-filed_stepped os s g t n z a is m h =
+pub filed_stepped : (needs : List Need) (os : List Object) (s : Sets) (g t : Groups) (n : ℕ) (z : Step) (a : Allocation) → IsBare n (Some a) os → Moves needs n (Some (bare_of n a)) (Some (with_step z (bare_of n a))) g t → AreFiled needs os s g → AreFiled needs (change_in n (with_step z) os) s t
+filed_stepped needs os s g t n z a is m h =
     let f = with_step z in
     let numbers = step_keeps z in
-    let grouped = grouped_moved os (change_in n f os) n (Some (bare_of n a)) (Some (f (bare_of n a))) g t h.listed.rise (rise_change n f numbers 0 os h.listed.rise) (same_changed n f os numbers) (alike_found n (Some a) os is)
-    (subst (λ (o : Option Object). AreAlike (Some (f (bare_of n a))) o) (sym (here_changed n f os numbers)) (alike_stepped n z a os is)) m h.grouped in
-    filed_changed os s t n f numbers (step_stays z) grouped h.listed h.many h.numbers
+    let grouped = grouped_moved needs os (change_in n f os) n (Some (bare_of n a)) (Some (f (bare_of n a))) g t h.listed.rise (rise_change n f numbers 0 os h.listed.rise) (same_changed n f os numbers) (alike_found needs n (Some a) os is)
+    (subst (λ (o : Option Object). AreAlike needs (Some (f (bare_of n a))) o) (sym (here_changed n f os numbers)) (alike_stepped needs n z a os is)) m h.grouped in
+    filed_changed needs os s t n f numbers (step_stays z) grouped h.listed h.many h.numbers
 
 bare_none : (n : ℕ) (os : List Object) → IsBare n None os → object_in n os ≡ None
 bare_none n os is = by (object_in n os) is
@@ -94,8 +95,8 @@ bare_none n os is = by (object_in n os) is
     by None e = refl
     by (Some x) e = absurd (cc)
 
-pub filed_unstepped : (os : List Object) (s : Sets) (g : Groups) (n : ℕ) (z : Step) → IsBare n None os → AreFiled os s g → AreFiled (change_in n (with_step z) os) s g
-filed_unstepped os s g n z is h = subst (λ (l : List Object). AreFiled l s g) (sym (change_lacking n (with_step z) os (bare_none n os is))) h
+pub filed_unstepped : (needs : List Need) (os : List Object) (s : Sets) (g : Groups) (n : ℕ) (z : Step) → IsBare n None os → AreFiled needs os s g → AreFiled needs (change_in n (with_step z) os) s g
+filed_unstepped needs os s g n z is h = subst (λ (l : List Object). AreFiled needs l s g) (sym (change_lacking n (with_step z) os (bare_none n os is))) h
 
 -- an object exists where it is found so
 pub exists_so : (n : ℕ) (a : Option Allocation) (os : List Object) → IsBare n a os → is_some a ≡ is_some (object_in n os)
@@ -110,8 +111,8 @@ exists_so n a os is = by a ∙ (ap (λ (o : Option Object). is_some o) is ∙ ba
     bared (Some x) = refl
 
 -- what the groups know of it
-pub has_found : (os : List Object) (s : Sets) (g : Groups) (n : ℕ) (a : Allocation) → length os < 2 ^ 63 → IsBare n (Some a) os → AreFiled os s g → Has n (bare_of n a) g
-has_found os s g n a few is h = has_object os n (bare_of n a) g h.listed.rise (omega (arith, few)) (alike_found n (Some a) os is) h.grouped
+pub has_found : (needs : List Need) (os : List Object) (s : Sets) (g : Groups) (n : ℕ) (a : Allocation) → length os < 2 ^ 63 → IsBare n (Some a) os → AreFiled needs os s g → Has needs n (bare_of n a) g
+has_found needs os s g n a few is h = has_object needs os n (bare_of n a) g h.listed.rise (omega (arith, few)) (alike_found needs n (Some a) os is) h.grouped
 
 -- An object comes ------------------------------------------------------------------------------------------
 
@@ -130,33 +131,33 @@ here_newest : (os : List Object) (x : Object) → AreBelow x.number os → objec
 here_newest os x below =
     in_newest x.number os x ∙ (ap (λ b. option_or (object_in x.number os) (cond b (Some x) None)) (self_eq x.number) ∙ ap (λ o. option_or o (Some x)) (none_above x.number os below))
 
-alike_none : (os : List Object) (n : ℕ) → AreBelow n os → AreAlike None (object_in n os)
-alike_none os n below = subst (λ (o : Option Object). AreAlike None o) (sym (none_above n os below)) (λ g. (refl, refl))
+alike_none : (needs : List Need) (os : List Object) (n : ℕ) → AreBelow n os → AreAlike needs None (object_in n os)
+alike_none needs os n below = subst (λ (o : Option Object). AreAlike needs None o) (sym (none_above n os below)) (λ g. (refl, refl))
 
 not_listed : (os : List Object) (s : Sets) (set n : ℕ) → AreListed os s → AreBelow n os → is_listed set n s ≡ false
 not_listed os s set n h below = h.members set n ∙ ap (λ o. option_map_or (λ (x : Object). is_of_set set x.origin) o false) (none_above n os below)
 
 -- no group has the number of a new one
-pub new_in : (os : List Object) (s : Sets) (g : Groups) (n : ℕ) → AreFiled os s g → AreBelow n os → (h : Group) → is_in h n g ≡ false
-new_in os s g n f below h = f.grouped.members h n ∙ ap (test (is_open h)) (none_above n os below)
+pub new_in : (needs : List Need) (os : List Object) (s : Sets) (g : Groups) (n : ℕ) → AreFiled needs os s g → AreBelow n os → (h : Group) → is_in h n g ≡ false
+new_in needs os s g n f below h = f.grouped.members h n ∙ ap (test (is_open needs h)) (none_above n os below)
 
-grouped_new : (os : List Object) (g t : Groups) (x y : Object) → Rise 0 os → AreBelow x.number os → AreAlike (Some y) (Some x) → Moves x.number None (Some y) g t → AreGrouped os g → AreGrouped (os ++ x ∷ []) t
-grouped_new os g t x y rise below alike m h =
-    grouped_moved os (os ++ x ∷ []) x.number None (Some y) g t rise (rise_newest 0 os x rise below (omega arith)) (other_newest os x) (alike_none os x.number below)
-    (subst (λ (o : Option Object). AreAlike (Some y) o) (sym (here_newest os x below)) alike) m h
+grouped_new : (needs : List Need) (os : List Object) (g t : Groups) (x y : Object) → Rise 0 os → AreBelow x.number os → AreAlike needs (Some y) (Some x) → Moves needs x.number None (Some y) g t → AreGrouped needs os g → AreGrouped needs (os ++ x ∷ []) t
+grouped_new needs os g t x y rise below alike m h =
+    grouped_moved needs os (os ++ x ∷ []) x.number None (Some y) g t rise (rise_newest 0 os x rise below (omega arith)) (other_newest os x) (alike_none needs os x.number below)
+    (subst (λ (o : Option Object). AreAlike needs (Some y) o) (sym (here_newest os x below)) alike) m h
 
 -- as groups see a new object
 abbrev pub fresh : Ty → ℕ → ℕ → Allocation
 fresh ty set cells = record { ty = ty; collection = set; cells = cells; stage = start }
 
-alike_fresh : (n : ℕ) (ty : Ty) (set cells : ℕ) (v : List ℕ) → AreAlike (Some (bare_of n (fresh ty set cells))) (Some (new_object n ty v (Allocated set W.Standard)))
+alike_fresh : (needs : List Need) (n : ℕ) (ty : Ty) (set cells : ℕ) (v : List ℕ) → AreAlike needs (Some (bare_of n (fresh ty set cells))) (Some (new_object n ty v (Allocated set W.Standard)))
 unfolding opened_changes
-alike_fresh n ty set cells v g = (refl, refl)
+alike_fresh needs n ty set cells v g = (refl, refl)
 
-pub filed_new : (os : List Object) (s t : Sets) (g u : Groups) (n : ℕ) (ty : Ty) (set cells : ℕ) (v : List ℕ) → n < 2 ^ 64 → AreBelow n os → IsListedAs true set n s t → btree_set_len t + one_of (is_listed set n s) ≡ btree_set_len s + 1
-    → Moves n None (Some (bare_of n (fresh ty set cells))) g u → AreFiled os s g → AreFiled (os ++ new_object n ty v (Allocated set W.Standard) ∷ []) t u
+pub filed_new : (needs : List Need) (os : List Object) (s t : Sets) (g u : Groups) (n : ℕ) (ty : Ty) (set cells : ℕ) (v : List ℕ) → n < 2 ^ 64 → AreBelow n os → IsListedAs true set n s t → btree_set_len t + one_of (is_listed set n s) ≡ btree_set_len s + 1
+    → Moves needs n None (Some (bare_of n (fresh ty set cells))) g u → AreFiled needs os s g → AreFiled needs (os ++ new_object n ty v (Allocated set W.Standard) ∷ []) t u
 unfolding opened_changes
-filed_new os s t g u n ty set cells v small below listed many m h =
+filed_new needs os s t g u n ty set cells v small below listed many m h =
     let x = new_object n ty v (Allocated set W.Standard) in
     record {
       listed = listed_new os s t x set W.Standard below refl listed h.listed;
@@ -166,14 +167,14 @@ filed_new os s t g u n ty set cells v small below listed many m h =
           let had = h.many in
           omega (arith, many, not_there, more, had);
       numbers = all_newest (λ o. o.number < 2 ^ 64) os x h.numbers small;
-      grouped = grouped_new os g u x (bare_of n (fresh ty set cells)) h.listed.rise below (alike_fresh n ty set cells v) m h.grouped;
+      grouped = grouped_new needs os g u x (bare_of n (fresh ty set cells)) h.listed.rise below (alike_fresh needs n ty set cells v) m h.grouped;
     }
 
 -- What was listed is taken back ----------------------------------------------------------------------------
 
-taken_back : (os : List Object) (s t u : Sets) (g w : Groups) (set n : ℕ) → AreBelow n os → IsListedAs true set n s t → btree_set_len t + one_of (is_listed set n s) ≡ btree_set_len s + 1 → IsListedAs false set n t u
-    → btree_set_len u + one_of (is_listed set n t) ≡ btree_set_len t → AreGrouped os w → AreFiled os s g → AreFiled os u w
-taken_back os s t u g w set n below listed many undone fewer grouped h = record {
+taken_back : (needs : List Need) (os : List Object) (s t u : Sets) (g w : Groups) (set n : ℕ) → AreBelow n os → IsListedAs true set n s t → btree_set_len t + one_of (is_listed set n s) ≡ btree_set_len s + 1 → IsListedAs false set n t u
+    → btree_set_len u + one_of (is_listed set n t) ≡ btree_set_len t → AreGrouped needs os w → AreFiled needs os s g → AreFiled needs os u w
+taken_back needs os s t u g w set n below listed many undone fewer grouped h = record {
   listed = listed_undone os s t u set n below listed undone h.listed;
   many =
       let not_there : one_of (is_listed set n s) ≡ 0 = ap one_of (not_listed os s set n h.listed below) in
@@ -185,32 +186,32 @@ taken_back os s t u g w set n below listed many undone fewer grouped h = record 
 }
 
 -- where no group took it in
-pub filed_refused : (os : List Object) (s t u : Sets) (g w : Groups) (set n : ℕ) → AreBelow n os → IsListedAs true set n s t → btree_set_len t + one_of (is_listed set n s) ≡ btree_set_len s + 1 → IsListedAs false set n t u
-    → btree_set_len u + one_of (is_listed set n t) ≡ btree_set_len t → IsSame g w → AreFiled os s g → AreFiled os u w
-filed_refused os s t u g w set n below listed many undone fewer same h = taken_back os s t u g w set n below listed many undone fewer (grouped_same os g w same h.grouped) h
+pub filed_refused : (needs : List Need) (os : List Object) (s t u : Sets) (g w : Groups) (set n : ℕ) → AreBelow n os → IsListedAs true set n s t → btree_set_len t + one_of (is_listed set n s) ≡ btree_set_len s + 1 → IsListedAs false set n t u
+    → btree_set_len u + one_of (is_listed set n t) ≡ btree_set_len t → IsSame g w → AreFiled needs os s g → AreFiled needs os u w
+filed_refused needs os s t u g w set n below listed many undone fewer same h = taken_back needs os s t u g w set n below listed many undone fewer (grouped_same needs os g w same h.grouped) h
 
 -- where a group took it in
-pub has_new : (os : List Object) (s : Sets) (g t : Groups) (n : ℕ) (ty : Ty) (set cells : ℕ) → AreBelow n os → length os < 2 ^ 63 → Moves n None (Some (bare_of n (fresh ty set cells))) g t → AreFiled os s g → Has n (bare_of n (fresh ty set cells)) t
+pub has_new : (needs : List Need) (os : List Object) (s : Sets) (g t : Groups) (n : ℕ) (ty : Ty) (set cells : ℕ) → AreBelow n os → length os < 2 ^ 63 → Moves needs n None (Some (bare_of n (fresh ty set cells))) g t → AreFiled needs os s g → Has needs n (bare_of n (fresh ty set cells)) t
 unfolding opened_changes
-has_new os s g t n ty set cells below few m h =
+has_new needs os s g t n ty set cells below few m h =
     let x = new_object n ty [] (Allocated set W.Standard) in
     let y = bare_of n (fresh ty set cells) in
     let more = length_newest os x in
-    has_object (os ++ x ∷ []) n y t (rise_newest 0 os x h.listed.rise below (omega arith)) (omega (arith, more, few))
-    (subst (λ (o : Option Object). AreAlike (Some y) o) (sym (here_newest os x below)) (alike_fresh n ty set cells []))
-    (grouped_new os g t x y h.listed.rise below (alike_fresh n ty set cells []) m h.grouped)
+    has_object needs (os ++ x ∷ []) n y t (rise_newest 0 os x h.listed.rise below (omega arith)) (omega (arith, more, few))
+    (subst (λ (o : Option Object). AreAlike needs (Some y) o) (sym (here_newest os x below)) (alike_fresh needs n ty set cells []))
+    (grouped_new needs os g t x y h.listed.rise below (alike_fresh needs n ty set cells []) m h.grouped)
 
-pub filed_undone : (os : List Object) (s t u : Sets) (g v w : Groups) (n : ℕ) (ty : Ty) (set cells : ℕ) → AreBelow n os → IsListedAs true set n s t → btree_set_len t + one_of (is_listed set n s) ≡ btree_set_len s + 1 → IsListedAs false set n t u
-    → btree_set_len u + one_of (is_listed set n t) ≡ btree_set_len t → Moves n None (Some (bare_of n (fresh ty set cells))) g v → Moves n (Some (bare_of n (fresh ty set cells))) None v w → AreFiled os s g → AreFiled os u w
+pub filed_undone : (needs : List Need) (os : List Object) (s t u : Sets) (g v w : Groups) (n : ℕ) (ty : Ty) (set cells : ℕ) → AreBelow n os → IsListedAs true set n s t → btree_set_len t + one_of (is_listed set n s) ≡ btree_set_len s + 1 → IsListedAs false set n t u
+    → btree_set_len u + one_of (is_listed set n t) ≡ btree_set_len t → Moves needs n None (Some (bare_of n (fresh ty set cells))) g v → Moves needs n (Some (bare_of n (fresh ty set cells))) None v w → AreFiled needs os s g → AreFiled needs os u w
 unfolding opened_changes
-filed_undone os s t u g v w n ty set cells below listed many undone fewer came went h =
+filed_undone needs os s t u g v w n ty set cells below listed many undone fewer came went h =
     let x = new_object n ty [] (Allocated set W.Standard) in
     let y = bare_of n (fresh ty set cells) in
-    let alike = alike_fresh n ty set cells [] in
-    let there = grouped_new os g v x y h.listed.rise below alike came h.grouped in
-    taken_back os s t u g w set n below listed many undone fewer
-    (grouped_moved (os ++ x ∷ []) os n (Some y) None v w (rise_newest 0 os x h.listed.rise below (omega arith)) h.listed.rise (λ k differs. sym (other_newest os x k differs))
-    (subst (λ (o : Option Object). AreAlike (Some y) o) (sym (here_newest os x below)) alike) (alike_none os n below) went there)
+    let alike = alike_fresh needs n ty set cells [] in
+    let there = grouped_new needs os g v x y h.listed.rise below alike came h.grouped in
+    taken_back needs os s t u g w set n below listed many undone fewer
+    (grouped_moved needs (os ++ x ∷ []) os n (Some y) None v w (rise_newest 0 os x h.listed.rise below (omega arith)) h.listed.rise (λ k differs. sym (other_newest os x k differs))
+    (subst (λ (o : Option Object). AreAlike needs (Some y) o) (sym (here_newest os x below)) alike) (alike_none needs os n below) went there)
     h
 
 -- An object goes -------------------------------------------------------------------------------------------
@@ -226,9 +227,9 @@ length_without n low os rise =
     by None = refl
     by (Some x) = refl
 
-pub filed_gone : (os : List Object) (s t : Sets) (g u : Groups) (n : ℕ) (a : Allocation) → IsBare n (Some a) os → ((c : ℕ) → is_member c n os ≡ nat_eq a.collection c) → IsListedAs false a.collection n s t → btree_set_len t + one_of (is_listed a.collection n s) ≡ btree_set_len s
-    → Moves n (Some (bare_of n a)) None g u → AreFiled os s g → AreFiled (keep (λ o. not (nat_eq o.number n)) os) t u
-filed_gone os s t g u n a is own listed many m h = record {
+pub filed_gone : (needs : List Need) (os : List Object) (s t : Sets) (g u : Groups) (n : ℕ) (a : Allocation) → IsBare n (Some a) os → ((c : ℕ) → is_member c n os ≡ nat_eq a.collection c) → IsListedAs false a.collection n s t → btree_set_len t + one_of (is_listed a.collection n s) ≡ btree_set_len s
+    → Moves needs n (Some (bare_of n a)) None g u → AreFiled needs os s g → AreFiled needs (keep (λ o. not (nat_eq o.number n)) os) t u
+filed_gone needs os s t g u n a is own listed many m h = record {
   listed = listed_without os s t a.collection n own listed h.listed;
   many =
       let there : one_of (is_listed a.collection n s) ≡ 1 = ap one_of (h.listed.members a.collection n ∙ (own a.collection ∙ self_eq a.collection)) in
@@ -237,8 +238,8 @@ filed_gone os s t g u n a is own listed many m h = record {
       let had = h.many in
       omega (arith, many, there, found, less, had);
   numbers = all_kept (λ o. o.number < 2 ^ 64) other os h.numbers;
-  grouped = grouped_moved os (keep other os) n (Some (bare_of n a)) None g u h.listed.rise (rise_keep other 0 os h.listed.rise) same (alike_found n (Some a) os is)
-      (subst (λ (o : Option Object). AreAlike None o) (sym gone) (λ g. (refl, refl))) m h.grouped;
+  grouped = grouped_moved needs os (keep other os) n (Some (bare_of n a)) None g u h.listed.rise (rise_keep other 0 os h.listed.rise) same (alike_found needs n (Some a) os is)
+      (subst (λ (o : Option Object). AreAlike needs None o) (sym gone) (λ g. (refl, refl))) m h.grouped;
 }
   where
     other : Object → Bool
@@ -262,8 +263,8 @@ filed_gone os s t g u n a is own listed many m h = record {
     gone : object_in n (keep other os) ≡ None
     gone = in_keep other 0 n os h.listed.rise ∙ kept n true (self_eq n) (object_in n os) refl
 
-pub filed_still : (os : List Object) (s : Sets) (g : Groups) (n : ℕ) → IsBare n None os → AreFiled os s g → AreFiled (keep (λ o. not (nat_eq o.number n)) os) s g
-filed_still os s g n is h = subst (λ (l : List Object). AreFiled l s g) (sym (keep_lacking n os h.listed.rise (bare_none n os is))) h
+pub filed_still : (needs : List Need) (os : List Object) (s : Sets) (g : Groups) (n : ℕ) → IsBare n None os → AreFiled needs os s g → AreFiled needs (keep (λ o. not (nat_eq o.number n)) os) s g
+filed_still needs os s g n is h = subst (λ (l : List Object). AreFiled needs l s g) (sym (keep_lacking n os h.listed.rise (bare_none n os is))) h
 
 -- What is known of numbers ---------------------------------------------------------------------------------
 
@@ -285,5 +286,5 @@ passing_below b n p os below = by (object_in n os) refl
     by None there t = absurd (cc)
     by (Some z) there t = number_below b n os z below there
 
-pub numbers_of : (os : List Object) (s : Sets) (g : Groups) → AreFiled os s g → AreNumbers g
-numbers_of os s g f h n is = passing_below (2 ^ 64) n (is_open h) os f.numbers (sym (f.grouped.members h n) ∙ is)
+pub numbers_of : (needs : List Need) (os : List Object) (s : Sets) (g : Groups) → AreFiled needs os s g → AreNumbers g
+numbers_of needs os s g f h n is = passing_below (2 ^ 64) n (is_open needs h) os f.numbers (sym (f.grouped.members h n) ∙ is)

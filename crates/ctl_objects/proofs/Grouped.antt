@@ -22,6 +22,7 @@ use Rattle.ctl_objects.specs.declared.groups.Group.{Group}
 use Rattle.ctl_objects.specs.declared.groups.Groups.{Groups}
 use Rattle.ctl_objects.specs.declared.groups.Start.{Start}
 use Rattle.ctl_objects.specs.declared.groups.Start.TheVariants.{Behind, Collection}
+use Rattle.ctl_objects.specs.declared.needs.Need.{Need}
 use Rattle.ctl_objects.specs.Groups.{AreEntered, AreGrouped, AreNumbers, Has, IsCounted, IsFirstMember, IsLastMember, IsNextBy, KeepsCounts, Moves, count, count_of, group_cmp, group_of, is_from, is_in, is_in_group, is_open, is_same, is_waiting, key_cmp, one, open_group, precedes, start_of, test}
 use Rattle.ctl_objects.specs.Members.{IsGreatest, IsLeast}
 use Rattle.ctl_objects.proofs.Rising.{in_none, keep_none}
@@ -99,14 +100,14 @@ has g n keys = sorted.contains key_cmp keys (g, n)
 key_changed : (b : Bool) (h : Group) (n : ℕ) (old new : Keys) → sorted.Updates key_cmp old new (h, n) b → (g : Group) (k : ℕ) → has g k new ≡ cond (is_same h g && nat_eq n k) b (has g k old)
 key_changed b h n old new updates g k = updates.0 (g, k) ∙ ap (λ t. cond t b (has g k old)) (same_key h g n k)
 
-count_changed : (w : Option ℕ) (h : Group) (old new : Joined) → tree.Updates group_cmp old new h w → (g : Group) → count_of g new ≡ cond (is_same h g) w (count_of g old)
+pub count_changed : (w : Option ℕ) (h : Group) (old new : Joined) → tree.Updates group_cmp old new h w → (g : Group) → count_of g new ≡ cond (is_same h g) w (count_of g old)
 count_changed w h old new updates g = updates.0 g ∙ ap (λ t. cond t w (count_of g old)) (same_group h g)
 
-pub none_grouped : (s : Groups) → s.untouched.keys ≡ [] → s.joined.entries ≡ [] → AreGrouped [] s
-none_grouped s no_keys no_counts = record {
-  members = λ g n. not_there g n ∙ sym (ap (test (is_open g)) (in_none n));
+pub none_grouped : (needs : List Need) (s : Groups) → s.untouched.keys ≡ [] → s.joined.entries ≡ [] → AreGrouped needs [] s
+none_grouped needs s no_keys no_counts = record {
+  members = λ g n. not_there g n ∙ sym (ap (test (is_open needs g)) (in_none n));
   entered = λ g n is. absurd (never (is_in g n s) is (not_there g n));
-  counts = λ g. ap (λ (es : List (Group × ℕ)). option_map_or (λ k. k) (lookup (λ h. is_eq (group_cmp g h)) es) 0) no_counts ∙ sym (ap (λ (l : List Object). length l) (keep_none (is_waiting g)));
+  counts = λ g. ap (λ (es : List (Group × ℕ)). option_map_or (λ k. k) (lookup (λ h. is_eq (group_cmp g h)) es) 0) no_counts ∙ sym (ap (λ (l : List Object). length l) (keep_none (is_waiting needs g)));
 }
   where
     not_there : (g : Group) (n : ℕ) → is_in g n s ≡ false
@@ -114,7 +115,7 @@ none_grouped s no_keys no_counts = record {
 
 -- Counts ---------------------------------------------------------------------------------------------------
 
-abbrev value : Option ℕ → ℕ
+abbrev pub value : Option ℕ → ℕ
 value o = option_map_or (λ k. k) o 0
 
 -- a group that has none is given one
@@ -139,47 +140,47 @@ entered_new h old new updates none = (
 -- An object comes ------------------------------------------------------------------------------------------
 
 -- whether it stands in a group
-pub open_by : (x : Object) (r : Option Group) → r ≡ open_group x → (g : Group) → is_open g x ≡ option_map_or (λ h. is_same h g) r false
-open_by x r is g = by (is_untouched x.state) ∙ ap (λ o. option_map_or (λ h. is_same h g) o false) (sym is)
+pub open_by : (needs : List Need) (x : Object) (r : Option Group) → r ≡ open_group needs x → (g : Group) → is_open needs g x ≡ option_map_or (λ h. is_same h g) r false
+open_by needs x r is g = by (is_untouched x.state) ∙ ap (λ o. option_map_or (λ h. is_same h g) o false) (sym is)
   where
-    by : (b : Bool) → (b && is_in_group g x) ≡ option_map_or (λ h. is_same h g) (cond b (group_of x) None) false
+    by : (b : Bool) → (b && is_in_group needs g x) ≡ option_map_or (λ h. is_same h g) (cond b (group_of needs x) None) false
     by true = refl
     by false = refl
 
-not_waiting : (g : Group) (x : Object) → is_open g x ≡ false → is_waiting g x ≡ false
-not_waiting g x outside = ap (λ b. x.joined && b) outside ∙ right_false x.joined
+not_waiting : (needs : List Need) (g : Group) (x : Object) → is_open needs g x ≡ false → is_waiting needs g x ≡ false
+not_waiting needs g x outside = ap (λ b. x.joined && b) outside ∙ right_false x.joined
 
 -- one that stands in no group
-pub comes_outside : (n : ℕ) (x : Object) (s : Groups) → AreEntered s → ((g : Group) → is_in g n s ≡ false) → ((g : Group) → is_open g x ≡ false) → Moves n None (Some x) s s
-comes_outside n x s entered new outside = record {
+pub comes_outside : (needs : List Need) (n : ℕ) (x : Object) (s : Groups) → AreEntered s → ((g : Group) → is_in g n s ≡ false) → ((g : Group) → is_open needs g x ≡ false) → Moves needs n None (Some x) s s
+comes_outside needs n x s entered new outside = record {
   members = λ g k. by g k (nat_eq n k) refl;
   entered = entered;
-  counts = λ g. ap (λ b. count g s + one b) (sym (not_waiting g x (outside g)));
+  counts = λ g. ap (λ b. count g s + one b) (sym (not_waiting needs g x (outside g)));
 }
   where
-    by : (g : Group) (k : ℕ) (b : Bool) → nat_eq n k ≡ b → is_in g k s ≡ cond b (is_open g x) (is_in g k s)
+    by : (g : Group) (k : ℕ) (b : Bool) → nat_eq n k ≡ b → is_in g k s ≡ cond b (is_open needs g x) (is_in g k s)
     by g k false is = refl
     by g k true is = ap (λ m. is_in g m s) (sym (eqb-true n k is)) ∙ (new g ∙ sym (outside g))
 
-pub comes : (n : ℕ) (x : Object) (s t : Groups) (h : Group) → Some h ≡ open_group x → x.joined ≡ false → AreEntered s → ((g : Group) → is_in g n s ≡ false) → sorted.Updates key_cmp s.untouched t.untouched (h, n) true
-    → KeepsCounts s.joined t.joined → is_some (count_of h t.joined) ≡ true → Moves n None (Some x) s t
-comes n x s t h own new_one entered new updates keeps there = record {
+pub comes : (needs : List Need) (n : ℕ) (x : Object) (s t : Groups) (h : Group) → Some h ≡ open_group needs x → x.joined ≡ false → AreEntered s → ((g : Group) → is_in g n s ≡ false) → sorted.Updates key_cmp s.untouched t.untouched (h, n) true
+    → KeepsCounts s.joined t.joined → is_some (count_of h t.joined) ≡ true → Moves needs n None (Some x) s t
+comes needs n x s t h own new_one entered new updates keeps there = record {
   members = λ g k. changed g k ∙ by g k (nat_eq n k) refl;
   entered = λ g k is. is_there g k (is_same h g && nat_eq n k) refl (sym (changed g k) ∙ is);
-  counts = λ g. ap (λ c. c + 0) (keeps.0 g) ∙ ap (λ b. count g s + one (b && is_open g x)) (sym new_one);
+  counts = λ g. ap (λ c. c + 0) (keeps.0 g) ∙ ap (λ b. count g s + one (b && is_open needs g x)) (sym new_one);
 }
   where
     changed : (g : Group) (k : ℕ) → is_in g k t ≡ cond (is_same h g && nat_eq n k) true (is_in g k s)
     changed g k = key_changed true h n s.untouched t.untouched updates g k
 
-    stands : (g : Group) → is_open g x ≡ is_same h g
-    stands g = open_by x (Some h) own g
+    stands : (g : Group) → is_open needs g x ≡ is_same h g
+    stands g = open_by needs x (Some h) own g
 
     here : (g : Group) (b : Bool) → cond b true (is_in g n s) ≡ b
     here g true = refl
     here g false = new g
 
-    by : (g : Group) (k : ℕ) (b : Bool) → nat_eq n k ≡ b → cond (is_same h g && b) true (is_in g k s) ≡ cond b (is_open g x) (is_in g k s)
+    by : (g : Group) (k : ℕ) (b : Bool) → nat_eq n k ≡ b → cond (is_same h g && b) true (is_in g k s) ≡ cond b (is_open needs g x) (is_in g k s)
     by g k false is = ap (λ b. cond b true (is_in g k s)) (right_false (is_same h g))
     by g k true is =
         ap (λ b. cond b true (is_in g k s)) (right_true (is_same h g))
@@ -192,39 +193,39 @@ comes n x s t h own new_one entered new updates keeps there = record {
 -- An object goes -------------------------------------------------------------------------------------------
 
 -- where groups see it before and after as they see it now, nothing moves
-pub stays : (n : ℕ) (x y : Object) (s : Groups) → Has n x s → ((g : Group) → is_open g y ≡ is_open g x) → ((g : Group) → is_waiting g y ≡ is_waiting g x) → Moves n (Some x) (Some y) s s
-stays n x y s h stands waiting = record {
+pub stays : (needs : List Need) (n : ℕ) (x y : Object) (s : Groups) → Has needs n x s → ((g : Group) → is_open needs g y ≡ is_open needs g x) → ((g : Group) → is_waiting needs g y ≡ is_waiting needs g x) → Moves needs n (Some x) (Some y) s s
+stays needs n x y s h stands waiting = record {
   members = λ g k. by g k (nat_eq n k) refl;
   entered = h.entered;
   counts = λ g. ap (λ b. count g s + one b) (sym (waiting g));
 }
   where
-    by : (g : Group) (k : ℕ) (b : Bool) → nat_eq n k ≡ b → is_in g k s ≡ cond b (is_open g y) (is_in g k s)
+    by : (g : Group) (k : ℕ) (b : Bool) → nat_eq n k ≡ b → is_in g k s ≡ cond b (is_open needs g y) (is_in g k s)
     by g k false is = refl
     by g k true is = ap (λ m. is_in g m s) (sym (eqb-true n k is)) ∙ (h.there g ∙ sym (stands g))
 
 -- one that stands in no group
-pub goes_outside : (n : ℕ) (x : Object) (s : Groups) → Has n x s → None ≡ open_group x → Moves n (Some x) None s s
-goes_outside n x s h own = record {
+pub goes_outside : (needs : List Need) (n : ℕ) (x : Object) (s : Groups) → Has needs n x s → None ≡ open_group needs x → Moves needs n (Some x) None s s
+goes_outside needs n x s h own = record {
   members = λ g k. by g k (nat_eq n k) refl;
   entered = h.entered;
-  counts = λ g. ap (λ b. count g s + one b) (not_waiting g x (outside g));
+  counts = λ g. ap (λ b. count g s + one b) (not_waiting needs g x (outside g));
 }
   where
-    outside : (g : Group) → is_open g x ≡ false
-    outside g = open_by x None own g
+    outside : (g : Group) → is_open needs g x ≡ false
+    outside g = open_by needs x None own g
 
     by : (g : Group) (k : ℕ) (b : Bool) → nat_eq n k ≡ b → is_in g k s ≡ cond b false (is_in g k s)
     by g k false is = refl
     by g k true is = ap (λ m. is_in g m s) (sym (eqb-true n k is)) ∙ (h.there g ∙ outside g)
 
 -- its number is taken out of its group
-taken_out : (n : ℕ) (x : Object) (s : Groups) (keys : Keys) (h : Group) → Has n x s → Some h ≡ open_group x → sorted.Updates key_cmp s.untouched keys (h, n) false → (g : Group) (k : ℕ) → has g k keys ≡ cond (nat_eq n k) false (is_in g k s)
-taken_out n x s keys h has_x own updates g k = key_changed false h n s.untouched keys updates g k ∙ by (nat_eq n k) refl
+taken_out : (needs : List Need) (n : ℕ) (x : Object) (s : Groups) (keys : Keys) (h : Group) → Has needs n x s → Some h ≡ open_group needs x → sorted.Updates key_cmp s.untouched keys (h, n) false → (g : Group) (k : ℕ) → has g k keys ≡ cond (nat_eq n k) false (is_in g k s)
+taken_out needs n x s keys h has_x own updates g k = key_changed false h n s.untouched keys updates g k ∙ by (nat_eq n k) refl
   where
     here : (b : Bool) → is_same h g ≡ b → cond b false (is_in g n s) ≡ false
     here true is = refl
-    here false is = has_x.there g ∙ (open_by x (Some h) own g ∙ is)
+    here false is = has_x.there g ∙ (open_by needs x (Some h) own g ∙ is)
 
     by : (b : Bool) → nat_eq n k ≡ b → cond (is_same h g && b) false (is_in g k s) ≡ cond b false (is_in g k s)
     by false is = ap (λ b. cond b false (is_in g k s)) (right_false (is_same h g))
@@ -238,49 +239,49 @@ was_in n k b is = by (nat_eq n k) is
     by false is = is
 
 -- one that has not joined, and not the last of its group
-pub goes_uncounted : (n : ℕ) (x : Object) (s : Groups) (keys : Keys) (h : Group) → Has n x s → Some h ≡ open_group x → sorted.Updates key_cmp s.untouched keys (h, n) false → x.joined ≡ false
-    → Moves n (Some x) None s (record { untouched = keys; joined = s.joined })
-goes_uncounted n x s keys h has_x own updates not_joined = record {
-  members = λ g k. taken_out n x s keys h has_x own updates g k;
-  entered = λ g k is. has_x.entered g k (was_in n k (is_in g k s) (sym (taken_out n x s keys h has_x own updates g k) ∙ is));
-  counts = λ g. ap (λ b. count g s + one (b && is_open g x)) not_joined;
+pub goes_uncounted : (needs : List Need) (n : ℕ) (x : Object) (s : Groups) (keys : Keys) (h : Group) → Has needs n x s → Some h ≡ open_group needs x → sorted.Updates key_cmp s.untouched keys (h, n) false → x.joined ≡ false
+    → Moves needs n (Some x) None s (record { untouched = keys; joined = s.joined })
+goes_uncounted needs n x s keys h has_x own updates not_joined = record {
+  members = λ g k. taken_out needs n x s keys h has_x own updates g k;
+  entered = λ g k is. has_x.entered g k (was_in n k (is_in g k s) (sym (taken_out needs n x s keys h has_x own updates g k) ∙ is));
+  counts = λ g. ap (λ b. count g s + one (b && is_open needs g x)) not_joined;
 }
 
 -- one that has
-pub goes_counted : (n : ℕ) (x : Object) (s : Groups) (keys : Keys) (m : Joined) (h : Group) → Has n x s → Some h ≡ open_group x → sorted.Updates key_cmp s.untouched keys (h, n) false → x.joined ≡ true
-    → IsCounted h (count h s - 1) s.joined m → Moves n (Some x) None s (record { untouched = keys; joined = m })
-goes_counted n x s keys m h has_x own updates joined less = record {
-  members = λ g k. taken_out n x s keys h has_x own updates g k;
-  entered = λ g k is. ap (λ o. is_some o) (less g) ∙ kept g (is_same h g) (has_x.entered g k (was_in n k (is_in g k s) (sym (taken_out n x s keys h has_x own updates g k) ∙ is)));
-  counts = λ g. ap (λ o. value o + one (is_waiting g x)) (less g) ∙ by g (is_same h g) refl;
+pub goes_counted : (needs : List Need) (n : ℕ) (x : Object) (s : Groups) (keys : Keys) (m : Joined) (h : Group) → Has needs n x s → Some h ≡ open_group needs x → sorted.Updates key_cmp s.untouched keys (h, n) false → x.joined ≡ true
+    → IsCounted h (count h s - 1) s.joined m → Moves needs n (Some x) None s (record { untouched = keys; joined = m })
+goes_counted needs n x s keys m h has_x own updates joined less = record {
+  members = λ g k. taken_out needs n x s keys h has_x own updates g k;
+  entered = λ g k is. ap (λ o. is_some o) (less g) ∙ kept g (is_same h g) (has_x.entered g k (was_in n k (is_in g k s) (sym (taken_out needs n x s keys h has_x own updates g k) ∙ is)));
+  counts = λ g. ap (λ o. value o + one (is_waiting needs g x)) (less g) ∙ by g (is_same h g) refl;
 }
   where
-    waits : (g : Group) → is_waiting g x ≡ is_same h g
-    waits g = ap (λ b. b && is_open g x) joined ∙ open_by x (Some h) own g
+    waits : (g : Group) → is_waiting needs g x ≡ is_same h g
+    waits g = ap (λ b. b && is_open needs g x) joined ∙ open_by needs x (Some h) own g
 
     kept : (g : Group) (b : Bool) → is_some (count_of g s.joined) ≡ true → is_some (cond b (Some (count h s - 1)) (count_of g s.joined)) ≡ true
     kept g true is = refl
     kept g false is = is
 
-    by : (g : Group) (b : Bool) → is_same h g ≡ b → value (cond b (Some (count h s - 1)) (count_of g s.joined)) + one (is_waiting g x) ≡ count g s + 0
+    by : (g : Group) (b : Bool) → is_same h g ≡ b → value (cond b (Some (count h s - 1)) (count_of g s.joined)) + one (is_waiting needs g x) ≡ count g s + 0
     by g false is = ap (λ t. count g s + one t) (waits g ∙ is)
     by g true is =
-        let some : one (is_waiting g x) ≡ 1 = ap one (waits g ∙ is) in
+        let some : one (is_waiting needs g x) ≡ 1 = ap one (waits g ∙ is) in
         let own_count : count h s ≡ count g s = ap (λ y. count y s) (same_is h g is) in
         let least = has_x.least g in
         omega (arith, some, own_count, least)
 
 -- the last one of its group
-pub goes_last : (n : ℕ) (x : Object) (s : Groups) (keys : Keys) (m : Joined) (h : Group) → Has n x s → Some h ≡ open_group x → sorted.Updates key_cmp s.untouched keys (h, n) false → ((k : ℕ) → (0 ≤ k) × (has h k keys ≡ true) → ⊥)
-    → tree.Updates group_cmp s.joined m h None → Moves n (Some x) None s (record { untouched = keys; joined = m })
-goes_last n x s keys m h has_x own updates none gone = record {
+pub goes_last : (needs : List Need) (n : ℕ) (x : Object) (s : Groups) (keys : Keys) (m : Joined) (h : Group) → Has needs n x s → Some h ≡ open_group needs x → sorted.Updates key_cmp s.untouched keys (h, n) false → ((k : ℕ) → (0 ≤ k) × (has h k keys ≡ true) → ⊥)
+    → tree.Updates group_cmp s.joined m h None → Moves needs n (Some x) None s (record { untouched = keys; joined = m })
+goes_last needs n x s keys m h has_x own updates none gone = record {
   members = out;
   entered = λ g k is. ap (λ o. is_some o) (dropped g) ∙ kept g k is (is_same h g) refl;
-  counts = λ g. ap (λ o. value o + one (is_waiting g x)) (dropped g) ∙ by g (is_same h g) refl;
+  counts = λ g. ap (λ o. value o + one (is_waiting needs g x)) (dropped g) ∙ by g (is_same h g) refl;
 }
   where
     out : (g : Group) (k : ℕ) → has g k keys ≡ cond (nat_eq n k) false (is_in g k s)
-    out = taken_out n x s keys h has_x own updates
+    out = taken_out needs n x s keys h has_x own updates
 
     dropped : (g : Group) → count_of g m ≡ cond (is_same h g) None (count_of g s.joined)
     dropped g = count_changed None h s.joined m gone g
@@ -292,74 +293,74 @@ goes_last n x s keys m h has_x own updates none gone = record {
     alone : (k : ℕ) → nat_eq n k ≡ false → is_in h k s ≡ false
     alone k other = is_false (is_in h k s) (λ is. none k (omega arith, out h k ∙ (ap (λ b. cond b false (is_in h k s)) other ∙ is)))
 
-    by : (g : Group) (b : Bool) → is_same h g ≡ b → value (cond b None (count_of g s.joined)) + one (is_waiting g x) ≡ count g s + 0
-    by g false is = ap (λ t. count g s + one t) (not_waiting g x (open_by x (Some h) own g ∙ is))
+    by : (g : Group) (b : Bool) → is_same h g ≡ b → value (cond b None (count_of g s.joined)) + one (is_waiting needs g x) ≡ count g s + 0
+    by g false is = ap (λ t. count g s + one t) (not_waiting needs g x (open_by needs x (Some h) own g ∙ is))
     by g true is =
-        let all : count g s ≡ one (is_waiting g x) = has_x.only g (λ k other. ap (λ y. is_in y k s) (sym (same_is h g is)) ∙ alone k other) in
+        let all : count g s ≡ one (is_waiting needs g x) = has_x.only g (λ k other. ap (λ y. is_in y k s) (sym (same_is h g is)) ∙ alone k other) in
         omega (arith, all)
 
 -- An object takes a step -----------------------------------------------------------------------------------
 
-pub begins : (n : ℕ) (x : Object) (s t : Groups) → Moves n (Some x) None s t → Moves n (Some x) (Some (with_begun x)) s t
+pub begins : (needs : List Need) (n : ℕ) (x : Object) (s t : Groups) → Moves needs n (Some x) None s t → Moves needs n (Some x) (Some (with_begun x)) s t
 unfolding opened_objects
-begins n x s t m = record { members = m.members; entered = m.entered; counts = λ g. m.counts g ∙ ap (λ b. count g s + one b) (sym (right_false x.joined)) }
+begins needs n x s t m = record { members = m.members; entered = m.entered; counts = λ g. m.counts g ∙ ap (λ b. count g s + one b) (sym (right_false x.joined)) }
 
-pub ends : (n : ℕ) (x : Object) (s : Groups) → Has n x s → Moves n (Some x) (Some (with_finalized x)) s s
+pub ends : (needs : List Need) (n : ℕ) (x : Object) (s : Groups) → Has needs n x s → Moves needs n (Some x) (Some (with_finalized x)) s s
 unfolding opened_objects
-ends n x s h = stays n x (with_finalized x) s h (λ g. same g (is_untouched x.state) refl) (λ g. waiting g (is_untouched x.state) refl)
+ends needs n x s h = stays needs n x (with_finalized x) s h (λ g. same g (is_untouched x.state) refl) (λ g. waiting g (is_untouched x.state) refl)
   where
     finalized : Object
     finalized = record x { state = Finalized }
 
-    same : (g : Group) (b : Bool) → is_untouched x.state ≡ b → is_open g (cond b x finalized) ≡ is_open g x
+    same : (g : Group) (b : Bool) → is_untouched x.state ≡ b → is_open needs g (cond b x finalized) ≡ is_open needs g x
     same g true is = refl
-    same g false is = ap (λ b. b && is_in_group g x) (sym is)
+    same g false is = ap (λ b. b && is_in_group needs g x) (sym is)
 
-    waiting : (g : Group) (b : Bool) → is_untouched x.state ≡ b → is_waiting g (cond b x finalized) ≡ is_waiting g x
+    waiting : (g : Group) (b : Bool) → is_untouched x.state ≡ b → is_waiting needs g (cond b x finalized) ≡ is_waiting needs g x
     waiting g true is = refl
-    waiting g false is = ap (λ b. x.joined && (b && is_in_group g x)) (sym is)
+    waiting g false is = ap (λ b. x.joined && (b && is_in_group needs g x)) (sym is)
 
-pub joins_again : (n : ℕ) (x : Object) (s : Groups) → Has n x s → x.joined ≡ true → Moves n (Some x) (Some (with_joined x)) s s
+pub joins_again : (needs : List Need) (n : ℕ) (x : Object) (s : Groups) → Has needs n x s → x.joined ≡ true → Moves needs n (Some x) (Some (with_joined x)) s s
 unfolding opened_objects
-joins_again n x s h joined = stays n x (with_joined x) s h (λ g. refl) (λ g. ap (λ b. b && is_open g x) (sym joined))
+joins_again needs n x s h joined = stays needs n x (with_joined x) s h (λ g. refl) (λ g. ap (λ b. b && is_open needs g x) (sym joined))
 
-pub joins_outside : (n : ℕ) (x : Object) (s : Groups) → Has n x s → None ≡ open_group x → Moves n (Some x) (Some (with_joined x)) s s
+pub joins_outside : (needs : List Need) (n : ℕ) (x : Object) (s : Groups) → Has needs n x s → None ≡ open_group needs x → Moves needs n (Some x) (Some (with_joined x)) s s
 unfolding opened_objects
-joins_outside n x s h own = stays n x (with_joined x) s h (λ g. refl) (λ g. open_by x None own g ∙ sym (not_waiting g x (open_by x None own g)))
+joins_outside needs n x s h own = stays needs n x (with_joined x) s h (λ g. refl) (λ g. open_by needs x None own g ∙ sym (not_waiting needs g x (open_by needs x None own g)))
 
-pub joins : (n : ℕ) (x : Object) (s : Groups) (m : Joined) (h : Group) → Has n x s → Some h ≡ open_group x → x.joined ≡ false → IsCounted h (count h s + 1) s.joined m
-    → Moves n (Some x) (Some (with_joined x)) s (record { untouched = s.untouched; joined = m })
+pub joins : (needs : List Need) (n : ℕ) (x : Object) (s : Groups) (m : Joined) (h : Group) → Has needs n x s → Some h ≡ open_group needs x → x.joined ≡ false → IsCounted h (count h s + 1) s.joined m
+    → Moves needs n (Some x) (Some (with_joined x)) s (record { untouched = s.untouched; joined = m })
 unfolding opened_objects
-joins n x s m h has_x own not_joined more = record {
-  members = λ g k. (stays n x x s has_x (λ g. refl) (λ g. refl)).members g k;
+joins needs n x s m h has_x own not_joined more = record {
+  members = λ g k. (stays needs n x x s has_x (λ g. refl) (λ g. refl)).members g k;
   entered = λ g k is. ap (λ o. is_some o) (more g) ∙ kept g (is_same h g) (has_x.entered g k is);
-  counts = λ g. ap (λ o. value o + one (is_waiting g x)) (more g) ∙ by g (is_same h g) refl;
+  counts = λ g. ap (λ o. value o + one (is_waiting needs g x)) (more g) ∙ by g (is_same h g) refl;
 }
   where
     kept : (g : Group) (b : Bool) → is_some (count_of g s.joined) ≡ true → is_some (cond b (Some (count h s + 1)) (count_of g s.joined)) ≡ true
     kept g true is = refl
     kept g false is = is
 
-    waits : (g : Group) → one (is_waiting g x) ≡ 0
-    waits g = ap (λ b. one (b && is_open g x)) not_joined
+    waits : (g : Group) → one (is_waiting needs g x) ≡ 0
+    waits g = ap (λ b. one (b && is_open needs g x)) not_joined
 
-    by : (g : Group) (b : Bool) → is_same h g ≡ b → value (cond b (Some (count h s + 1)) (count_of g s.joined)) + one (is_waiting g x) ≡ count g s + one (is_open g x)
-    by g false is = ap (λ c. count g s + c) (waits g ∙ ap one (sym (open_by x (Some h) own g ∙ is)))
+    by : (g : Group) (b : Bool) → is_same h g ≡ b → value (cond b (Some (count h s + 1)) (count_of g s.joined)) + one (is_waiting needs g x) ≡ count g s + one (is_open needs g x)
+    by g false is = ap (λ c. count g s + c) (waits g ∙ ap one (sym (open_by needs x (Some h) own g ∙ is)))
     by g true is =
         let none = waits g in
-        let some : one (is_open g x) ≡ 1 = ap one (open_by x (Some h) own g ∙ is) in
+        let some : one (is_open needs g x) ≡ 1 = ap one (open_by needs x (Some h) own g ∙ is) in
         let own_count : count h s ≡ count g s = ap (λ y. count y s) (same_is h g is) in
         omega (arith, none, some, own_count)
 
 -- the count of a group whose object has joined is not 0, and one whose object has not begun has a count
-pub has_counted : (n : ℕ) (x : Object) (s : Groups) (h : Group) → Has n x s → Some h ≡ open_group x → x.joined ≡ true → 0 < count h s
-has_counted n x s h has_x own joined =
+pub has_counted : (needs : List Need) (n : ℕ) (x : Object) (s : Groups) (h : Group) → Has needs n x s → Some h ≡ open_group needs x → x.joined ≡ true → 0 < count h s
+has_counted needs n x s h has_x own joined =
     let least = has_x.least h in
-    let some : one (is_waiting h x) ≡ 1 = ap one (ap (λ b. b && is_open h x) joined ∙ (open_by x (Some h) own h ∙ same_self h)) in
+    let some : one (is_waiting needs h x) ≡ 1 = ap one (ap (λ b. b && is_open needs h x) joined ∙ (open_by needs x (Some h) own h ∙ same_self h)) in
     omega (arith, least, some)
 
-pub has_count : (n : ℕ) (x : Object) (s : Groups) (h : Group) → Has n x s → Some h ≡ open_group x → is_some (count_of h s.joined) ≡ true
-has_count n x s h has_x own = has_x.entered h n (has_x.there h ∙ (open_by x (Some h) own h ∙ same_self h))
+pub has_count : (needs : List Need) (n : ℕ) (x : Object) (s : Groups) (h : Group) → Has needs n x s → Some h ≡ open_group needs x → is_some (count_of h s.joined) ≡ true
+has_count needs n x s h has_x own = has_x.entered h n (has_x.there h ∙ (open_by needs x (Some h) own h ∙ same_self h))
 
 -- What is found --------------------------------------------------------------------------------------------
 

@@ -12,6 +12,7 @@ use Rattle.ctl_objects.specs.declared.groups.Groups.{Groups}
 use Rattle.ctl_objects.specs.declared.existing.Step.{Step}
 use Rattle.ctl_objects.specs.declared.existing.Step.TheVariants as StepOf
 use Rattle.ctl_objects.specs.declared.stored.Allocation.{Allocation}
+use Rattle.ctl_objects.specs.declared.needs.Need.{Need}
 use Rattle.ctl_objects.specs.Existing.{bare}
 use Rattle.ctl_objects.specs.Groups.{AreAlike, AreGrouped, Has, IsSame, Moves, count, is_in, is_open, is_waiting, one, test}
 use Rattle.ctl_objects.specs.InStore.{IsBare, bare_of}
@@ -110,8 +111,8 @@ none_kept p os rise none = same_objects 0 (keep p os) [] (rise_keep p 0 os rise)
 
 -- What groups see ------------------------------------------------------------------------------------------
 
-pub alike_bare : (x y : Option Object) → option_map bare x ≡ option_map bare y → AreAlike x y
-alike_bare x y is g = (by (is_open g) (λ o. refl), by (is_waiting g) (λ o. refl))
+pub alike_bare : (needs : List Need) (x y : Option Object) → option_map bare x ≡ option_map bare y → AreAlike needs x y
+alike_bare needs x y is g = (by (is_open needs g) (λ o. refl), by (is_waiting needs g) (λ o. refl))
   where
     seen : (p : Object → Bool) → ((o : Object) → p (bare o) ≡ p o) → (o : Option Object) → test p o ≡ test p (option_map bare o)
     seen p same None = refl
@@ -120,8 +121,8 @@ alike_bare x y is g = (by (is_open g) (λ o. refl), by (is_waiting g) (λ o. ref
     by : (p : Object → Bool) → ((o : Object) → p (bare o) ≡ p o) → test p x ≡ test p y
     by p same = seen p same x ∙ (ap (test p) is ∙ sym (seen p same y))
 
-pub alike_found : (n : ℕ) (a : Option Allocation) (os : List Object) → IsBare n a os → AreAlike (option_map (bare_of n) a) (object_in n os)
-alike_found n a os is = alike_bare (option_map (bare_of n) a) (object_in n os) (by a ∙ is)
+pub alike_found : (needs : List Need) (n : ℕ) (a : Option Allocation) (os : List Object) → IsBare n a os → AreAlike needs (option_map (bare_of n) a) (object_in n os)
+alike_found needs n a os is = alike_bare needs (option_map (bare_of n) a) (object_in n os) (by a ∙ is)
   where
     by : (o : Option Allocation) → option_map bare (option_map (bare_of n) o) ≡ option_map (bare_of n) o
     by None = refl
@@ -137,8 +138,8 @@ bare_step StepOf.End o = by (is_untouched o.state)
     by true = refl
     by false = refl
 
-pub alike_stepped : (n : ℕ) (z : Step) (a : Allocation) (os : List Object) → IsBare n (Some a) os → AreAlike (Some (with_step z (bare_of n a))) (option_map (with_step z) (object_in n os))
-alike_stepped n z a os is = alike_bare (Some (with_step z (bare_of n a))) (option_map (with_step z) (object_in n os)) (ap (λ (o : Object). Some o) (bare_step z (bare_of n a)) ∙ (ap (option_map (with_step z)) is ∙ by (object_in n os)))
+pub alike_stepped : (needs : List Need) (n : ℕ) (z : Step) (a : Allocation) (os : List Object) → IsBare n (Some a) os → AreAlike needs (Some (with_step z (bare_of n a))) (option_map (with_step z) (object_in n os))
+alike_stepped needs n z a os is = alike_bare needs (Some (with_step z (bare_of n a))) (option_map (with_step z) (object_in n os)) (ap (λ (o : Object). Some o) (bare_step z (bare_of n a)) ∙ (ap (option_map (with_step z)) is ∙ by (object_in n os)))
   where
     by : (o : Option Object) → option_map (with_step z) (option_map bare o) ≡ option_map bare (option_map (with_step z) o)
     by None = refl
@@ -146,69 +147,69 @@ alike_stepped n z a os is = alike_bare (Some (with_step z (bare_of n a))) (optio
 
 -- Groups follow --------------------------------------------------------------------------------------------
 
-pub grouped_moved : (os os' : List Object) (n : ℕ) (x y : Option Object) (s t : Groups) → Rise 0 os → Rise 0 os' → AreSameBut n os os' → AreAlike x (object_in n os) → AreAlike y (object_in n os') → Moves n x y s t → AreGrouped os s → AreGrouped os' t
-grouped_moved os os' n x y s t rise rise' same before after m h = record {
+pub grouped_moved : (needs : List Need) (os os' : List Object) (n : ℕ) (x y : Option Object) (s t : Groups) → Rise 0 os → Rise 0 os' → AreSameBut n os os' → AreAlike needs x (object_in n os) → AreAlike needs y (object_in n os') → Moves needs n x y s t → AreGrouped needs os s → AreGrouped needs os' t
+grouped_moved needs os os' n x y s t rise rise' same before after m h = record {
   members = λ g k. m.members g k ∙ by g k (nat_eq n k) refl;
   entered = m.entered;
   counts = λ g.
       let moved = m.counts g in
       let had = h.counts g in
-      let all = count_moved (is_waiting g) n os os' rise rise' same in
-      let old : one (test (is_waiting g) x) ≡ one (test (is_waiting g) (object_in n os)) = ap one (before g).1 in
-      let new : one (test (is_waiting g) y) ≡ one (test (is_waiting g) (object_in n os')) = ap one (after g).1 in
+      let all = count_moved (is_waiting needs g) n os os' rise rise' same in
+      let old : one (test (is_waiting needs g) x) ≡ one (test (is_waiting needs g) (object_in n os)) = ap one (before g).1 in
+      let new : one (test (is_waiting needs g) y) ≡ one (test (is_waiting needs g) (object_in n os')) = ap one (after g).1 in
       omega (arith, moved, had, all, old, new);
 }
   where
-    by : (g : Group) (k : ℕ) (b : Bool) → nat_eq n k ≡ b → cond b (test (is_open g) y) (is_in g k s) ≡ passes (is_open g) k os'
-    by g k true is = (after g).0 ∙ ap (λ j. passes (is_open g) j os') (eqb-true n k is)
-    by g k false is = h.members g k ∙ ap (test (is_open g)) (sym (same k is))
+    by : (g : Group) (k : ℕ) (b : Bool) → nat_eq n k ≡ b → cond b (test (is_open needs g) y) (is_in g k s) ≡ passes (is_open needs g) k os'
+    by g k true is = (after g).0 ∙ ap (λ j. passes (is_open needs g) j os') (eqb-true n k is)
+    by g k false is = h.members g k ∙ ap (test (is_open needs g)) (sym (same k is))
 
 -- groups that are the same have the same objects
-pub grouped_same : (os : List Object) (s t : Groups) → IsSame s t → AreGrouped os s → AreGrouped os t
-grouped_same os s t same h = record {
+pub grouped_same : (needs : List Need) (os : List Object) (s t : Groups) → IsSame s t → AreGrouped needs os s → AreGrouped needs os t
+grouped_same needs os s t same h = record {
   members = λ g n. same.0 g n ∙ h.members g n;
   entered = λ g n is. same.1.1 g (h.entered g n (sym (same.0 g n) ∙ is));
   counts = λ g. same.1.0 g ∙ h.counts g;
 }
 
 -- the groups see no change
-pub grouped_alike : (os os' : List Object) (n : ℕ) (s : Groups) → Rise 0 os → Rise 0 os' → AreSameBut n os os' → AreAlike (object_in n os) (object_in n os') → AreGrouped os s → AreGrouped os' s
-grouped_alike os os' n s rise rise' same alike h = grouped_moved os os' n (object_in n os) (object_in n os') s s rise rise' same (λ g. (refl, refl)) (λ g. (refl, refl)) (record {
+pub grouped_alike : (needs : List Need) (os os' : List Object) (n : ℕ) (s : Groups) → Rise 0 os → Rise 0 os' → AreSameBut n os os' → AreAlike needs (object_in n os) (object_in n os') → AreGrouped needs os s → AreGrouped needs os' s
+grouped_alike needs os os' n s rise rise' same alike h = grouped_moved needs os os' n (object_in n os) (object_in n os') s s rise rise' same (λ g. (refl, refl)) (λ g. (refl, refl)) (record {
   members = λ g k. by g k (nat_eq n k) refl;
   entered = h.entered;
   counts = λ g. ap (λ b. count g s + one b) (alike g).1;
 }) h
   where
-    by : (g : Group) (k : ℕ) (b : Bool) → nat_eq n k ≡ b → is_in g k s ≡ cond b (test (is_open g) (object_in n os')) (is_in g k s)
+    by : (g : Group) (k : ℕ) (b : Bool) → nat_eq n k ≡ b → is_in g k s ≡ cond b (test (is_open needs g) (object_in n os')) (is_in g k s)
     by g k false is = refl
     by g k true is = ap (λ j. is_in g j s) (sym (eqb-true n k is)) ∙ (h.members g n ∙ (alike g).0)
 
 -- what groups know of an object
-pub has_object : (os : List Object) (n : ℕ) (x : Object) (s : Groups) → Rise 0 os → length os ≤ 2 ^ 63 → AreAlike (Some x) (object_in n os) → AreGrouped os s → Has n x s
-has_object os n x s rise few alike h = record {
+pub has_object : (needs : List Need) (os : List Object) (n : ℕ) (x : Object) (s : Groups) → Rise 0 os → length os ≤ 2 ^ 63 → AreAlike needs (Some x) (object_in n os) → AreGrouped needs os s → Has needs n x s
+has_object needs os n x s rise few alike h = record {
   there = λ g. h.members g n ∙ sym (alike g).0;
   entered = h.entered;
   least = λ g. let all = all_of g in let own = own_of g in let had = h.counts g in omega (arith, all, own, had);
   only = λ g alone. let all = all_of g in let own = own_of g in let had = h.counts g in let rest = none g alone in omega (arith, all, own, had, rest);
-  few = λ g. let had = h.counts g in let less = no_more (is_waiting g) os in omega (arith, had, less, few);
+  few = λ g. let had = h.counts g in let less = no_more (is_waiting needs g) os in omega (arith, had, less, few);
 }
   where
-    all_of : (g : Group) → length (keep (is_waiting g) os) ≡ length (keep (other (is_waiting g) n) os) + one (test (is_waiting g) (object_in n os))
-    all_of g = own_count (is_waiting g) n 0 os rise
+    all_of : (g : Group) → length (keep (is_waiting needs g) os) ≡ length (keep (other (is_waiting needs g) n) os) + one (test (is_waiting needs g) (object_in n os))
+    all_of g = own_count (is_waiting needs g) n 0 os rise
 
-    own_of : (g : Group) → one (is_waiting g x) ≡ one (test (is_waiting g) (object_in n os))
+    own_of : (g : Group) → one (is_waiting needs g x) ≡ one (test (is_waiting needs g) (object_in n os))
     own_of g = ap one (alike g).1
 
-    not_open : (g : Group) (z : Object) → is_open g z ≡ false → other (is_waiting g) n z ≡ false
+    not_open : (g : Group) (z : Object) → is_open needs g z ≡ false → other (is_waiting needs g) n z ≡ false
     not_open g z is = ap (λ b. (z.joined && b) && not (nat_eq z.number n)) is ∙ ap (λ b. b && not (nat_eq z.number n)) (right_false z.joined)
 
-    outside : (g : Group) → ((k : ℕ) → nat_eq n k ≡ false → is_in g k s ≡ false) → (k : ℕ) (b : Bool) → nat_eq n k ≡ b → (o : Option Object) → object_in k os ≡ o → test (other (is_waiting g) n) o ≡ false
+    outside : (g : Group) → ((k : ℕ) → nat_eq n k ≡ false → is_in g k s ≡ false) → (k : ℕ) (b : Bool) → nat_eq n k ≡ b → (o : Option Object) → object_in k os ≡ o → test (other (is_waiting needs g) n) o ≡ false
     outside g alone k b which None there = refl
     outside g alone k true which (Some z) there =
         let number = number_found k os z there in
         let own : nat_eq z.number n ≡ true = grind (arith, nat_tests, which, number) in
-        ap (λ b. is_waiting g z && not b) own ∙ right_false (is_waiting g z)
-    outside g alone k false which (Some z) there = not_open g z (ap (test (is_open g)) (sym there) ∙ (sym (h.members g k) ∙ alone k which))
+        ap (λ b. is_waiting needs g z && not b) own ∙ right_false (is_waiting needs g z)
+    outside g alone k false which (Some z) there = not_open g z (ap (test (is_open needs g)) (sym there) ∙ (sym (h.members g k) ∙ alone k which))
 
-    none : (g : Group) → ((k : ℕ) → nat_eq n k ≡ false → is_in g k s ≡ false) → length (keep (other (is_waiting g) n) os) ≡ 0
-    none g alone = ap (λ (l : List Object). length l) (none_kept (other (is_waiting g) n) os rise (λ k. outside g alone k (nat_eq n k) refl (object_in k os) refl))
+    none : (g : Group) → ((k : ℕ) → nat_eq n k ≡ false → is_in g k s ≡ false) → length (keep (other (is_waiting needs g) n) os) ≡ 0
+    none g alone = ap (λ (l : List Object). length l) (none_kept (other (is_waiting needs g) n) os rise (λ k. outside g alone k (nat_eq n k) refl (object_in k os) refl))

@@ -9,6 +9,7 @@ use Rattle.ctl_meaning.specs.Objects.{is_untouched, object_in}
 use Rattle.ctl_objects.specs.declared.groups.Group.{Group}
 use Rattle.ctl_objects.specs.declared.groups.Start.{Start}
 use Rattle.ctl_objects.specs.declared.groups.Waiting.{Waiting}
+use Rattle.ctl_objects.specs.declared.needs.Need.{Need}
 use Rattle.ctl_objects.specs.Groups.{IsNextBy, IsNextGroup, count, is_allocated, group_by, is_open, is_same, is_waiting, test}
 use Rattle.ctl_objects.specs.Members.{IsGreatest, IsLeast, passes}
 use Rattle.ctl_objects.specs.Order.{AreBelow, AreSplit, IsDeclared, both}
@@ -35,46 +36,46 @@ next_alike has has' many many' start last (Some w) same count h =
 
 -- One after another ----------------------------------------------------------------------------------------
 
-abbrev pub DoesWait : Group → List Object → ℕ → Type 0
-DoesWait g os n = passes (is_waiting g) n os ≡ true
+abbrev pub DoesWait : List Need → Group → List Object → ℕ → Type 0
+DoesWait needs g os n = passes (is_waiting needs g) n os ≡ true
 
-waits_open : (g : Group) (n : ℕ) (os : List Object) → passes (is_waiting g) n os ≡ (passes (λ o. o.joined) n os && passes (is_open g) n os)
-waits_open g n os = by (object_in n os)
+waits_open : (needs : List Need) (g : Group) (n : ℕ) (os : List Object) → passes (is_waiting needs g) n os ≡ (passes (λ o. o.joined) n os && passes (is_open needs g) n os)
+waits_open needs g n os = by (object_in n os)
   where
-    by : (o : Option Object) → test (is_waiting g) o ≡ (test (λ x. x.joined) o && test (is_open g) o)
+    by : (o : Option Object) → test (is_waiting needs g) o ≡ (test (λ x. x.joined) o && test (is_open needs g) o)
     by None = refl
     by (Some x) = refl
 
-parts : (g : Group) (n : ℕ) (os : List Object) → DoesWait g os n → (passes (λ o. o.joined) n os ≡ true) × (passes (is_open g) n os ≡ true)
-parts g n os is = both_true (passes (λ o. o.joined) n os) (passes (is_open g) n os) (sym (waits_open g n os) ∙ is)
+parts : (needs : List Need) (g : Group) (n : ℕ) (os : List Object) → DoesWait needs g os n → (passes (λ o. o.joined) n os ≡ true) × (passes (is_open needs g) n os ≡ true)
+parts needs g n os is = both_true (passes (λ o. o.joined) n os) (passes (is_open needs g) n os) (sym (waits_open needs g n os) ∙ is)
 
 -- none waits before a number
-abbrev pub NoneBefore : Group → List Object → ℕ → Type 0
-NoneBefore g os start = (n : ℕ) → DoesWait g os n → start ≤ n
+abbrev pub NoneBefore : List Need → Group → List Object → ℕ → Type 0
+NoneBefore needs g os start = (n : ℕ) → DoesWait needs g os n → start ≤ n
 
-abbrev pub NoneBehind : Group → List Object → ℕ → Type 0
-NoneBehind g os end = (n : ℕ) → DoesWait g os n → n ≤ end
+abbrev pub NoneBehind : List Need → Group → List Object → ℕ → Type 0
+NoneBehind needs g os end = (n : ℕ) → DoesWait needs g os n → n ≤ end
 
-pub none_before : (g : Group) (os : List Object) (start m : ℕ) → NoneBefore g os start → IsLeast (λ n. (start ≤ n) × (passes (is_open g) n os ≡ true)) (Some m) → passes (λ o. o.joined) m os ≡ false → NoneBefore g os (m + 1)
-none_before g os start m none l apart n q = by (nat_eq m n) refl
+pub none_before : (needs : List Need) (g : Group) (os : List Object) (start m : ℕ) → NoneBefore needs g os start → IsLeast (λ n. (start ≤ n) × (passes (is_open needs g) n os ≡ true)) (Some m) → passes (λ o. o.joined) m os ≡ false → NoneBefore needs g os (m + 1)
+none_before needs g os start m none l apart n q = by (nat_eq m n) refl
   where
     low : m ≤ n
-    low = l.1 n (none n q, (parts g n os q).1)
+    low = l.1 n (none n q, (parts needs g n os q).1)
 
     by : (b : Bool) → nat_eq m n ≡ b → m + 1 ≤ n
     by false differs = let less = low in grind (arith, nat_tests, differs, less)
     by true same =
         let here : n ≡ m = grind (arith, nat_tests, same) in
-        absurd (never (passes (λ o. o.joined) m os) (ap (λ k. passes (λ o. o.joined) k os) (sym here) ∙ (parts g n os q).0) apart)
+        absurd (never (passes (λ o. o.joined) m os) (ap (λ k. passes (λ o. o.joined) k os) (sym here) ∙ (parts needs g n os q).0) apart)
 
-pub none_over : (g : Group) (os : List Object) (start : ℕ) → AreBelow (2 ^ 64) os → NoneBefore g os start → 2 ^ 64 ≤ start → IsLeast (DoesWait g os) None
-none_over g os start below none high = λ n q. by n (passing_below (2 ^ 64) n (is_waiting g) os below q) (none n q)
+pub none_over : (needs : List Need) (g : Group) (os : List Object) (start : ℕ) → AreBelow (2 ^ 64) os → NoneBefore needs g os start → 2 ^ 64 ≤ start → IsLeast (DoesWait needs g os) None
+none_over needs g os start below none high = λ n q. by n (passing_below (2 ^ 64) n (is_waiting needs g) os below q) (none n q)
   where
     by : (n : ℕ) → n < 2 ^ 64 → start ≤ n → ⊥
     by n less more = omega (arith, less, more, high)
 
-pub none_under : (g : Group) (os : List Object) → AreBelow (2 ^ 64) os → NoneBehind g os (2 ^ 64 - 1)
-none_under g os below n q = let less = passing_below (2 ^ 64) n (is_waiting g) os below q in omega (arith, less)
+pub none_under : (needs : List Need) (g : Group) (os : List Object) → AreBelow (2 ^ 64) os → NoneBehind needs g os (2 ^ 64 - 1)
+none_under needs g os below n q = let less = passing_below (2 ^ 64) n (is_waiting needs g) os below q in omega (arith, less)
 
 -- Among all objects ----------------------------------------------------------------------------------------
 
@@ -112,31 +113,31 @@ right_false : (b : Bool) → (b && false) ≡ false
 right_false true = refl
 right_false false = refl
 
-open_allocated : (g : Group) → IsOfAllocated (is_open g)
-open_allocated g o (Declared m) is d = ap (λ x. is_untouched o.state && test_group (group_by x o.ty)) is ∙ right_false (is_untouched o.state)
+open_allocated : (needs : List Need) (g : Group) → IsOfAllocated (is_open needs g)
+open_allocated needs g o (Declared m) is d = ap (λ x. is_untouched o.state && test_group (group_by needs x o.ty)) is ∙ right_false (is_untouched o.state)
   where
     test_group : Option Group → Bool
     test_group r = option_map_or (λ h. is_same h g) r false
-open_allocated g o (Allocated c p) is d = absurd d
+open_allocated needs g o (Allocated c p) is d = absurd d
 
-waiting_allocated : (g : Group) → IsOfAllocated (is_waiting g)
-waiting_allocated g o x is d = ap (λ b. o.joined && b) (open_allocated g o x is d) ∙ right_false o.joined
+waiting_allocated : (needs : List Need) (g : Group) → IsOfAllocated (is_waiting needs g)
+waiting_allocated needs g o x is d = ap (λ b. o.joined && b) (open_allocated needs g o x is d) ∙ right_false o.joined
 
-pub next_both : (xs ys : List Object) (start : Start) (last : ℕ) (r : Option Waiting) → AreSplit xs ys → ((n : ℕ) → IfSome (object_in n ys) (λ o. IsDeclared o.origin)) → IsNextGroup start last r xs → IsNextGroup start last r (both xs ys)
-next_both xs ys start last r split declared h = next_alike (λ g n. passes (is_open g) n xs) (λ g n. passes (is_open g) n (both xs ys)) (λ g. length (keep (is_waiting g) xs)) (λ g. length (keep (is_waiting g) (both xs ys))) start last r
-    (λ g n. passes_both (is_open g) xs ys (open_allocated g) split declared n)
-    (λ g. ap (λ (l : List Object). length l) (kept_first (is_waiting g) xs ys (waiting_allocated g) split declared))
+pub next_both : (needs : List Need) (xs ys : List Object) (start : Start) (last : ℕ) (r : Option Waiting) → AreSplit xs ys → ((n : ℕ) → IfSome (object_in n ys) (λ o. IsDeclared o.origin)) → IsNextGroup needs start last r xs → IsNextGroup needs start last r (both xs ys)
+next_both needs xs ys start last r split declared h = next_alike (λ g n. passes (is_open needs g) n xs) (λ g n. passes (is_open needs g) n (both xs ys)) (λ g. length (keep (is_waiting needs g) xs)) (λ g. length (keep (is_waiting needs g) (both xs ys))) start last r
+    (λ g n. passes_both (is_open needs g) xs ys (open_allocated needs g) split declared n)
+    (λ g. ap (λ (l : List Object). length l) (kept_first (is_waiting needs g) xs ys (waiting_allocated needs g) split declared))
     h
 
-pub least_both : (xs ys : List Object) (g : Group) (r : Option ℕ) → AreSplit xs ys → ((n : ℕ) → IfSome (object_in n ys) (λ o. IsDeclared o.origin)) → IsLeast (DoesWait g xs) r → IsLeast (DoesWait g (both xs ys)) r
-least_both xs ys g r split declared h =
-    let same = passes_both (is_waiting g) xs ys (waiting_allocated g) split declared in
-    least_alike (DoesWait g xs) (DoesWait g (both xs ys)) r (λ n q. sym (same n) ∙ q) (λ n q. same n ∙ q) h
+pub least_both : (needs : List Need) (xs ys : List Object) (g : Group) (r : Option ℕ) → AreSplit xs ys → ((n : ℕ) → IfSome (object_in n ys) (λ o. IsDeclared o.origin)) → IsLeast (DoesWait needs g xs) r → IsLeast (DoesWait needs g (both xs ys)) r
+least_both needs xs ys g r split declared h =
+    let same = passes_both (is_waiting needs g) xs ys (waiting_allocated needs g) split declared in
+    least_alike (DoesWait needs g xs) (DoesWait needs g (both xs ys)) r (λ n q. sym (same n) ∙ q) (λ n q. same n ∙ q) h
 
-pub greatest_both : (xs ys : List Object) (g : Group) (r : Option ℕ) → AreSplit xs ys → ((n : ℕ) → IfSome (object_in n ys) (λ o. IsDeclared o.origin)) → IsGreatest (DoesWait g xs) r → IsGreatest (DoesWait g (both xs ys)) r
-greatest_both xs ys g r split declared h =
-    let same = passes_both (is_waiting g) xs ys (waiting_allocated g) split declared in
-    greatest_alike (DoesWait g xs) (DoesWait g (both xs ys)) r (λ n q. sym (same n) ∙ q) (λ n q. same n ∙ q) h
+pub greatest_both : (needs : List Need) (xs ys : List Object) (g : Group) (r : Option ℕ) → AreSplit xs ys → ((n : ℕ) → IfSome (object_in n ys) (λ o. IsDeclared o.origin)) → IsGreatest (DoesWait needs g xs) r → IsGreatest (DoesWait needs g (both xs ys)) r
+greatest_both needs xs ys g r split declared h =
+    let same = passes_both (is_waiting needs g) xs ys (waiting_allocated needs g) split declared in
+    greatest_alike (DoesWait needs g xs) (DoesWait needs g (both xs ys)) r (λ n q. sym (same n) ∙ q) (λ n q. same n ∙ q) h
 
 allocated_ones : IsOfAllocated (λ o. is_allocated o.origin)
 allocated_ones o (Declared m) is d = ap is_allocated is

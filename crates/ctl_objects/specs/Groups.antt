@@ -1,4 +1,4 @@
--- Objects in groups, one for each collection and record type: those whose finalization has not begun, and how many of these have joined.
+-- Objects in groups, one for each collection and record type that needs finalization: those whose finalization has not begun, and how many of these have joined.
 use Rattle.std.specs.Prelude.{◌≡◌, ◌+◌, ◌-◌, ◌<◌, ◌≤◌, ◌^◌, ℕ, List, Option, Some, None, Bool, true, false, ◌&&◌, ◌||◌, nat_eq, nat_le, nat_lt, is_some, length, MatchOption, if◌then◌else◌}
 use Rattle.std.specs.Option.{option_map_or}
 use Rattle.std.specs.Ordering.{is_lt, nat_cmp, ordering_then}
@@ -19,7 +19,9 @@ use Rattle.ctl_objects.specs.declared.groups.Groups.{Groups}
 use Rattle.ctl_objects.specs.declared.groups.Start.{Start}
 use Rattle.ctl_objects.specs.declared.groups.Start.TheVariants.{Behind, Collection}
 use Rattle.ctl_objects.specs.declared.groups.Waiting.{Waiting}
+use Rattle.ctl_objects.specs.declared.needs.Need.{Need}
 use Rattle.ctl_objects.specs.Members.{passes}
+use Rattle.ctl_objects.specs.Needs.{needs_finalization}
 
 -- Groups -------------------------------------------------------------------------------------
 
@@ -35,27 +37,27 @@ abbrev pub is_from : Start → Group → Bool
 is_from (Collection c) g = nat_le c g.collection
 is_from (Behind a) g = precedes a g
 
--- the group of an object: a declared one has none, and one that is no record
-abbrev pub group_by : Origin → Ty → Option Group
-group_by (Allocated c p) (Record t) = Some (record { collection = c; record_type = t })
-group_by x ty = None
+-- the group of an object: a declared one has none, and one that is no record, or whose record type needs no finalization
+abbrev pub group_by : List Need → Origin → Ty → Option Group
+group_by needs (Allocated c p) (Record t) = if needs_finalization needs t then Some (record { collection = c; record_type = t }) else None
+group_by needs x ty = None
 
-abbrev pub group_of : Object → Option Group
-group_of o = group_by o.origin o.ty
+abbrev pub group_of : List Need → Object → Option Group
+group_of needs o = group_by needs o.origin o.ty
 
-abbrev pub is_in_group : Group → Object → Bool
-is_in_group g o = option_map_or (λ h. is_same h g) (group_of o) false
+abbrev pub is_in_group : List Need → Group → Object → Bool
+is_in_group needs g o = option_map_or (λ h. is_same h g) (group_of needs o) false
 
 -- an object of a group whose finalization has not begun
-abbrev pub is_open : Group → Object → Bool
-is_open g o = is_untouched o.state && is_in_group g o
+abbrev pub is_open : List Need → Group → Object → Bool
+is_open needs g o = is_untouched o.state && is_in_group needs g o
 
-abbrev pub open_group : Object → Option Group
-open_group o = if is_untouched o.state then group_of o else None
+abbrev pub open_group : List Need → Object → Option Group
+open_group needs o = if is_untouched o.state then group_of needs o else None
 
 -- and which has joined its collection, so that it is still to be finalized with it
-abbrev pub is_waiting : Group → Object → Bool
-is_waiting g o = o.joined && is_open g o
+abbrev pub is_waiting : List Need → Group → Object → Bool
+is_waiting needs g o = o.joined && is_open needs g o
 
 -- The next group -----------------------------------------------------------------------------
 
@@ -67,8 +69,8 @@ IsNextBy has count start last r = MatchOption r
     × ((g : Group) (n : ℕ) → is_from start g ≡ true → precedes g w.group ≡ true → has g n ≡ false))
 
 -- the first that has an object whose finalization has not begun, and how many of its objects are still to be finalized
-abbrev pub IsNextGroup : Start → ℕ → Option Waiting → List Object → Type 0
-IsNextGroup start last r os = IsNextBy (λ g n. passes (is_open g) n os) (λ g. length (keep (is_waiting g) os)) start last r
+abbrev pub IsNextGroup : List Need → Start → ℕ → Option Waiting → List Object → Type 0
+IsNextGroup needs start last r os = IsNextBy (λ g n. passes (is_open needs g) n os) (λ g. length (keep (is_waiting needs g) os)) start last r
 
 -- an object that is allocated
 abbrev pub is_allocated : Origin → Bool
@@ -117,10 +119,10 @@ abbrev pub IsSame : Groups → Groups → Type 0
 IsSame s t = ((g : Group) (n : ℕ) → is_in g n t ≡ is_in g n s) × KeepsCounts s.joined t.joined
 
 -- the objects of these groups, and no others
-pub record AreGrouped (os : List Object) (s : Groups) : Type 0 where
-  pub members : (g : Group) (n : ℕ) → is_in g n s ≡ passes (is_open g) n os
+pub record AreGrouped (needs : List Need) (os : List Object) (s : Groups) : Type 0 where
+  pub members : (g : Group) (n : ℕ) → is_in g n s ≡ passes (is_open needs g) n os
   pub entered : AreEntered s
-  pub counts : (g : Group) → count g s ≡ length (keep (is_waiting g) os)
+  pub counts : (g : Group) → count g s ≡ length (keep (is_waiting needs g) os)
 
 -- One object changes -------------------------------------------------------------------------
 
@@ -132,23 +134,23 @@ abbrev pub test : (Object → Bool) → Option Object → Bool
 test p o = option_map_or p o false
 
 -- the groups see no difference
-abbrev pub AreAlike : Option Object → Option Object → Type 0
-AreAlike x y = (g : Group) → (test (is_open g) x ≡ test (is_open g) y) × (test (is_waiting g) x ≡ test (is_waiting g) y)
+abbrev pub AreAlike : List Need → Option Object → Option Object → Type 0
+AreAlike needs x y = (g : Group) → (test (is_open needs g) x ≡ test (is_open needs g) y) × (test (is_waiting needs g) x ≡ test (is_waiting needs g) y)
 
 -- the object of a number is one that the groups see so, among those that they have
-pub record Has (n : ℕ) (x : Object) (s : Groups) : Type 0 where
-  pub there : (g : Group) → is_in g n s ≡ is_open g x
+pub record Has (needs : List Need) (n : ℕ) (x : Object) (s : Groups) : Type 0 where
+  pub there : (g : Group) → is_in g n s ≡ is_open needs g x
   pub entered : AreEntered s
-  pub least : (g : Group) → one (is_waiting g x) ≤ count g s
+  pub least : (g : Group) → one (is_waiting needs g x) ≤ count g s
   -- where it is the only one of its group, no other is counted
-  pub only : (g : Group) → ((k : ℕ) → nat_eq n k ≡ false → is_in g k s ≡ false) → count g s ≡ one (is_waiting g x)
+  pub only : (g : Group) → ((k : ℕ) → nat_eq n k ≡ false → is_in g k s ≡ false) → count g s ≡ one (is_waiting needs g x)
   pub few : (g : Group) → count g s + 1 < 2 ^ 64
 
 -- one object becomes another one, where there was one, and where there is one then
-pub record Moves (n : ℕ) (x y : Option Object) (s t : Groups) : Type 0 where
-  pub members : (g : Group) (k : ℕ) → is_in g k t ≡ (if nat_eq n k then test (is_open g) y else is_in g k s)
+pub record Moves (needs : List Need) (n : ℕ) (x y : Option Object) (s t : Groups) : Type 0 where
+  pub members : (g : Group) (k : ℕ) → is_in g k t ≡ (if nat_eq n k then test (is_open needs g) y else is_in g k s)
   pub entered : AreEntered t
-  pub counts : (g : Group) → count g t + one (test (is_waiting g) x) ≡ count g s + one (test (is_waiting g) y)
+  pub counts : (g : Group) → count g t + one (test (is_waiting needs g) x) ≡ count g s + one (test (is_waiting needs g) y)
 
 -- What is found ------------------------------------------------------------------------------
 

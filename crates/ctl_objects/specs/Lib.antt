@@ -6,5 +6,7 @@ pub mod Stages
 pub mod InStore
 pub mod Sets
 pub mod Members
+pub mod Needs
 pub mod Groups
 pub mod Filed
+pub mod Stock

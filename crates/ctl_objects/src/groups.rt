@@ -1,14 +1,17 @@
-//! The allocated objects in groups, one for each collection and record type: those whose
-//! finalization has not begun, and how many of these have joined their collection.
+//! The allocated objects in groups, one for each collection and record type that needs
+//! finalization: those whose finalization has not begun, and how many of these have joined their
+//! collection.
 
-ghost use Rattle.std.specs.Prelude.{◌≡◌, ◌+◌, ◌-◌, ◌<◌, ◌≤◌, ◌^◌, [], ℕ, OnOk, OnErr, None, Some, false, true, is_some};
+ghost use Rattle.std.specs.Prelude.{◌≡◌, ◌+◌, ◌-◌, ◌<◌, ◌≤◌, ◌^◌, [], ℕ, List, OnOk, OnErr, None, Some, false, true, is_some};
 ghost use Rattle.ctl_meaning.specs.Objects.{with_joined};
-ghost use Rattle.ctl_objects.specs.Groups.{AreEntered, AreGrouped, AreNumbers, Has, IsCounted, IsFirstMember, IsLastMember, IsNextBy, IsSame, KeepsCounts, Moves, count, count_of, counted, is_in, open_group, start_of};
+ghost use Rattle.ctl_objects.specs.declared.needs.Need.{Need};
+ghost use Rattle.ctl_objects.specs.Groups.{AreEntered, AreGrouped, AreNumbers, Has, IsCounted, IsFirstMember, IsLastMember, IsNextBy, IsSame, KeepsCounts, Moves, count, count_of, counted, group_of, is_in, open_group, start_of};
 ghost use Rattle.ctl_objects.specs.InStore.{bare_of};
 ghost use Rattle.ctl_objects.specs.Members.{IsGreatest, IsLeast};
 ghost use Rattle.ctl_objects.specs.Stages.{with_step};
 
 use crate::existing::{Life, Step};
+use crate::needs::{Need, needs_finalization};
 use crate::stored::Allocation;
 use ctl_program::types::Ty;
 use std::alloc::{AllocError, Global};
@@ -44,8 +47,8 @@ type Key = (Group, u64);
 /// How many objects of a group have joined their collection.
 type Counts = BTreeMap<Group, usize>;
 
-/// The allocated objects of record types whose finalization has not begun, by their groups. Each
-/// group that has one has a count of those that have joined their collection.
+/// The allocated objects of record types that need finalization, until it begins, by their groups.
+/// Each group that has one has a count of those that have joined their collection.
 #[derive(Drop)]
 pub(crate) struct Groups {
     untouched: BTreeSet<Key>,
@@ -53,9 +56,9 @@ pub(crate) struct Groups {
 }
 
 impl Groups {
-    /// Has no object. It takes no memory.
+    /// Makes groups with no object. It takes no memory.
     pub(crate) fn new(alloc: Global) -> Groups
-        ensures { AreGrouped [] result }
+        ensures { (needs : List Need) → AreGrouped needs [] result }
     {
         Groups {
             untouched: BTreeSet::new(alloc),
@@ -63,20 +66,26 @@ impl Groups {
         }
     }
 
-    /// Adds a new object, which has not joined its collection. It takes time in the logarithm of
-    /// the number of objects.
+    /// Adds a new object, which has not joined its collection, where its record type needs
+    /// finalization. It takes time in the logarithm of the number of objects, and constant time
+    /// for another type.
     ///
     /// # Errors
     ///
     /// `AllocError` where the allocator refuses the memory. No object is added then.
-    pub(crate) fn add(&mut self, number: u64, object: &Allocation) -> Result<(), AllocError>
+    pub(crate) fn add(
+        &mut self,
+        needs: &[Need],
+        number: u64,
+        object: &Allocation,
+    ) -> Result<(), AllocError>
         requires entered { AreEntered self.old }
         requires stage { object.now.stage.has_joined ≡ false }
         requires new { (g : Group) → is_in g number self.old ≡ false }
-        ensures ok { OnOk result (Moves number None (Some (bare_of number object.now)) self.old self.new) }
+        ensures ok { OnOk result (Moves needs.now number None (Some (bare_of number object.now)) self.old self.new) }
         ensures err { OnErr result (IsSame self.old self.new) }
     {
-        let Some(group) = open_group(object) else {
+        let Some(group) = open_group(needs, object) else {
             return Ok(());
         };
         enter(&mut self.joined, group)?;
@@ -85,23 +94,23 @@ impl Groups {
     }
 
     /// Follows a step of an object, in the same time.
-    pub(crate) fn follow(&mut self, number: u64, before: &Allocation, step: Step)
-        requires { Has number (bare_of number before.now) self.old }
-        ensures { Moves number (Some (bare_of number before.now)) (Some (with_step step (bare_of number before.now))) self.old self.new }
+    pub(crate) fn follow(&mut self, needs: &[Need], number: u64, before: &Allocation, step: Step)
+        requires { Has needs.now number (bare_of number before.now) self.old }
+        ensures { Moves needs.now number (Some (bare_of number before.now)) (Some (with_step step (bare_of number before.now))) self.old self.new }
     {
         match step {
-            Step::Begin => self.leave(number, before),
-            Step::Join => self.join(number, before),
+            Step::Begin => self.leave(needs, number, before),
+            Step::Join => self.join(needs, number, before),
             Step::End => {}
         }
     }
 
     /// Takes an object out, in the same time.
-    pub(crate) fn leave(&mut self, number: u64, object: &Allocation)
-        requires { Has number (bare_of number object.now) self.old }
-        ensures { Moves number (Some (bare_of number object.now)) None self.old self.new }
+    pub(crate) fn leave(&mut self, needs: &[Need], number: u64, object: &Allocation)
+        requires { Has needs.now number (bare_of number object.now) self.old }
+        ensures { Moves needs.now number (Some (bare_of number object.now)) None self.old self.new }
     {
-        let Some(group) = open_group(object) else {
+        let Some(group) = open_group(needs, object) else {
             return;
         };
         let _ = self.untouched.remove(&(group, number));
@@ -118,14 +127,14 @@ impl Groups {
     }
 
     /// Counts an object that joins its collection, if it has not joined it before.
-    fn join(&mut self, number: u64, object: &Allocation)
-        requires { Has number (bare_of number object.now) self.old }
-        ensures { Moves number (Some (bare_of number object.now)) (Some (with_joined (bare_of number object.now))) self.old self.new }
+    fn join(&mut self, needs: &[Need], number: u64, object: &Allocation)
+        requires { Has needs.now number (bare_of number object.now) self.old }
+        ensures { Moves needs.now number (Some (bare_of number object.now)) (Some (with_joined (bare_of number object.now))) self.old self.new }
     {
         if object.stage.has_joined {
             return;
         }
-        if let Some(group) = open_group(object) {
+        if let Some(group) = open_group(needs, object) {
             raise(&mut self.joined, group);
         }
     }
@@ -210,19 +219,29 @@ fn start_of(start: Start) -> Bound<Key>
     }
 }
 
-/// Answers the group of an object whose finalization has not begun.
-#[tactic(auto, unfolding(ctl_meaning::specs::Objects::is_untouched))]
-fn open_group(object: &Allocation) -> Option<Group>
-    ensures { (number : ℕ) → result ≡ open_group (bare_of number object.now) }
+/// Answers the group of an object, if its record type needs finalization.
+fn group_of(needs: &[Need], object: &Allocation) -> Option<Group>
+    ensures { (number : ℕ) → result ≡ group_of needs.now (bare_of number object.now) }
 {
     let Ty::Record(record_type) = object.ty else {
         return None;
     };
-    match object.stage.life {
-        Life::Untouched => Some(Group {
+    if needs_finalization(needs, record_type) {
+        return Some(Group {
             collection: object.collection,
             record_type,
-        }),
+        });
+    }
+    None
+}
+
+/// Answers the group of an object whose finalization has not begun.
+#[tactic(auto, unfolding(ctl_meaning::specs::Objects::is_untouched))]
+fn open_group(needs: &[Need], object: &Allocation) -> Option<Group>
+    ensures { (number : ℕ) → result ≡ open_group needs.now (bare_of number object.now) }
+{
+    match object.stage.life {
+        Life::Untouched => group_of(needs, object),
         Life::Finalizing | Life::Finalized => None,
     }
 }
@@ -249,9 +268,8 @@ fn raise(counts: &mut Counts, group: Group)
     requires few { counted group counts.old + 1 < 2 ^ 64 }
     ensures { IsCounted group (counted group counts.old + 1) counts.old counts.new }
 {
-    if let Some(count) = counts.get(&group) {
-        let more = *count + 1;
-        let _ = counts.insert(group, more);
+    if let Some(count) = counts.get_mut(&group) {
+        *count += 1;
     }
 }
 
@@ -260,8 +278,7 @@ fn lower(counts: &mut Counts, group: Group)
     requires { 0 < counted group counts.old }
     ensures { IsCounted group (counted group counts.old - 1) counts.old counts.new }
 {
-    if let Some(count) = counts.get(&group) {
-        let less = *count - 1;
-        let _ = counts.insert(group, less);
+    if let Some(count) = counts.get_mut(&group) {
+        *count -= 1;
     }
 }

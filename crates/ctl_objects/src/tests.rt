@@ -1,8 +1,8 @@
 //! Declared and allocated objects side by side, by a caller that numbers them as they come.
 
-use crate::{Existing, Group, Life, Objects, Origin, Stage, Start};
+use crate::{Existing, Group, Life, Need, Objects, Origin, Stage, Start};
 use ctl_program::types::Ty;
-use std::alloc::Global;
+use std::alloc::{AllocError, Global};
 use std::marker::Model;
 use std::test::Fail;
 
@@ -20,15 +20,23 @@ impl Model for Numbered {
 
     ghost Value = { List Object };
 
-    ghost view = { λ n. n.objects };
+    ghost view = { λ n. n.objects.objects };
 
-    ghost invariant = { λ n. AreBelow n.next n.objects × AreUpTo n.master n.objects };
+    ghost invariant = { λ n. AreBelow n.next n.objects.objects × AreUpTo n.master n.objects.objects };
+}
+
+/// Tells what record types 0 to 8 need: 7 and 8 need finalization, and so does no other.
+fn some_needs(alloc: Global) -> Result<Vec<Need>, AllocError> {
+    let mut needs = vec![in alloc; Need::Nothing; 7]?;
+    needs.push(Need::Finalization)?;
+    needs.push(Need::Finalization)?;
+    Ok(needs)
 }
 
 impl Numbered {
-    fn new(alloc: Global) -> Numbered {
+    fn new(alloc: Global, needs: Vec<Need>) -> Numbered {
         Numbered {
-            objects: Objects::new(alloc),
+            objects: Objects::new(alloc, needs),
             next: 1,
             master: 1,
         }
@@ -165,7 +173,7 @@ fn four_objects(objects: &mut Numbered) -> [u64; 4] {
 
 #[test]
 fn objects_stand_side_by_side(rt: HostRuntime) {
-    let mut objects = Numbered::new(rt.alloc());
+    let mut objects = Numbered::new(rt.alloc(), Vec::new(rt.alloc()));
     let numbers = four_objects(&mut objects);
     let new = objects.first_cells();
     objects.write(1, 0, 11);
@@ -223,8 +231,8 @@ fn behind(group: [u64; 5]) -> Start {
 }
 
 #[test]
-fn groups_come_in_order(rt: HostRuntime) {
-    let mut objects = Numbered::new(rt.alloc());
+fn groups_come_in_order(rt: HostRuntime) -> Result<(), Fail> {
+    let mut objects = Numbered::new(rt.alloc(), some_needs(rt.alloc())?);
     let numbers = six_members(&mut objects);
     let start = three_groups(&objects, 5, 6);
     let other = three_groups(&objects, 6, u64::MAX);
@@ -244,6 +252,47 @@ fn groups_come_in_order(rt: HostRuntime) {
     assert_eq!(rt; gone, [true, true]);
     assert_eq!(rt; left, [[5, 7, 0, 100, 100], none, none]);
     assert_eq!(rt; closed, [none, none, none]);
+    Ok(())
+}
+
+/// Allocates objects 1 of record type 6 and 2 of record type 9, which need no finalization, and 3
+/// of record type 7, which does, for collection 5; all join.
+fn three_members(objects: &mut Numbered) -> [u64; 3] {
+    let numbers = [
+        objects.allocate_as(Ty::Record(6), 5, 1),
+        objects.allocate_as(Ty::Record(9), 5, 1),
+        objects.allocate_as(Ty::Record(7), 5, 1),
+    ];
+    for number in [1, 2, 3] {
+        objects.join(number);
+    }
+    numbers
+}
+
+#[test]
+fn plain_objects_stand_in_no_group(rt: HostRuntime) -> Result<(), Fail> {
+    let mut objects = Numbered::new(rt.alloc(), some_needs(rt.alloc())?);
+    let numbers = three_members(&mut objects);
+    let start = three_groups(&objects, 0, u64::MAX);
+    objects.begin(1);
+    objects.write(2, 0, 12);
+    let plain = three_groups(&objects, 0, u64::MAX);
+    objects.begin(3);
+    let begun = three_groups(&objects, 0, u64::MAX);
+    let gone = objects.forget(1);
+    let forgotten = objects.first_cells();
+    objects.leave(&[5]);
+    let closed = objects.first_cells();
+    objects.finish().close();
+    let none = [100; 5];
+    assert_eq!(rt; numbers, [1, 2, 3]);
+    assert_eq!(rt; start, [[5, 7, 1, 3, 3], none, none]);
+    assert_eq!(rt; plain, start);
+    assert_eq!(rt; begun, [none, none, none]);
+    assert!(rt; gone);
+    assert_eq!(rt; forgotten, [100, 12, 0, 100]);
+    assert_eq!(rt; closed, [100, 100, 100, 100]);
+    Ok(())
 }
 
 /// The cells of objects 1 and 2, read one by one.
@@ -260,7 +309,7 @@ fn cells_of_two(objects: &Objects) -> [u64; 5] {
 #[test]
 fn cells_are_copied_and_saved(rt: HostRuntime) -> Result<(), Fail> {
     let mut saved = Vec::with_capacity(rt.alloc(), 4)?;
-    let mut objects = Numbered::new(rt.alloc());
+    let mut objects = Numbered::new(rt.alloc(), Vec::new(rt.alloc()));
     let _ = four_objects(&mut objects);
     objects.write_all(2, 1, &[21, 22, 23]);
     let mut objects = objects.finish();
@@ -297,7 +346,7 @@ fn life_of_4(objects: &mut Objects) -> [Option<Existing>; 3] {
 
 #[test]
 fn a_finalization_begins_and_ends(rt: HostRuntime) {
-    let mut objects = Numbered::new(rt.alloc());
+    let mut objects = Numbered::new(rt.alloc(), Vec::new(rt.alloc()));
     let _ = four_objects(&mut objects);
     let mut objects = objects.finish();
     let life = life_of_4(&mut objects);

@@ -1,4 +1,4 @@
-//! The program's work, over any reader and any writers.
+//! The program's jobs, over any reader and any writers.
 
 ghost use Rattle.std.specs.Prelude.{◌≡◌, ◌⊎◌, codes, false, true, OnErr, OnOk};
 ghost use Rattle.std.specs.Io.KnownBytes.{Appends};
@@ -20,10 +20,10 @@ use ctl_tree::request::{Order, Show};
 use std::alloc::{Allocator, Global};
 use std::io::{Read, Write};
 
-/// How many bytes of a file are read at most: one more than a source text may have.
+/// The limit on the bytes that are read of a file: one more than a source text may have.
 pub const READ_LIMIT: usize = 1_048_577;
 
-/// Says why a source text is refused.
+/// Writes the line on why a source text is refused, and returns the exit status.
 fn refuse<E: Write>(fault: Fault, err: &mut E) -> Status
     ensures { result ≡ fault_status fault.code }
 {
@@ -36,12 +36,14 @@ fn refuse<E: Write>(fault: Fault, err: &mut E) -> Status
     status
 }
 
-/// The command line, for words that are none.
+/// The usage, for words that the command line does not take.
 const USAGE: &str = "usage: adactl check FILE
        adactl run FILE [--trace] [--order newest|oldest] [--steps N]
 ";
 
-/// Says why the words of a command line ask for no job, and answers the exit status: 64 with the usage, or 5.
+/// Reports why the words of a command line ask for no job, and returns the exit status.
+///
+/// It writes the usage, with the status 64, or that memory was refused, with 5. A fault in writing is passed over.
 pub fn refuse_words<E: Write>(fault: UsageFault, err: &mut E) -> u8
     ensures { result ≡ exit_code (usage_status fault) }
 {
@@ -54,14 +56,14 @@ pub fn refuse_words<E: Write>(fault: UsageFault, err: &mut E) -> u8
     status_of_usage(fault).code()
 }
 
-/// Says that a file was not read, and answers the exit status.
+/// Reports that a file was not read, and returns the exit status, 74.
 pub fn refuse_file<E: Write>(err: &mut E) -> u8
     ensures { result ≡ exit_code Status.InputOutput }
 {
     fail_read(err).code()
 }
 
-/// Says that a read failed.
+/// Reports that a read failed.
 fn fail_read<E: Write>(err: &mut E) -> Status
     ensures { result ≡ Status.InputOutput }
 {
@@ -69,7 +71,7 @@ fn fail_read<E: Write>(err: &mut E) -> Status
     Status::InputOutput
 }
 
-/// Says that a write failed.
+/// Reports that a write failed.
 fn fail_write<E: Write>(err: &mut E) -> Status
     ensures { result ≡ Status.InputOutput }
 {
@@ -77,7 +79,7 @@ fn fail_write<E: Write>(err: &mut E) -> Status
     Status::InputOutput
 }
 
-/// Puts `ok`, and has it passed on.
+/// Puts `ok` and a line feed, and flushes the sink.
 fn put_ok<S: Sink>(sink: &mut S) -> Result<(), PutFault>
     ensures all { OnOk result (Appends (S.taken sink.old) (S.taken sink.new) (codes "ok\n")) }
     ensures ok { OnOk result (S.has_failed sink.new ≡ S.has_failed sink.old) }
@@ -88,7 +90,7 @@ fn put_ok<S: Sink>(sink: &mut S) -> Result<(), PutFault>
     sink.flush()
 }
 
-/// Checks a source text, and prints `ok` where it is accepted.
+/// Checks a source text, and puts `ok` if it is accepted.
 fn check<S: Sink, E: Write>(alloc: Global, source: &[u8], sink: &mut S, err: &mut E) -> Status
     requires { S.has_failed sink.old ≡ false }
     ensures possible { IsCheckStatus result }
@@ -108,7 +110,7 @@ fn check<S: Sink, E: Write>(alloc: Global, source: &[u8], sink: &mut S, err: &mu
     }
 }
 
-/// Runs a source text, prints what is asked for of it, and says how the run ended once that has been passed on.
+/// Runs a source text, puts the text that shows the run, and reports how the run ended after that has been flushed.
 fn run<S: Sink, E: Write>(
     alloc: Global,
     source: &[u8],
@@ -124,7 +126,7 @@ fn run<S: Sink, E: Write>(
     ensures refused { result ≡ Status.Refused → IsRefusedText source.now }
     ensures untouched { result ≡ Status.Refused → sink.new ≡ sink.old }
 
-    // Memory was wanting before a byte was put, or in the run, which was put whole.
+    // Memory ran out before a byte was put, or in the run, which was put whole.
     ensures memory { result ≡ Status.HostMemory → (sink.new ≡ sink.old) ⊎ WritesRun source.now order steps show (S.taken sink.old) (S.taken sink.new) Status.HostMemory }
     ensures told { S.has_failed sink.new ≡ true → result ≡ Status.InputOutput }
     ensures failed { result ≡ Status.InputOutput → S.has_failed sink.new ≡ true }
@@ -143,8 +145,11 @@ fn run<S: Sink, E: Write>(
     }
 }
 
-/// Does a job on a source text, of which at most so many bytes are read, into memory of this allocator. What the job asks
-/// for goes into a sink that has not failed, and is passed on before a line on how the job ended is said.
+/// Does a job on a source text, for a sink that has not failed, and returns the exit status.
+///
+/// At most `limit` bytes of the source text are read, into memory of the allocator `buffer`. What the job asks for goes
+/// into the sink and is flushed, and after that a line on how the job ended is written to `err`, where a fault in
+/// writing is passed over.
 pub fn serve_into<A: Allocator, R: Read, S: Sink, E: Write>(
     alloc: Global,
     buffer: A,
@@ -162,7 +167,7 @@ pub fn serve_into<A: Allocator, R: Read, S: Sink, E: Write>(
     ensures refused { result ≡ Status.Refused → ReadsRefused limit (R.remaining (reader_of source.old)) (R.remaining (reader_of source.new)) }
     ensures untouched { result ≡ Status.Refused → sink.new ≡ sink.old }
 
-    // Memory was wanting before a byte was put, or in the run, which was put whole.
+    // Memory ran out before a byte was put, or in the run, which was put whole.
     ensures memory { result ≡ Status.HostMemory → (sink.new ≡ sink.old) ⊎ Serves job limit (R.remaining (reader_of source.old)) (R.remaining (reader_of source.new)) (S.taken sink.old) (S.taken sink.new) Status.HostMemory }
 
     // No failure of the sink or of a read is passed over.
@@ -191,10 +196,10 @@ pub fn serve_into<A: Allocator, R: Read, S: Sink, E: Write>(
     }
 }
 
-/// Does a job on the source text that this reader gives, and answers the exit status: 74 where the sink had failed before.
+/// Does a job on the source text that this reader gives, and returns the exit status: 74 if the sink had failed before.
 ///
-/// What the job asks for goes into the sink, and is passed on; then a line on how the job ended goes to `err`, where a
-/// fault in writing is passed over. At most 1,048,577 bytes are read, by at most as many reads.
+/// At most 1,048,577 bytes are read, by at most as many reads. What the job asks for goes into the sink and is flushed,
+/// and after that a line on how the job ended is written to `err`, where a fault in writing is passed over.
 pub fn serve<R: Read, S: Sink, E: Write>(
     alloc: Global,
     job: Job,

@@ -1,4 +1,4 @@
-//! Runs, and the text that shows them, put into a sink.
+//! Runs of source texts, and the text that shows a run, put into a sink.
 
 ghost use Rattle.std.specs.Prelude.{◌≡◌, ◌↔◌, true, false, IfOk, IfErr, IsErrOf, MatchResult, OnOk};
 ghost use Rattle.std.specs.Io.KnownBytes.{Appends};
@@ -20,7 +20,7 @@ use ctl_tree::fault::Fault;
 use ctl_tree::request::{Order, Show};
 use std::alloc::{AllocError, Allocator, Global};
 
-/// The text that shows a run: what it printed, or its trace.
+/// Returns the text that shows a run: what it printed, or its trace.
 pub fn text_of<A: Allocator>(
     alloc: A,
     outcome: &Outcome,
@@ -34,7 +34,12 @@ pub fn text_of<A: Allocator>(
     }
 }
 
-/// Puts the text of a run into a sink.
+/// Puts the text that shows a run into a sink that has not failed.
+///
+/// # Errors
+///
+/// Returns `Write` exactly if a `put` fails: the sink has then taken a prefix of the text, and not all of it. Else
+/// returns `Refused` if memory runs out, and nothing is put.
 pub fn put_run<S: Sink, A: Allocator>(
     alloc: A,
     outcome: &Outcome,
@@ -57,7 +62,7 @@ pub fn put_run<S: Sink, A: Allocator>(
     }
 }
 
-/// Puts the text of a run into a sink, and answers what is known of the run.
+/// Puts the text that shows a run into a sink, and returns the summary of the run.
 fn show_run<S: Sink, A: Allocator>(
     alloc: A,
     outcome: Outcome,
@@ -76,11 +81,13 @@ fn show_run<S: Sink, A: Allocator>(
     Ok(Summary::from(outcome))
 }
 
-/// Runs a source text to its end, by at most so many steps, and then puts the text that shows the run into a sink that
-/// has not failed.
+/// Runs a source text to its end, by at most `steps` machine steps, and then puts the text that shows the run into a
+/// sink that has not failed. Returns the summary of the run. A short `put` is continued.
 ///
-/// A short `put` is continued. `Write` comes exactly where a `put` of the call failed, and then a prefix of the text was
-/// put; `Refused` with the fault of the source text, or where memory was refused, and then nothing was put.
+/// # Errors
+///
+/// Returns `Write` exactly if a `put` fails: the sink has then taken a prefix of the text, and not all of it. Else
+/// returns `Refused`, with the fault of the source text or if memory runs out, and nothing is put.
 pub fn run_into<S: Sink>(
     alloc: Global,
     source: &[u8],
@@ -94,7 +101,7 @@ pub fn run_into<S: Sink>(
     ensures write { IsErrOf result Write → WritesPart source.now order steps show (S.taken sink.old) (S.taken sink.new) }
     ensures refused { IfErr result (λ fault. IsRefusal fault → sink.new ≡ sink.old) }
     ensures failed { (S.has_failed sink.new ≡ true) ↔ IsErrOf result Write }
-    // It is refused with nothing else than its fault, or want of memory.
+    // It is refused with its fault, or because memory ran out, and for nothing else.
     ensures because { IfErr result (IsRefusedFor source.now) }
 
     // A text with a lexical fault is refused with it.
@@ -106,7 +113,7 @@ pub fn run_into<S: Sink>(
     // A text with a fault, of lexis, grammar, names or types, or a construct that is not run, is refused with it.
     ensures faulty { (fault : Fault) → IsFaultOf source.now fault → MatchResult result (λ _. ⊥) (IsRefusalWith fault) }
 
-    // A text that has none is refused for want of memory alone.
+    // A text that has none is refused only because memory ran out.
     ensures faultless { IsFaultless source.now → IfErr result WantsMemory }
 {
     match run_source(alloc, source, order, steps) {

@@ -1,4 +1,4 @@
-//! A run whose text goes into a sink, and the program's work over any reader and writers.
+//! Runs whose text goes into a sink, and the program's jobs over any reader and any writers.
 #![tactic(auto)]
 
 mod command;

@@ -7,7 +7,7 @@ use std::fmt;
 use std::fmt::Display;
 use std::io::Write;
 
-/// The picks of a run, as the program prints them: numbers with commas, or `none`.
+/// The picks of a run, printed as numbers with commas, or as `none`.
 #[derive(Clone, Copy)]
 pub struct Picks<'a>(pub &'a [u64]);
 
@@ -24,7 +24,7 @@ impl Display for Picks<'_> {
     }
 }
 
-/// Writes a line of the program.
+/// Writes a line of the program: `adactl: `, the message and a line feed. A fault in writing is passed over.
 pub fn say<E: Write, D: Display + Drop>(err: &mut E, message: D) {
     let _ = writeln!(err, "adactl: {message}");
 }
@@ -36,7 +36,7 @@ fn say_name<E: Write>(err: &mut E, message: &str, name: &[u8]) {
     let _ = err.write_all(b"\n");
 }
 
-/// Writes the line for the end of a run; there is none for one that is done.
+/// Writes the line for the end of a run, and nothing for a run that is done.
 pub fn say_end<E: Write>(err: &mut E, end: &End) {
     match end {
         End::Done => {}
@@ -47,7 +47,7 @@ pub fn say_end<E: Write>(err: &mut E, end: &End) {
     }
 }
 
-/// Says how a run ended; of one whose trace was asked for, first the picks that it took.
+/// Writes how a run ended, and before that the picks that it took, if its trace was asked for.
 pub fn say_run<E: Write>(err: &mut E, show: Show, summary: &Summary) {
     if show == Show::Trace {
         let picks = Picks(&summary.picks);

@@ -1,4 +1,4 @@
-//! The source text, read from a file.
+//! Source texts, read from a file.
 
 ghost use Rattle.std.specs.Prelude.{◌≡◌, ◌≤◌, ◌<◌, false, true, IfErr, IfOk, IsErrOf, OnErr, OnOk, length, take, vec_len};
 ghost use Rattle.std.specs.Io.{ReadsAtMost};
@@ -8,15 +8,15 @@ ghost use Rattle.ctl_serve.specs.Reading.{is_unread, reader_of};
 use std::alloc::Allocator;
 use std::io::Read;
 
-/// Why a source text was not read.
+/// The reason why a source text was not read.
 #[derive(Clone, Copy, Debug, PartialEq, Eq)]
 pub enum ReadFault {
     Memory,
-    /// a read answered an error
+    /// a read returned an error
     Read,
 }
 
-/// A reader that remembers whether a read of it failed.
+/// A reader that remembers whether a read failed.
 #[derive(Drop)]
 pub struct Reading<R> {
     reader: R,
@@ -24,7 +24,7 @@ pub struct Reading<R> {
 }
 
 impl<R: Read> Reading<R> {
-    /// This reader, of which no read has failed.
+    /// Makes a `Reading` of this reader, of which no read has failed.
     pub fn new(reader: R) -> Reading<R>
         ensures reader { reader_of result ≡ reader }
         ensures whole { is_unread result ≡ false }
@@ -35,7 +35,7 @@ impl<R: Read> Reading<R> {
         }
     }
 
-    /// Reads some bytes, none only at the reader's end or where the buffer has no room; a fault gives none.
+    /// Reads some bytes, none only at the reader's end or if the buffer has no room. A fault reads none.
     fn read(&mut self, buffer: &mut [u8]) -> Result<usize, ReadFault>
         ensures bound { ReadsAtMost result buffer.new }
         ensures bytes { ReadConsumes (R.remaining (reader_of self.old)) (R.remaining (reader_of self.new)) result buffer.new }
@@ -53,8 +53,8 @@ impl<R: Read> Reading<R> {
     }
 }
 
-/// Fills the buffer, and answers how many bytes were read: fewer than it has only at the reader's end. Each read but the
-/// last gives a byte at least, so that there are no more reads than bytes.
+/// Fills the buffer, and returns how many bytes were read: fewer than it has only at the reader's end. Each read but
+/// the last gives at least a byte, so that there are no more reads than bytes.
 fn fill<R: Read>(source: &mut Reading<R>, buffer: &mut [u8]) -> Result<usize, ReadFault>
     ensures count { IfOk result (λ n. n ≤ length buffer.new) }
     ensures bytes { IfOk result (λ n. Consumes (R.remaining (reader_of source.old)) (R.remaining (reader_of source.new)) (take n buffer.new)) }
@@ -73,7 +73,11 @@ fn fill<R: Read>(source: &mut Reading<R>, buffer: &mut [u8]) -> Result<usize, Re
     Ok(held)
 }
 
-/// The bytes of a file, at most so many of them. `Read` comes where a read failed, and `Memory` before any read.
+/// Reads the bytes of a file, at most `limit` of them, into memory of this allocator.
+///
+/// # Errors
+///
+/// Returns `Read` if a read failed, and `Memory` before any read.
 pub fn read_source<A: Allocator, R: Read>(
     alloc: A,
     source: &mut Reading<R>,

@@ -7,10 +7,10 @@ use ctl_job::UsageFault;
 use ctl_tree::ending::End;
 use ctl_tree::fault::{Fault, FaultCode};
 
-/// How the program ends.
+/// An exit status of the program.
 #[derive(Clone, Copy, Debug, PartialEq, Eq)]
 pub enum Status {
-    /// all was done
+    /// the job was done
     Done = 0,
     /// an exception left the main procedure
     Raised = 1,
@@ -29,7 +29,7 @@ pub enum Status {
 }
 
 impl Status {
-    /// The number that the program hands to its caller.
+    /// Returns the number that the program hands to its caller.
     pub fn code(self) -> u8
         ensures { result ≡ exit_code self }
     {
@@ -37,7 +37,7 @@ impl Status {
     }
 }
 
-/// The status for words that ask for no job.
+/// Returns the status for words that ask for no job.
 pub fn status_of_usage(fault: UsageFault) -> Status
     ensures { result ≡ usage_status fault }
 {
@@ -47,7 +47,7 @@ pub fn status_of_usage(fault: UsageFault) -> Status
     }
 }
 
-/// The status for a run that ended so.
+/// Returns the status for a run with this end.
 pub fn status_of_end(end: &End) -> Status
     ensures { result ≡ end_status end.now }
 {
@@ -60,7 +60,7 @@ pub fn status_of_end(end: &End) -> Status
     }
 }
 
-/// The status for a source text with this fault.
+/// Returns the status for a source text with this fault.
 pub fn status_of_fault(fault: Fault) -> Status
     ensures { result ≡ fault_status fault.code }
 {

@@ -1,17 +1,17 @@
-//! What is known of a run whose text has been written, and why none was.
+//! Summaries of runs whose text has been written, and the reasons why one was not.
 
 use ctl_machine::outcome::Outcome;
 use ctl_tree::ending::End;
 use ctl_tree::fault::Fault;
 use thiserror::Error;
 
-/// What is known of a run whose text has been written.
+/// The summary of a run whose text has been written.
 #[derive(Drop, Debug)]
 pub struct Summary {
     /// the picks that the run took, in their order
     pub picks: Vec<u64>,
     pub end: End,
-    /// the machine steps taken
+    /// how many machine steps were taken
     pub steps: u64,
 }
 
@@ -29,7 +29,7 @@ impl From<Outcome> for Summary {
     }
 }
 
-/// Why the text of a run was not written whole.
+/// The reason why the text of a run was not written whole.
 #[derive(Clone, Copy, Debug, PartialEq, Eq, Error)]
 pub enum RunFault {
     /// the source text is refused, or the host refused memory; nothing was written

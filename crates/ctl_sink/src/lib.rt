@@ -1,4 +1,4 @@
-//! Where the bytes of a run go: a sink takes some of the bytes that it is given, or fails, and remembers that it failed.
+//! Sinks for the bytes of a run. A sink takes some of the bytes that it is given, or fails and remembers that it did.
 #![tactic(auto)]
 
 mod all;

@@ -6,8 +6,8 @@ ghost use Rattle.ctl_sink.specs.Through.{writer_of, is_broken};
 use crate::traits::{PutFault, Sink};
 use std::io::Write;
 
-/// The sink over a writer of the standard library. It tells the bytes that the writer tells; it fails where a write
-/// fails, with whatever error, or takes no byte, and where a flush fails.
+/// The sink over a writer of the standard library. It tells the bytes that the writer tells. It fails if a write
+/// returns an error, of whatever kind, or takes no byte, and if a flush fails.
 #[derive(Drop)]
 pub struct Through<W> {
     writer: W,
@@ -15,7 +15,7 @@ pub struct Through<W> {
 }
 
 impl<W: Write> Through<W> {
-    /// The sink over this writer, which has not failed.
+    /// Makes the sink over this writer. It has not failed.
     pub fn new(writer: W) -> Through<W>
         ensures writer { writer_of result ≡ writer }
         ensures whole { is_broken result ≡ false }

@@ -1,4 +1,4 @@
-//! The texts that show a run: a line for each event and one for the end, or what the program printed.
+//! The texts that show a run: its trace, with a line for each event and one for the end, or what the program printed.
 #![tactic(auto)]
 
 mod lines;

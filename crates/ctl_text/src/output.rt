@@ -17,7 +17,12 @@ fn push_printed<A: Allocator>(text: &mut Vec<u8, A>, event: &Event) -> Result<()
     }
 }
 
-/// What the events print, in this allocator's memory.
+/// Returns what the events print, in this allocator's memory: the bytes of each Print, and a line feed for each
+/// Newline.
+///
+/// # Errors
+///
+/// Returns `AllocError` if the allocator refuses the memory.
 pub fn output_text_in<A: Allocator>(alloc: A, events: &[Event]) -> Result<Vec<u8, A>, AllocError>
     ensures { IfOk result (λ text. text.items ≡ output_of events.now) }
 {
@@ -28,7 +33,11 @@ pub fn output_text_in<A: Allocator>(alloc: A, events: &[Event]) -> Result<Vec<u8
     Ok(text)
 }
 
-/// What the events print: the bytes of each Print, and a line feed for each Newline.
+/// Returns what the events print: the bytes of each Print, and a line feed for each Newline.
+///
+/// # Errors
+///
+/// Returns `AllocError` if the allocator refuses the memory.
 pub fn output_text(alloc: Global, events: &[Event]) -> Result<Vec<u8>, AllocError>
     ensures { IfOk result (λ text. text.items ≡ output_of events.now) }
 {

@@ -18,7 +18,11 @@ fn push_events<A: Allocator>(text: &mut Vec<u8, A>, events: &[Event]) -> Result<
     Ok(())
 }
 
-/// The trace text, in this allocator's memory: a line for each event, and then one for the end.
+/// Returns the trace text, in this allocator's memory: a line for each event, and then one for the end.
+///
+/// # Errors
+///
+/// Returns `AllocError` if the allocator refuses the memory.
 pub fn trace_text_in<A: Allocator>(
     alloc: A,
     events: &[Event],
@@ -32,7 +36,11 @@ pub fn trace_text_in<A: Allocator>(
     Ok(text)
 }
 
-/// The trace text: a line for each event, and then one for the end.
+/// Returns the trace text: a line for each event, and then one for the end.
+///
+/// # Errors
+///
+/// Returns `AllocError` if the allocator refuses the memory.
 pub fn trace_text(alloc: Global, events: &[Event], end: &End) -> Result<Vec<u8>, AllocError>
     ensures { IfOk result (λ text. text.items ≡ trace_of events.now end.now) }
 {

@@ -6,7 +6,7 @@ ghost use Rattle.ctl_text.specs.Words.{cause_word, stop_word};
 use ctl_tree::ending::Stop;
 use ctl_tree::event::Cause;
 
-/// The word for why a part is finalized.
+/// Returns the word for why a part is finalized.
 pub fn word_of_cause(cause: Cause) -> &'static str
     ensures { result.now ≡ cause_word cause }
 {
@@ -20,7 +20,7 @@ pub fn word_of_cause(cause: Cause) -> &'static str
     }
 }
 
-/// The word for why a run was stopped.
+/// Returns the word for why a run was stopped.
 pub fn word_of_stop(stop: Stop) -> &'static str
     ensures { result.now ≡ stop_word stop }
 {

@@ -17,7 +17,7 @@ pub struct Membership {
 #[derive(Drop)]
 pub struct Group<A: Allocator = Global> {
     members: VecDeque<Membership, A>,
-    // The set that all members have in common. `None` where there are several, and in a group that never had a member.
+    // The set that all members have in common. `None` if there are several, and in a group that never had a member.
     sole: Option<u64>,
 }
 
@@ -35,7 +35,7 @@ impl<A: Allocator> Model for Group<A> {
 }
 
 impl<A: Allocator> Group<A> {
-    /// No member yet.
+    /// Makes a group with no member. Takes no memory.
     pub fn new(alloc: A) -> Group<A>
         ensures { result ≡ [] }
     {
@@ -45,21 +45,21 @@ impl<A: Allocator> Group<A> {
         }
     }
 
-    /// How many members the sets have together.
+    /// Counts the members of all its sets.
     pub fn len(&self) -> u64
         ensures { result ≡ length self.now }
     {
         self.members.len() as u64
     }
 
-    /// The k-th member of all, from 0, where there is one: its object.
+    /// Returns the object of the k-th member of all, from 0, or `None` if there is none.
     pub fn nth(&self, k: u64) -> Option<u64>
         ensures { result ≡ slice_get (objects_of self.now) k }
     {
         self.members.get(k as usize).map(|member| member.object)
     }
 
-    /// How many members a set has. Their numbers rise, since each object is a member once.
+    /// Counts the members of a set. Their numbers rise, since each object is a member once.
     pub fn len_in(&self, set: u64) -> u64
         ensures count { result ≡ length (members_in set self.now) }
         ensures rising { IsStrictlyIncreasing (objects_of (members_in set self.now)) }
@@ -73,7 +73,7 @@ impl<A: Allocator> Group<A> {
             .count() as u64
     }
 
-    /// The k-th member of a set, from 0, where there is one: its object.
+    /// Returns the object of the k-th member of a set, from 0, or `None` if there is none.
     pub fn nth_in(&self, set: u64, k: u64) -> Option<u64>
         ensures { result ≡ slice_get (objects_of (members_in set self.now)) k }
     {
@@ -92,7 +92,11 @@ impl<A: Allocator> Group<A> {
         None
     }
 
-    /// Adds a member, where it is not there yet. Where memory is refused, nothing changes.
+    /// Adds a member, unless it is one already.
+    ///
+    /// # Errors
+    ///
+    /// Returns `AllocError` if the allocator refuses the memory. Nothing changes then.
     pub fn add(&mut self, member: Membership) -> Result<(), AllocError>
         ensures ok { OnOk result (self.new ≡ put_member member self.old) }
         ensures err { OnErr result (self.new ≡ self.old) }
@@ -107,7 +111,7 @@ impl<A: Allocator> Group<A> {
         Ok(())
     }
 
-    /// Takes a member out, where it is there.
+    /// Removes a member, if it is one.
     pub fn remove(&mut self, member: Membership)
         ensures { self.new ≡ remove_member member self.old }
     {
@@ -116,7 +120,7 @@ impl<A: Allocator> Group<A> {
         }
     }
 
-    // Where a new member goes: behind those whose numbers are not greater.
+    // Returns the index for a new member: after those whose numbers are not greater.
     fn place_for(&self, object: u64) -> usize
         ensures { IsPlaceFor object self.now result }
     {
@@ -124,7 +128,7 @@ impl<A: Allocator> Group<A> {
             .partition_point(|member| member.object <= object)
     }
 
-    // The set that all members and a new one of this set have in common.
+    // Returns the set that all members and a new one of this set have in common, if there is one.
     fn sole_with(&self, set: u64) -> Option<u64>
         ensures all { IsSole result self.now }
         ensures new { IfSome result (λ s. s ≡ set) }
@@ -136,7 +140,7 @@ impl<A: Allocator> Group<A> {
         }
     }
 
-    // Where the member stands. Those of its object number, of which there is mostly one, are looked through.
+    // Returns the index of the member, if it is one. Looks through those of its object number, mostly a single one.
     fn place_of(&self, member: Membership) -> Option<usize>
         ensures { MatchOption result (All (λ x. is_same member x ≡ false) self.now) (IsPlaceOf member self.now) }
     {

@@ -1,4 +1,4 @@
-//! The finalization lists: masters with their layers, and sets of objects.
+//! The finalization lists: masters with their layers, and sets of objects (RM 7.6.1).
 #![tactic(auto)]
 
 mod group;

@@ -11,15 +11,15 @@ use number_map::NumberMap;
 use std::alloc::{AllocError, Allocator, Global};
 use std::marker::Model;
 
-/// The number of a master, from 1 in the order in which they were opened.
+/// The number of a master, from 1 in the order of opening.
 #[derive(Clone, Copy, Debug, PartialEq, Eq)]
 pub struct MasterNo(pub u64);
 
-/// The number of a set, from 1 in the order in which they came to be.
+/// The number of a set, from 1 in the order of creation.
 #[derive(Clone, Copy, Debug, PartialEq, Eq)]
 pub struct SetNo(pub u64);
 
-/// What a master finalizes at one time (RM 7.6.1(9)).
+/// A layer of a master: what it finalizes at one time (RM 7.6.1(9)).
 #[derive(Clone, Copy, Debug, PartialEq, Eq)]
 pub enum Layer {
     /// a declared object, by its number
@@ -36,9 +36,10 @@ pub struct Set {
     started: bool,
 }
 
-/// Masters with their layers, from the newest, and sets with their members, by object number.
+/// The masters with their layers, from the newest on, and the sets with their members, by object number (RM 7.6.1).
 ///
-/// A call that is refused memory changes nothing.
+/// A call that runs out of memory returns `AllocError` and changes nothing. One that names a master that is not open or
+/// a set that does not stand changes nothing and finds nothing.
 #[derive(Drop)]
 pub struct FinLists<A: Allocator = Global> {
     alloc: A,
@@ -66,7 +67,7 @@ impl<A: Allocator> Model for FinLists<A> {
 }
 
 impl<A: Allocator + Copy> FinLists<A> {
-    /// No master and no set yet. It takes no memory.
+    /// Makes lists with no master and no set. Takes no memory.
     pub fn new(alloc: A) -> FinLists<A>
         ensures lists { result ≡ no_lists }
         ensures numbers { (result.masters_given ≡ 0) × (result.sets_given ≡ 0) }
@@ -81,7 +82,7 @@ impl<A: Allocator + Copy> FinLists<A> {
         }
     }
 
-    /// Opens a master, which has no layer yet.
+    /// Opens a master, which has no layer yet, and returns its number.
     pub fn open_master(&mut self) -> Result<MasterNo, AllocError>
         requires { self.old.masters_given < 2 ^ 64 - 1 }
         ensures ok { IfOk result (λ m. (m.0 ≡ self.old.masters_given + 1) × (self.new ≡ with_master self.old)) }
@@ -95,8 +96,8 @@ impl<A: Allocator + Copy> FinLists<A> {
         Ok(MasterNo(number))
     }
 
-    /// Adds a collection to a master, as its newest layer, or to its newest layer where it joins that one.
-    /// It has no member yet.
+    /// Adds a collection to a master, as its newest layer, or to its newest layer if it joins that one, and returns the
+    /// number of the collection's set, which has no member yet.
     pub fn add_collection(&mut self, master: MasterNo, joins: bool) -> Result<SetNo, AllocError>
         requires { self.old.sets_given < 2 ^ 64 - 1 }
         ensures ok { IfOk result (λ s. (s.0 ≡ self.old.sets_given + 1) × (self.new ≡ add_collection joins master.0 self.old)) }
@@ -128,7 +129,8 @@ impl<A: Allocator + Copy> FinLists<A> {
         Ok(SetNo(number))
     }
 
-    /// Makes a set that belongs to no master, for the objects of a subpool. It stands for good, and has no member yet.
+    /// Adds a set that belongs to no master, for the objects of a subpool (RM 13.11.4), and returns its number. It
+    /// stands for good, and has no member yet.
     pub fn open_subpool(&mut self) -> Result<SetNo, AllocError>
         requires { self.old.sets_given < 2 ^ 64 - 1 }
         ensures ok { IfOk result (λ s. (s.0 ≡ self.old.sets_given + 1) × (self.new ≡ with_alone self.old)) }
@@ -152,7 +154,7 @@ impl<A: Allocator + Copy> FinLists<A> {
 }
 
 impl<A: Allocator> FinLists<A> {
-    /// Closes a master. Its collections stand no more.
+    /// Closes a master. Its collections no longer stand after that.
     pub fn close_master(&mut self, master: MasterNo)
         ensures lists { self.new ≡ without_master master.0 self.old }
         ensures numbers { KeepsNumbers self.old self.new }
@@ -184,7 +186,7 @@ impl<A: Allocator> FinLists<A> {
         }
     }
 
-    /// The newest layer of a master.
+    /// Returns the newest layer of a master, or `None` if it has none.
     pub fn newest(&self, master: MasterNo) -> Option<Layer>
         ensures { result ≡ newest_layer master.0 self.now }
     {
@@ -194,7 +196,7 @@ impl<A: Allocator> FinLists<A> {
         }
     }
 
-    /// Takes the newest layer of a master out. The collections of a layer stand until the master is closed.
+    /// Removes the newest layer of a master. The collections of a layer stand until the master is closed.
     pub fn drop_newest(&mut self, master: MasterNo)
         ensures lists { self.new ≡ drop_newest master.0 self.old }
         ensures numbers { KeepsNumbers self.old self.new }
@@ -204,7 +206,7 @@ impl<A: Allocator> FinLists<A> {
         }
     }
 
-    /// How many members the collections of a master's newest layer have together.
+    /// Counts the members of all collections of a master's newest layer.
     pub fn layer_count(&self, master: MasterNo) -> u64
         ensures { result ≡ length (layer_objects master.0 self.now) }
     {
@@ -214,7 +216,7 @@ impl<A: Allocator> FinLists<A> {
         }
     }
 
-    /// The k-th member of the collections of a master's newest layer, from 0, in the order of object numbers.
+    /// Returns the k-th member of all collections of a master's newest layer, from 0, in the order of object numbers.
     pub fn layer_nth(&self, master: MasterNo, k: u64) -> u64
         requires { k < length (layer_objects master.0 self.now) }
         ensures { Some result ≡ slice_get (layer_objects master.0 self.now) k }
@@ -225,35 +227,35 @@ impl<A: Allocator> FinLists<A> {
         }
     }
 
-    /// Whether a master is open.
+    /// Returns whether a master is open.
     pub fn is_open(&self, master: MasterNo) -> bool
         ensures { result ≡ is_some (get self.now.masters master.0) }
     {
         self.masters.contains(master.0)
     }
 
-    /// Whether a set stands.
+    /// Returns whether a set stands.
     pub fn stands(&self, set: SetNo) -> bool
         ensures { result ≡ is_some (get self.now.sets set.0) }
     {
         self.sets.contains(set.0)
     }
 
-    /// Whether another master can have a number.
+    /// Returns whether there is a number left for another master.
     pub fn has_master_numbers(&self) -> bool
         ensures { IsTrue result ↔ self.now.masters_given < 2 ^ 64 - 1 }
     {
         self.masters_given < u64::MAX
     }
 
-    /// Whether another set can have a number.
+    /// Returns whether there is a number left for another set.
     pub fn has_set_numbers(&self) -> bool
         ensures { IsTrue result ↔ self.now.sets_given < 2 ^ 64 - 1 }
     {
         self.sets_given < u64::MAX
     }
 
-    // The group of a master's newest layer, 0 where that is none of collections.
+    // Returns the group of a master's newest layer, 0 if that is no layer of collections.
     fn newest_group(&self, master: MasterNo) -> u64
         ensures { result ≡ newest_group master.0 self.now }
     {
@@ -266,7 +268,7 @@ impl<A: Allocator> FinLists<A> {
         }
     }
 
-    /// Puts an object into a set. One that is there already is a member once, as before.
+    /// Adds an object to a set. An object that is a member already stays a member once.
     pub fn add_to(&mut self, set: SetNo, object: u64) -> Result<(), AllocError>
         ensures ok { OnOk result (self.new ≡ with_member set.0 object self.old) }
         ensures err { OnErr result (self.new ≡ self.old) }
@@ -280,7 +282,7 @@ impl<A: Allocator> FinLists<A> {
         }
     }
 
-    /// Takes an object out of a set.
+    /// Removes an object from a set.
     pub fn remove(&mut self, set: SetNo, object: u64)
         ensures lists { self.new ≡ without_member set.0 object self.old }
         ensures numbers { KeepsNumbers self.old self.new }
@@ -292,7 +294,7 @@ impl<A: Allocator> FinLists<A> {
         }
     }
 
-    /// How many members a set has. Their numbers rise from each to the next.
+    /// Counts the members of a set. Their numbers rise from each to the next.
     pub fn count(&self, set: SetNo) -> u64
         ensures count { result ≡ length (set_objects set.0 self.now) }
         ensures rising { IsStrictlyIncreasing (set_objects set.0 self.now) }
@@ -303,7 +305,7 @@ impl<A: Allocator> FinLists<A> {
         }
     }
 
-    /// The k-th member of a set, from 0, in the order of object numbers.
+    /// Returns the k-th member of a set, from 0, in the order of object numbers.
     pub fn nth(&self, set: SetNo, k: u64) -> u64
         requires { k < length (set_objects set.0 self.now) }
         ensures { Some result ≡ slice_get (set_objects set.0 self.now) k }
@@ -323,7 +325,7 @@ impl<A: Allocator> FinLists<A> {
         }
     }
 
-    /// The finalization of a set starts.
+    /// Notes that the finalization of a set has started.
     pub fn start_collection(&mut self, set: SetNo)
         ensures lists { self.new ≡ with_started set.0 self.old }
         ensures numbers { KeepsNumbers self.old self.new }
@@ -333,7 +335,7 @@ impl<A: Allocator> FinLists<A> {
         }
     }
 
-    /// Whether the finalization of a set has started.
+    /// Returns whether the finalization of a set has started.
     pub fn started(&self, set: SetNo) -> bool
         ensures { result ≡ has_started set.0 self.now }
     {

@@ -31,7 +31,7 @@ impl<A: Allocator> Model for Master<A> {
 }
 
 impl<A: Allocator + Copy> Master<A> {
-    /// Nothing is to be finalized.
+    /// Makes a master with nothing to finalize. Takes no memory.
     pub fn new(alloc: A) -> Master<A>
         ensures { result ≡ empty_master }
     {
@@ -43,21 +43,25 @@ impl<A: Allocator + Copy> Master<A> {
 }
 
 impl<A: Allocator> Master<A> {
-    /// The newest layer, where there is one.
+    /// Returns the newest layer, or `None` if there is none.
     pub fn newest(&self) -> Option<Kept>
         ensures { result ≡ slice_get self.now.layers 0 }
     {
         self.layers.last().copied()
     }
 
-    /// The collections, in the order of their numbers.
+    /// Returns the collections, in the order of their numbers.
     pub fn collections(&self) -> &[u64]
         ensures { result.now ≡ self.now.collections }
     {
         self.collections.as_slice()
     }
 
-    /// Adds an object as the newest layer. Where memory is refused, nothing changes.
+    /// Adds an object as the newest layer.
+    ///
+    /// # Errors
+    ///
+    /// Returns `AllocError` if the allocator refuses the memory. Nothing changes then.
     pub fn add_object(&mut self, object: u64) -> Result<(), AllocError>
         ensures ok { OnOk result (self.new ≡ with_object object self.old) }
         ensures err { OnErr result (self.new ≡ self.old) }
@@ -66,8 +70,11 @@ impl<A: Allocator> Master<A> {
         Ok(())
     }
 
-    /// Adds a collection: to the newest layer, where it joins that one, and else as the newest layer.
-    /// Where memory is refused, nothing changes.
+    /// Adds a collection: to the newest layer if it joins that one, and else as the newest layer.
+    ///
+    /// # Errors
+    ///
+    /// Returns `AllocError` if the allocator refuses the memory. Nothing changes then.
     pub fn add_collection(&mut self, set: u64, joins: bool) -> Result<(), AllocError>
         ensures ok { OnOk result (self.new ≡ with_collection joins set self.old) }
         ensures err { OnErr result (self.new ≡ self.old) }
@@ -80,7 +87,7 @@ impl<A: Allocator> Master<A> {
         Ok(())
     }
 
-    /// Takes the newest layer out.
+    /// Removes the newest layer.
     pub fn drop_newest(&mut self)
         ensures { self.new ≡ without_newest self.old }
     {

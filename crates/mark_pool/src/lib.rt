@@ -1,4 +1,4 @@
-//! Words that are given out one after the other, and go back down to a mark.
+//! Pools whose words are taken one after the other and released back to a mark (RM 13.11.6).
 #![tactic(auto)]
 
 mod pool;

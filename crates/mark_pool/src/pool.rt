@@ -7,7 +7,7 @@ use raw_region::{Block, PoolFault, RawRegion};
 use std::alloc::{Allocator, Global};
 use std::marker::Model;
 
-/// The number of a mark of a pool. Each is issued once.
+/// The number of a mark of a pool. Each number is issued once.
 #[derive(Clone, Copy, Debug, PartialEq, Eq)]
 pub struct MarkNo(pub u64);
 
@@ -22,7 +22,7 @@ pub struct StandingMark {
 }
 
 impl StandingMark {
-    /// Counts the words of a Block from the place `start` on as back, as far as they lie before the mark.
+    /// Counts the words of a Block from the place `start` on as back, as far as they are before the mark.
     fn bring_back(&mut self, start: usize, words: usize)
         requires { IsWithin start words self.old }
         ensures { self.new ≡ back_at start words self.old }
@@ -42,9 +42,9 @@ fn bring_back_each(marks: &mut [StandingMark], start: usize, words: usize)
     }
 }
 
-/// A pool whose words are given out one after the other. It ends by `close`, once all Blocks are back.
+/// A pool whose words are taken one after the other and released back to a mark, in one region (RM 13.11.6).
 ///
-/// At most ten marks stand in it, one from the start. Releasing the newest takes all words since then back.
+/// At most ten marks stand in it, one of them from the start. It has to be closed by `close`, once all Blocks are back.
 pub struct MarkPool<A: Allocator = Global> {
     region: RawRegion<A>,
     size: usize,
@@ -79,11 +79,11 @@ impl<A: Allocator> Model for MarkPool<A> {
 }
 
 impl<A: Allocator> MarkPool<A> {
-    /// A pool of `words` words, from 1 to 2,097,152, all of them zero, with its first mark.
+    /// Opens a pool of `words` 64-bit words, from 1 to 2,097,152, all of them zero, with its first mark.
     ///
     /// # Errors
     ///
-    /// `Size` where `words` is out of range, and `Memory` where the allocator refuses the region.
+    /// Returns `Size` if `words` is out of range, and `Memory` if the allocator refuses the region.
     pub fn new(alloc: A, words: usize) -> Result<MarkPool<A>, PoolFault>
         ensures ok { IfOk result (λ p. IsPoolSize words × (p.places ≡ held (replicate words 0))
             × (p.used ≡ 0) × (p.top ≡ record { number = 0; start = 0 }) × (p.older ≡ []) × (p.issued ≡ 1)) }
@@ -107,21 +107,21 @@ impl<A: Allocator> MarkPool<A> {
         })
     }
 
-    /// How many words are used.
+    /// Counts the words that are used.
     pub fn used(&self) -> u64
         ensures { result ≡ self.now.used }
     {
         self.used as u64
     }
 
-    /// How many words are out, in Blocks.
+    /// Counts the words that are out, in Blocks.
     pub fn out(&self) -> u64
         ensures { result ≡ out_count self.now }
     {
         self.out as u64
     }
 
-    /// Whether all Blocks are back. Then those taken since the newest mark are, too.
+    /// Returns whether all Blocks are back. If so, those taken since the newest mark are back, too.
     pub fn is_whole(&self) -> bool
         ensures all { IsTrue result ↔ AreAllBack self.now }
         ensures top { IsTrue result → IsTopBack self.now }
@@ -129,7 +129,7 @@ impl<A: Allocator> MarkPool<A> {
         self.out == 0
     }
 
-    /// Counts the words that are out, in Blocks, from the newest mark on. Where none is, the mark can be released.
+    /// Counts the words that are out, in Blocks, from the newest mark on. If there are none, the mark can be released.
     pub fn out_since_top(&self) -> u64
         ensures count { result ≡ out_since_top self.now }
         ensures none { (result ≡ 0) ↔ IsTopBack self.now }
@@ -137,28 +137,28 @@ impl<A: Allocator> MarkPool<A> {
         (self.out - self.top.out_below) as u64
     }
 
-    /// The newest mark.
+    /// Returns the number of the newest mark.
     pub fn top(&self) -> MarkNo
         ensures { result.0 ≡ self.now.top.number }
     {
         MarkNo(self.top.number)
     }
 
-    /// Whether ten marks stand.
+    /// Returns whether ten marks stand.
     pub fn is_full(&self) -> bool
         ensures { IsTrue result ↔ IsFull self.now }
     {
         self.older.len() == 9
     }
 
-    /// Whether another mark can have a number.
+    /// Returns whether there is a number left for another mark.
     pub fn has_mark_numbers(&self) -> bool
         ensures { IsTrue result ↔ self.now.issued + 1 < 2 ^ 64 }
     {
         self.issued < u64::MAX
     }
 
-    /// Makes a mark at what is used now, under a new number, or gives `None` where ten stand.
+    /// Makes a mark at the words used so far, under a new number, or returns `None` if ten marks stand.
     pub fn mark(&mut self) -> Option<MarkNo>
         requires { self.old.issued + 1 < 2 ^ 64 }
         ensures { MatchOption result (IsFull self.old × (self.new ≡ self.old))
@@ -178,7 +178,7 @@ impl<A: Allocator> MarkPool<A> {
         Some(MarkNo(number))
     }
 
-    /// The next `words` words, at least one, or `None` where fewer are left.
+    /// Takes the next `words` words, at least one, or returns `None` if fewer are left.
     pub fn take(&mut self, words: usize) -> Option<Block>
         requires { 1 ≤ words }
         ensures { MatchOption result ((size_of self.old < self.old.used + words) × (self.new ≡ self.old))
@@ -208,8 +208,8 @@ impl<A: Allocator> MarkPool<A> {
         bring_back_each(self.older.as_mut_slice(), start, len);
     }
 
-    /// Releases the newest mark: what was used since then is used no more, and the mark is dropped.
-    /// The first mark stays, under a new number. The Blocks taken since the mark are back.
+    /// Releases the newest mark, since which all Blocks are back: the words used since then are no longer used, and the
+    /// mark is dropped. The first mark stays, under a new number.
     pub fn release(&mut self)
         requires back { IsTopBack self.old }
         requires numbers { self.old.issued + 1 < 2 ^ 64 }
@@ -228,7 +228,7 @@ impl<A: Allocator> MarkPool<A> {
         }
     }
 
-    /// Frees the region. All Blocks are back.
+    /// Closes the pool and frees its region. All Blocks are back.
     pub fn close(self)
         requires { AreAllBack self }
     {

@@ -1,4 +1,4 @@
-//! Values by number, seen as a finite map.
+//! Maps from numbers to values, which contracts see as finite maps.
 #![tactic(auto)]
 
 mod map;

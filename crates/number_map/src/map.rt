@@ -14,7 +14,7 @@ use std::marker::Model;
 /// The entries of a map, by their indices and by the hashes of their numbers.
 type Entries<V, A> = IndexMap<u64, V, BuildHasherDefault<FoldHasher>, A>;
 
-/// The index of the entry of this number.
+/// Returns the index of the entry of this number, or `None` if there is none.
 #[inline(always)]
 fn index_of<V, A: Allocator>(entries: &Entries<V, A>, number: u64) -> Option<usize>
     ensures found { IfSome result (StandsAt entries.now.entries number) }
@@ -28,7 +28,7 @@ fn index_of<V, A: Allocator>(entries: &Entries<V, A>, number: u64) -> Option<usi
     }
 }
 
-/// This index, if the entry of this number stands there.
+/// Returns this index, if the entry of this number is there.
 #[inline(always)]
 fn index_if_there<V, A: Allocator>(
     entries: &Entries<V, A>,
@@ -43,7 +43,7 @@ fn index_if_there<V, A: Allocator>(
     }
 }
 
-/// The index of the entry of this number, where entries before it may have been removed.
+/// Returns the index of the entry of this number, also if entries before it were removed.
 #[inline(always)]
 fn index_behind_gaps<V, A: Allocator>(entries: &Entries<V, A>, number: u64) -> Option<usize>
     ensures found { IfSome result (StandsAt entries.now.entries number) }
@@ -63,7 +63,7 @@ fn index_behind_gaps<V, A: Allocator>(entries: &Entries<V, A>, number: u64) -> O
     }
 }
 
-/// The index of the entry of this number, by its hash.
+/// Looks the index of the entry of this number up by its hash.
 #[inline(never)]
 fn hashed_index<V, A: Allocator>(entries: &Entries<V, A>, number: u64) -> Option<usize>
     ensures found { IfSome result (StandsAt entries.now.entries number) }
@@ -93,7 +93,7 @@ impl<V, A: Allocator> Model for NumberMap<V, A> {
 }
 
 impl<V, A: Allocator + Copy> NumberMap<V, A> {
-    /// No value yet. It takes no memory.
+    /// Makes a map in which no number has a value. Takes no memory.
     pub fn new(alloc: A) -> NumberMap<V, A>
         ensures values { result.values ≡ map.empty }
         ensures size { result.size ≡ 0 }
@@ -103,11 +103,11 @@ impl<V, A: Allocator + Copy> NumberMap<V, A> {
         }
     }
 
-    /// Makes room for one more number.
+    /// Reserves room for one more number. No value changes.
     ///
     /// # Errors
     ///
-    /// `AllocError` where the allocator refuses the memory.
+    /// Returns `AllocError` if the allocator refuses the memory.
     pub fn reserve(&mut self) -> Result<(), AllocError>
         ensures values { self.new.values ≡ self.old.values }
         ensures size { self.new.size ≡ self.old.size }
@@ -118,7 +118,7 @@ impl<V, A: Allocator + Copy> NumberMap<V, A> {
 }
 
 impl<V, A: Allocator> NumberMap<V, A> {
-    /// Whether this number has a value.
+    /// Returns whether this number has a value.
     #[inline(always)]
     pub fn contains(&self, number: u64) -> bool
         ensures { result ≡ map.contains_key self.now.values number }
@@ -126,7 +126,7 @@ impl<V, A: Allocator> NumberMap<V, A> {
         index_of(&self.entries, number).is_some()
     }
 
-    /// The value of this number, where it has one.
+    /// Returns the value of this number, or `None` if it has none.
     #[inline(always)]
     pub fn get(&self, number: u64) -> Option<&V>
         ensures { option_copied result ≡ map.get self.now.values number }
@@ -138,7 +138,7 @@ impl<V, A: Allocator> NumberMap<V, A> {
         }
     }
 
-    /// The value of this number, to write, where it has one.
+    /// Returns the value of this number for writing, or `None` if it has none.
     #[inline(always)]
     pub fn get_mut(&mut self, number: u64) -> Option<&mut V>
         ensures* writes_back { sem 𝓛 (LendsValue V.row A.row A.Allocator self.entry number result) }
@@ -150,7 +150,7 @@ impl<V, A: Allocator> NumberMap<V, A> {
         }
     }
 
-    /// Gives this number a value, for which there is room. A value that it had is dropped.
+    /// Inserts a value for this number, for which there is room. A value that it had is dropped.
     pub fn put(&mut self, number: u64, value: V)
     where
         V: Drop,
@@ -161,7 +161,7 @@ impl<V, A: Allocator> NumberMap<V, A> {
         let _ = self.entries.insert(number, value);
     }
 
-    /// Gives this number, which has no value yet, one, for which there is room.
+    /// Inserts a value for this number, which has none yet and for which there is room.
     pub fn put_new(&mut self, number: u64, value: V)
         requires room { 0 < self.old.room }
         requires new { map.get self.old.values number ≡ None }
@@ -176,7 +176,7 @@ impl<V, A: Allocator> NumberMap<V, A> {
         }
     }
 
-    /// Takes the value of this number out, where it has one.
+    /// Removes the value of this number and returns it, or returns `None` if it has none.
     pub fn remove(&mut self, number: u64) -> Option<V>
         ensures value { result ≡ map.get self.old.values number }
         ensures values { self.new.values ≡ map.remove self.old.values number }
@@ -186,7 +186,7 @@ impl<V, A: Allocator> NumberMap<V, A> {
         self.entries.swap_remove(&number)
     }
 
-    /// Takes a number with its value out, where one has a value. Which one is left open.
+    /// Removes some number with its value and returns both, or returns `None` if no number has a value.
     pub fn pop(&mut self) -> Option<(u64, V)>
         ensures { MatchOption result ((self.old.values ≡ map.empty) × (self.old.size ≡ 0) × (self.new.values ≡ map.empty) × (self.new.size ≡ 0))
             (λ e. (map.get self.old.values e.0 ≡ Some e.1) × (self.new.values ≡ map.remove self.old.values e.0)

@@ -16,7 +16,7 @@ pub struct Returned {
     pub object: Option<u64>,
 }
 
-/// A pool of blocks of one size, with those that are out, by their addresses. It ends by `close`.
+/// A pool of blocks of one size, with those that are out, by their addresses. It has to be closed by `close`.
 pub struct BlockArea<A: Allocator = Global> {
     pool: BlockPool<A>,
     // In storage units.
@@ -43,7 +43,7 @@ impl<A: Allocator> Model for BlockArea<A> {
 }
 
 impl<A: Allocator + Copy> BlockArea<A> {
-    /// A pool of `count` blocks of `units` storage units each. All are free.
+    /// Opens a pool of `count` blocks of `units` storage units each. All are free.
     pub fn new(alloc: A, units: u64, count: usize) -> Result<BlockArea<A>, AllocError>
         requires { IsAreaSize units count }
         ensures { IfOk result (λ a. a ≡ record { size = units; free = count; out = empty }) }
@@ -59,7 +59,7 @@ impl<A: Allocator + Copy> BlockArea<A> {
         }
     }
 
-    /// A free block goes out under an address.
+    /// Takes a free block out, under this address.
     pub fn allocate(&mut self, address: u64) -> Result<(), AllocError>
         requires free { 0 < self.old.free }
         requires new { get self.old.out address ≡ None }
@@ -84,21 +84,22 @@ impl<A: Allocator + Copy> BlockArea<A> {
 }
 
 impl<A: Allocator> BlockArea<A> {
-    /// Whether a request of so many storage units has to be refused: no block is free, or it is larger than a block.
+    /// Returns whether a request of `units` storage units has to be refused: no block is free, or it is larger than a
+    /// block.
     pub fn is_exhausted(&self, units: u64) -> bool
         ensures { result ≡ is_exhausted units self.now }
     {
         self.pool.free() == 0 || self.size < units
     }
 
-    /// Whether a block has so many storage units.
+    /// Returns whether a block has at least `units` storage units.
     pub fn has(&self, units: u64) -> bool
         ensures { result ≡ nat_le units self.now.size }
     {
         units <= self.size
     }
 
-    /// Whether a block is out under this address that holds no object.
+    /// Returns whether a block that holds no object is out under this address.
     pub fn is_vacant(&self, address: u64) -> bool
         ensures { result ≡ is_vacant address self.now }
     {
@@ -108,7 +109,7 @@ impl<A: Allocator> BlockArea<A> {
         }
     }
 
-    /// A block comes back.
+    /// Gives the block with this address back.
     pub fn deallocate(&mut self, address: u64)
         requires { is_vacant address self.old ≡ true }
         ensures { self.new ≡ with_block_back address self.old }
@@ -119,7 +120,7 @@ impl<A: Allocator> BlockArea<A> {
         }
     }
 
-    /// Puts an object of so many words, all of them 0, into a block that is out and holds none.
+    /// Adds an object of `words` words, all of them 0, in a block that is out and holds none.
     pub fn occupy(&mut self, address: u64, object: u64, words: usize)
         requires vacant { is_vacant address self.old ≡ true }
         requires fits { words * 8 ≤ self.old.size }
@@ -131,7 +132,7 @@ impl<A: Allocator> BlockArea<A> {
         }
     }
 
-    /// The object is there no longer. Its block stays out.
+    /// Removes the object. Its block stays out.
     pub fn vacate(&mut self, address: u64)
         ensures { self.new ≡ with_no_holder address self.old }
     {
@@ -141,7 +142,7 @@ impl<A: Allocator> BlockArea<A> {
         lot.vacate();
     }
 
-    /// How many words the object has that is held under this address.
+    /// Counts the words of the object that is held under this address.
     pub fn len(&self, address: u64) -> usize
         ensures { result ≡ length (words_at address self.now) }
     {
@@ -151,7 +152,7 @@ impl<A: Allocator> BlockArea<A> {
         }
     }
 
-    /// A word of the object that is held under this address.
+    /// Returns a word of the object that is held under this address.
     pub fn word(&self, address: u64, place: usize) -> u64
         requires { place < length (words_at address self.now) }
         ensures { result ≡ slice_index_or (words_at address self.now) place 0 }
@@ -173,7 +174,8 @@ impl<A: Allocator> BlockArea<A> {
         lot.set_word(place, value);
     }
 
-    /// Writes `count` words of the object from the place `from` on over those from `to` on, as they were before.
+    /// Copies `count` words of the object from the place `from` on over those from `to` on, as they were before the
+    /// call.
     pub fn copy_within(&mut self, address: u64, from: usize, to: usize, count: usize)
         requires from { from + count ≤ length (words_at address self.old) }
         requires to { to + count ≤ length (words_at address self.old) }
@@ -185,7 +187,7 @@ impl<A: Allocator> BlockArea<A> {
         lot.copy_within(from, to, count);
     }
 
-    /// Gives a block that is out back, whatever it holds. Which one is left open.
+    /// Gives some block that is out back, whatever it holds.
     pub fn give_back(&mut self) -> Option<Returned>
         ensures { MatchOption result (self.old.out ≡ empty)
             (λ r. IsOut r.address self.old × (r.object ≡ object_at r.address self.old) × (self.new ≡ with_block_back r.address self.old)) }
@@ -198,7 +200,7 @@ impl<A: Allocator> BlockArea<A> {
         Some(Returned { address, object })
     }
 
-    /// Frees the pool, with all that is held in it.
+    /// Closes the pool and frees it, with all that is held in it.
     pub fn close(self) {
         let BlockArea {
             pool,

@@ -18,7 +18,7 @@ pub struct Lot {
 }
 
 impl Lot {
-    /// Puts an object into the block, all of its words 0.
+    /// Adds an object in the block, all of its words 0.
     pub(crate) fn hold(&mut self, object: u64, words: usize)
         requires { words ≤ length self.old.block.words }
         ensures block { IsSameBlock self.old self.new }
@@ -29,14 +29,14 @@ impl Lot {
         self.occupant = Some(Occupant { object, len: words });
     }
 
-    /// Whether it holds no object.
+    /// Returns whether it holds no object.
     pub(crate) fn is_vacant(&self) -> bool
         ensures { result ≡ is_none (held_in self.now) }
     {
         self.occupant.is_none()
     }
 
-    /// The object that it holds.
+    /// Returns the object that it holds, or `None` if it holds none.
     pub(crate) fn object(&self) -> Option<u64>
         ensures { result ≡ option_map (λ x. x.object) (held_in self.now) }
     {
@@ -46,7 +46,7 @@ impl Lot {
         }
     }
 
-    /// The block alone.
+    /// Returns the block alone.
     pub(crate) fn into_block(self) -> Block
         ensures { result ≡ self.block }
     {
@@ -54,7 +54,7 @@ impl Lot {
         block
     }
 
-    /// The object is there no longer.
+    /// Removes the object.
     pub(crate) fn vacate(&mut self)
         ensures block { IsSameBlock self.old self.new }
         ensures held { held_in self.new ≡ None }
@@ -63,7 +63,7 @@ impl Lot {
         self.occupant = None;
     }
 
-    /// How many words the object has, none where there is no object.
+    /// Counts the words of the object, none if there is no object.
     pub(crate) fn len(&self) -> usize
         requires { IsFilled self.now }
         ensures { result ≡ length (words_in self.now) }
@@ -74,7 +74,7 @@ impl Lot {
         }
     }
 
-    /// A word of the object.
+    /// Returns a word of the object.
     pub(crate) fn word(&self, place: usize) -> u64
         requires filled { IsFilled self.now }
         requires place { place < length (words_in self.now) }
@@ -94,7 +94,8 @@ impl Lot {
         self.block.words_mut()[place] = value;
     }
 
-    /// Writes `count` words of the object from the place `from` on over those from `to` on, as they were before.
+    /// Copies `count` words of the object from the place `from` on over those from `to` on, as they were before the
+    /// call.
     pub(crate) fn copy_within(&mut self, from: usize, to: usize, count: usize)
         requires filled { IsFilled self.old }
         requires from { from + count ≤ length (words_in self.old) }

@@ -11,7 +11,7 @@ use mark_pool::MarkPool;
 use std::alloc::{AllocError, Allocator, Global};
 use std::marker::Model;
 
-/// A pool with marks, and its subpools with their blocks. It ends by `close`.
+/// A pool with marks, and its subpools with their blocks. It has to be closed by `close`.
 ///
 /// At most ten subpools stand in it, one from the start. Blocks are taken in the last one alone.
 pub struct MarkArea<A: Allocator = Global> {
@@ -43,11 +43,11 @@ impl<A: Allocator> Model for MarkArea<A> {
 }
 
 impl<A: Allocator + Copy> MarkArea<A> {
-    /// A pool of `units` storage units, from 8 to 16,777,216, with its first subpool, which gets this number.
+    /// Opens a pool of `units` storage units, from 8 to 16,777,216, with its first subpool, which gets this number.
     ///
     /// # Errors
     ///
-    /// `AllocError` where the allocator refuses the memory.
+    /// Returns `AllocError` if the allocator refuses the memory.
     pub fn new(alloc: A, units: u64, number: u64) -> Result<MarkArea<A>, AllocError>
         requires size { IsMarkSize units }
         requires positive { 0 < number }
@@ -76,7 +76,7 @@ impl<A: Allocator + Copy> MarkArea<A> {
         }
     }
 
-    /// A further subpool, which is the last and gets this number. It takes no memory.
+    /// Adds a subpool, as the last one, which gets this number. Takes no memory.
     pub fn create(&mut self, alloc: A, number: u64)
         requires few { length self.old.subpools < 10 }
         requires new { self.old.given < number }
@@ -96,14 +96,15 @@ impl<A: Allocator + Copy> MarkArea<A> {
 }
 
 impl<A: Allocator> MarkArea<A> {
-    /// Whether a request of so many storage units has to be refused: the words used and these are more than there are.
+    /// Returns whether a request of `units` storage units has to be refused: the words used and these are more than
+    /// there are.
     pub fn is_overfull(&self, units: u64) -> bool
         ensures { result ≡ is_overfull units self.now }
     {
         self.size - self.pool.used() * 8 < units
     }
 
-    /// How many subpools stand.
+    /// Counts the subpools that stand.
     pub fn len(&self) -> usize
         ensures few { result ≤ 10 }
         ensures value { result ≡ length self.now.subpools }
@@ -111,7 +112,7 @@ impl<A: Allocator> MarkArea<A> {
         self.subpools.len()
     }
 
-    /// The number of the subpool at this place, counted from the first.
+    /// Returns the number of the subpool at this place, from 0 for the first.
     pub fn number_at(&self, place: usize) -> Option<u64>
         ensures { result ≡ option_map (λ x. x.number) (slice_get self.now.subpools place) }
     {
@@ -121,14 +122,14 @@ impl<A: Allocator> MarkArea<A> {
         }
     }
 
-    /// The number that was given to a subpool last.
+    /// Returns the number that was given to a subpool last.
     pub fn given(&self) -> u64
         ensures { result ≡ self.now.given }
     {
         self.given
     }
 
-    /// The number of the last subpool. One stands at all times.
+    /// Returns the number of the last subpool. One stands at all times.
     pub fn last_number(&self) -> Option<u64>
         ensures some { IsSome result }
         ensures value { result ≡ option_map (λ x. x.number) (last_of self.now.subpools) }
@@ -139,7 +140,7 @@ impl<A: Allocator> MarkArea<A> {
         }
     }
 
-    /// Whether the last subpool, and no other, has this number.
+    /// Returns whether the last subpool, and no other, has this number.
     pub fn is_last(&self, number: u64) -> bool
         ensures { result ≡ is_last number self.now.subpools }
     {
@@ -150,7 +151,7 @@ impl<A: Allocator> MarkArea<A> {
         }
     }
 
-    /// Whether the subpool of this number belongs to the pool, where there is one.
+    /// Returns whether the subpool of this number belongs to the pool, or `None` if there is none.
     pub fn standing(&self, number: u64) -> Option<Standing>
         ensures { result ≡ standing_of number self.now }
     {
@@ -160,7 +161,7 @@ impl<A: Allocator> MarkArea<A> {
         }
     }
 
-    /// Says whether the subpool of this number belongs to the pool from now on.
+    /// Sets whether the subpool of this number belongs to the pool.
     pub fn set_standing(&mut self, number: u64, standing: Standing)
         ensures { self.new ≡ with_standing number standing self.old }
     {
@@ -169,12 +170,12 @@ impl<A: Allocator> MarkArea<A> {
         }
     }
 
-    /// Takes a block of `words` words, at least one, in the last subpool, which has this number, and puts a new object
-    /// into it, all of its words 0. It answers how many blocks the subpool had before.
+    /// Takes a block of `words` words, at least one, in the last subpool, which has this number, and adds an object in
+    /// it, all of its words 0. Returns how many blocks the subpool had before.
     ///
     /// # Errors
     ///
-    /// `AllocError` where the allocator refuses the memory. Nothing changes then.
+    /// Returns `AllocError` if the allocator refuses the memory. Nothing changes then.
     pub fn allocate(&mut self, number: u64, object: u64, words: usize) -> Result<usize, AllocError>
         requires last { is_last number self.old.subpools ≡ true }
         requires some { 1 ≤ words }
@@ -198,7 +199,7 @@ impl<A: Allocator> MarkArea<A> {
         }
     }
 
-    /// How many blocks the subpool of this number has.
+    /// Counts the blocks of the subpool of this number.
     pub fn count(&self, number: u64) -> usize
         ensures { result ≡ count_of number self.now }
     {
@@ -208,7 +209,7 @@ impl<A: Allocator> MarkArea<A> {
         }
     }
 
-    /// The object in a block of the subpool of this number.
+    /// Returns the object in a block of the subpool of this number.
     pub fn object(&self, number: u64, index: usize) -> Option<u64>
         ensures { result ≡ object_of number index self.now }
     {
@@ -218,14 +219,14 @@ impl<A: Allocator> MarkArea<A> {
         }
     }
 
-    /// The object is there no longer. Its words stay used.
+    /// Removes the object in a block. Its words stay used.
     pub fn vacate(&mut self, number: u64, index: usize)
         ensures { self.new ≡ with_block number index (λ h. None) self.old }
     {
         vacate_at(&mut self.subpools, number, index);
     }
 
-    /// No object of the subpool of this number is there any longer. Their words stay used.
+    /// Removes all objects of the subpool of this number. Their words stay used.
     pub fn vacate_all(&mut self, number: u64)
         ensures { self.new ≡ with_no_objects number self.old }
     {
@@ -234,7 +235,7 @@ impl<A: Allocator> MarkArea<A> {
         }
     }
 
-    /// How many words the object has that is in this block.
+    /// Counts the words of the object in this block.
     pub fn block_len(&self, number: u64, index: usize) -> usize
         ensures { result ≡ length (block_words number index self.now) }
     {
@@ -244,7 +245,7 @@ impl<A: Allocator> MarkArea<A> {
         }
     }
 
-    /// A word of the object that is in this block.
+    /// Returns a word of the object in this block.
     pub fn word(&self, number: u64, index: usize, place: usize) -> u64
         requires { place < length (block_words number index self.now) }
         ensures { result ≡ slice_index_or (block_words number index self.now) place 0 }
@@ -255,7 +256,7 @@ impl<A: Allocator> MarkArea<A> {
         }
     }
 
-    /// Writes a word of the object that is in this block.
+    /// Writes a word of the object in this block.
     pub fn set_word(&mut self, number: u64, index: usize, place: usize, value: u64)
         requires { place < length (block_words number index self.old) }
         ensures { self.new ≡ with_block number index (λ h. option_map (with_word place value) h) self.old }
@@ -263,8 +264,8 @@ impl<A: Allocator> MarkArea<A> {
         set_word_at(&mut self.subpools, number, index, place, value);
     }
 
-    /// Writes `count` words of the object that is in this block, from the place `from` on, over those from `to` on, as
-    /// they were before.
+    /// Copies `count` words of the object in this block, from the place `from` on, over those from `to` on, as they
+    /// were before the call.
     pub fn copy_within(&mut self, number: u64, index: usize, from: usize, to: usize, count: usize)
         requires from { from + count ≤ length (block_words number index self.old) }
         requires to { to + count ≤ length (block_words number index self.old) }
@@ -274,7 +275,7 @@ impl<A: Allocator> MarkArea<A> {
         copy_within_at(&mut self.subpools, number, index, from, to, count);
     }
 
-    /// Whether the last subpool is released.
+    /// Returns whether the last subpool is released.
     pub fn is_last_dead(&self) -> bool
         ensures { result ≡ is_last_dead self.now }
     {
@@ -285,7 +286,7 @@ impl<A: Allocator> MarkArea<A> {
     }
 
     /// Drops the last subpool with its words, and with the objects in them. The first one comes back, without blocks,
-    /// under this number. It takes no memory.
+    /// under this number. Takes no memory.
     pub fn drop_last(&mut self, number: u64)
         requires new { self.old.given < number }
         ensures { self.new ≡ without_last number self.old }
@@ -303,9 +304,10 @@ impl<A: Allocator> MarkArea<A> {
         }
     }
 
-    /// Releases the subpool of this number (RM 13.11.5): its objects are there no longer, and it is dead from now on.
-    /// Where it is the last it is dropped, with the dead ones before it, and with their words; the first one comes back,
-    /// without blocks, under the number `next`. It answers whether it was the last. It takes no memory.
+    /// Releases the subpool of this number (RM 13.11.5), and returns whether it was the last. Takes no memory.
+    ///
+    /// Its objects are gone, and it is dead. If it was the last, it is dropped, with the dead ones before it and with
+    /// their words; the first one comes back, without blocks, under the number `next`.
     pub fn release(&mut self, number: u64, next: u64) -> bool
         requires new { self.old.given < next }
         ensures last { result ≡ is_last number self.old.subpools }
@@ -327,7 +329,7 @@ impl<A: Allocator> MarkArea<A> {
         }
     }
 
-    /// Frees the pool, with all that is held in it.
+    /// Closes the pool and frees it, with all that is held in it.
     pub fn close(self) {
         let MarkArea {
             pool,

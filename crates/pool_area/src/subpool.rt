@@ -8,7 +8,7 @@ use crate::lot::Lot;
 use mark_pool::MarkPool;
 use std::alloc::{Allocator, Global};
 
-/// Whether a subpool belongs to its pool (RM 13.11.5).
+/// The standing of a subpool: whether it belongs to its pool (RM 13.11.5).
 #[derive(Clone, Copy, Debug, PartialEq, Eq)]
 pub enum Standing {
     /// it belongs to its pool
@@ -28,7 +28,7 @@ pub struct Subpool<A: Allocator = Global> {
     pub(crate) lots: Vec<Lot, A>,
 }
 
-/// The place of the first subpool of this number.
+/// Returns the place of the first subpool of this number, or `None` if there is none.
 pub(crate) fn place_of<A: Allocator>(subpools: &[Subpool<A>], number: u64) -> Option<usize>
     ensures { MatchOption result (NoneHas number subpools.now) (λ i. IsFirst number i subpools.now) }
 {
@@ -40,7 +40,7 @@ pub(crate) fn place_of<A: Allocator>(subpools: &[Subpool<A>], number: u64) -> Op
     None
 }
 
-/// A block of the subpool of this number, where it has one there.
+/// Returns a block of the subpool of this number, or `None` if it has none there.
 pub(crate) fn lot_at<A: Allocator>(
     subpools: &[Subpool<A>],
     number: u64,
@@ -63,7 +63,7 @@ fn lot_in(lots: &[Lot], index: usize) -> Option<&Lot>
     }
 }
 
-/// The object in a block is there no longer.
+/// Removes the object in a block.
 pub(crate) fn vacate_at<A: Allocator>(subpools: &mut Vec<Subpool<A>, A>, number: u64, index: usize)
     ensures edited { IsEdited number index (λ h. None) subpools.old.items subpools.new.items }
     ensures room { vec_capacity subpools.new ≡ vec_capacity subpools.old }
@@ -99,7 +99,8 @@ pub(crate) fn set_word_at<A: Allocator>(
     }
 }
 
-/// Writes `count` words of the object in a block from the place `from` on over those from `to` on, as they were before.
+/// Copies `count` words of the object in a block from the place `from` on over those from `to` on, as they were before
+/// the call.
 pub(crate) fn copy_within_at<A: Allocator>(
     subpools: &mut Vec<Subpool<A>, A>,
     number: u64,
@@ -159,7 +160,7 @@ pub(crate) fn bring_back<A: Allocator>(pool: &mut MarkPool<A>, subpool: &mut Sub
     }
 }
 
-/// A subpool without blocks ends.
+/// Drops a subpool without blocks.
 pub(crate) fn discard<A: Allocator>(subpool: Subpool<A>)
     requires { subpool.lots.items ≡ [] }
 {

@@ -1,7 +1,7 @@
 -- That what is not used stays in the region.
-use Rattle.std.proofs.Common.{◌≡◌, ℕ, ◌+◌, ◌-◌, ◌<◌, ◌≤◌, List, length, replicate, sym, ap, subst, ◌∙◌, arith, IsSome}
+use Rattle.std.proofs.Common.{◌≡◌, ℕ, ◌+◌, ◌<◌, ◌≤◌, List, length, replicate, sym, ap, subst, ◌∙◌, arith, IsSome}
 use lib.ListN.{length-replicate}
-use mathlib.Core.Logic.{◌⊎◌, inl, inr, ⊎_elim}
+use mathlib.Core.Logic.{inr, ⊎_elim}
 use Rattle.raw_region.specs.Places.{Region, Places, place, held, with_run}
 use Rattle.raw_region.proofs.PlaceLemmas.{order, length-held, held_some, held_after, length-with_run, with_run-outside}
 use Rattle.pool_of_ones_own.specs.Stack.{Keeps}

@@ -11,7 +11,7 @@ use stack::StackPool;
 use std::alloc::{Alloc, Global};
 use std::io;
 
-/// How many blocks are free with one of two blocks out, and the word that was read back from it.
+/// Counts the free blocks with one of two blocks out, and returns the word that was read back from it, too.
 fn use_blocks(alloc: Global) -> Result<(u64, u64), PoolFault> {
     let mut pool = BlockPool::new(alloc, 4, 2)?;
     let mut block = pool.take(3).unwrap();
@@ -23,7 +23,7 @@ fn use_blocks(alloc: Global) -> Result<(u64, u64), PoolFault> {
     Ok((free, word))
 }
 
-/// How many words are used behind a mark, and once it is released.
+/// Counts the words that are used after a mark, and after it is released.
 fn use_marks(alloc: Global) -> Result<(u64, u64), PoolFault> {
     let mut pool = MarkPool::new(alloc, 4)?;
     let three = pool.take(3).unwrap();
@@ -39,7 +39,7 @@ fn use_marks(alloc: Global) -> Result<(u64, u64), PoolFault> {
     Ok((behind, released))
 }
 
-/// How many words of a stack are used with two Blocks out, and with one.
+/// Counts the words of a stack that are used with two Blocks out, and with one.
 fn use_stack(alloc: Global) -> Result<(usize, usize), PoolFault> {
     let mut pool = StackPool::new(alloc, 4)?;
     let three = pool.take(3).unwrap();
@@ -52,7 +52,7 @@ fn use_stack(alloc: Global) -> Result<(usize, usize), PoolFault> {
     Ok((both, below))
 }
 
-/// How many blocks lie on a shelf for two, once three were asked for.
+/// Counts the blocks on a shelf for two, after three were asked for.
 fn use_shelf(alloc: Global) -> Result<usize, PoolFault> {
     let mut shelf = Shelf::new(alloc, 4, 2)?;
     for _ in 0..3 {

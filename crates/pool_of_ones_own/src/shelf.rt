@@ -6,7 +6,7 @@ use raw_region::Block;
 use std::alloc::{AllocError, Allocator, Global};
 use std::marker::Model;
 
-/// A pool of blocks, and those of its blocks that are out. It ends by `close`.
+/// A pool of blocks, and those of its blocks that are out. It has to be closed by `close`.
 pub struct Shelf<A: Allocator = Global> {
     pool: BlockPool<A>,
     blocks: Vec<Block, A>,
@@ -26,11 +26,11 @@ impl<A: Allocator> Model for Shelf<A> {
 }
 
 impl<A: Allocator + Copy> Shelf<A> {
-    /// A shelf for up to `count` blocks of `block_words` words each, on which none lies yet.
+    /// Opens a shelf for up to `count` blocks of `block_words` words each, with no block on it.
     ///
     /// # Errors
     ///
-    /// `Size` where one of the two is out of range, and `Memory` where the allocator refuses the region.
+    /// Returns `Size` if one of the two is out of range, and `Memory` if the allocator refuses the region.
     pub fn new(alloc: A, block_words: usize, count: usize) -> Result<Shelf<A>, PoolFault>
         ensures { IfOk result (λ s. s ≡ record { free = count; taken = 0 }) }
     {
@@ -42,11 +42,11 @@ impl<A: Allocator + Copy> Shelf<A> {
 }
 
 impl<A: Allocator> Shelf<A> {
-    /// Puts a further block onto the shelf, where one is free; whether one was.
+    /// Puts a further block onto the shelf, if one is free, and returns whether one was.
     ///
     /// # Errors
     ///
-    /// `AllocError` where the allocator refuses room for it. Nothing changes then.
+    /// Returns `AllocError` if the allocator refuses room for it. Nothing changes then.
     pub fn add(&mut self) -> Result<bool, AllocError>
         ensures added { IfOk result (λ added. OnTrue added ((self.old.free ≡ self.new.free + 1) × (self.new.taken ≡ self.old.taken + 1))) }
         ensures full { IfOk result (λ added. OnFalse added ((self.old.free ≡ 0) × (self.new ≡ self.old))) }
@@ -63,14 +63,14 @@ impl<A: Allocator> Shelf<A> {
         }
     }
 
-    /// How many blocks lie on the shelf.
+    /// Counts the blocks on the shelf.
     pub fn taken(&self) -> usize
         ensures { result ≡ self.now.taken }
     {
         self.blocks.len()
     }
 
-    /// Gives all blocks back, and frees the pool.
+    /// Gives all blocks back, and closes the pool.
     pub fn close(self) {
         let Shelf { pool, blocks } = self;
         let (mut pool, mut blocks) = (pool, blocks);

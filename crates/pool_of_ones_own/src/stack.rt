@@ -5,7 +5,7 @@ use raw_region::{Block, RawRegion};
 use std::alloc::{AllocError, Allocator, Global};
 use std::marker::Model;
 
-/// Words that are given out one after the other, and come back in the reverse order. It ends by `close`.
+/// A pool whose words are taken one after the other, and come back in reverse order. It has to be closed by `close`.
 pub struct StackPool<A: Allocator = Global> {
     region: RawRegion<A>,
     size: usize,
@@ -25,7 +25,7 @@ impl<A: Allocator> Model for StackPool<A> {
 }
 
 impl<A: Allocator> StackPool<A> {
-    /// A pool of `words` words, from 1 to 33,554,432, none of them used.
+    /// Opens a pool of `words` words, from 1 to 33,554,432, none of them used.
     pub fn new(alloc: A, words: usize) -> Result<StackPool<A>, AllocError>
         requires { (1 ≤ words) × (words ≤ 33554432) }
         ensures { IfOk result (λ p. (p.size ≡ words) × (p.used ≡ 0)) }
@@ -37,7 +37,7 @@ impl<A: Allocator> StackPool<A> {
         })
     }
 
-    /// The next `words` words, at least one, or `None` where fewer are left.
+    /// Takes the next `words` words, at least one, or returns `None` if fewer are left.
     pub fn take(&mut self, words: usize) -> Option<Block>
         requires { 1 ≤ words }
         ensures { MatchOption result ((self.old.size < self.old.used + words) × (self.new ≡ self.old))
@@ -52,24 +52,23 @@ impl<A: Allocator> StackPool<A> {
         Some(self.region.cut(start, words))
     }
 
-    /// Takes the Block back that was taken last of those that are out.
+    /// Gives the Block back that was taken last of those that are out.
     pub fn give(&mut self, block: Block)
         requires { IsTop self.old block }
         ensures { self.new ≡ with_used self.old block.start }
     {
-        let start = block.start();
+        self.used = block.start();
         self.region.home(block);
-        self.used = start;
     }
 
-    /// How many words are used.
+    /// Counts the words that are used.
     pub fn used(&self) -> usize
         ensures { result ≡ self.now.used }
     {
         self.used
     }
 
-    /// Frees the region. All Blocks are back.
+    /// Closes the pool and frees its region. All Blocks are back.
     pub fn close(self)
         requires { self.used ≡ 0 }
     {

@@ -18,7 +18,8 @@ use std::marker::Model;
 #[derive(Clone, Copy, Debug, PartialEq, Eq)]
 pub struct Address(pub u64);
 
-/// The objects of the standard pool and of pools of blocks, by their numbers, and these pools. It ends by `close`.
+/// The objects of the standard pool and of pools of blocks, by their numbers, and these pools. It has to be closed by
+/// `close`.
 ///
 /// Contracts see it as a store without pools with marks.
 pub struct BlockStore<A: Allocator = Global> {
@@ -53,7 +54,7 @@ impl<A: Allocator> Model for BlockStore<A> {
 }
 
 impl<A: Allocator + Copy> BlockStore<A> {
-    /// No object and no pool yet. It takes no memory.
+    /// Makes a store with no object and no pool. Takes no memory.
     pub fn new(alloc: A) -> BlockStore<A>
         ensures { result ≡ no_store }
     {
@@ -65,11 +66,11 @@ impl<A: Allocator + Copy> BlockStore<A> {
         }
     }
 
-    /// A new object of the standard pool, of so many words, all of them 0.
+    /// Adds an object of `words` words, all of them 0, to the standard pool.
     ///
     /// # Errors
     ///
-    /// `Memory` where the allocator refuses the memory. Nothing changes then.
+    /// Returns `Memory` if the allocator refuses the memory. Nothing changes then.
     pub fn standard(&mut self, object: u64, words: usize) -> Result<(), StoreFault>
         requires { get self.old.objects object ≡ None }
         ensures ok { OnOk result (self.new ≡ with_object object words self.old) }
@@ -86,7 +87,7 @@ impl<A: Allocator + Copy> BlockStore<A> {
     ///
     /// # Errors
     ///
-    /// `Memory` where the allocator refuses the memory. Nothing changes then.
+    /// Returns `Memory` if the allocator refuses the memory. Nothing changes then.
     pub fn open_block(&mut self, pool: u64, units: u64, count: usize) -> Result<(), StoreFault>
         requires size { IsPoolSize units count }
         requires new { get self.old.blocks pool ≡ None }
@@ -100,11 +101,12 @@ impl<A: Allocator + Copy> BlockStore<A> {
         Ok(())
     }
 
-    /// A free block of a pool goes out, for a request of so many storage units, under an address that no block had before.
+    /// Takes a free block of a pool for a request of `units` storage units, and returns its address, which no block had
+    /// before.
     ///
     /// # Errors
     ///
-    /// `Exhausted` where no block is free or the request is larger than a block, then `Memory` where the allocator
+    /// Returns `Exhausted` if no block is free or the request is larger than a block, else `Memory` if the allocator
     /// refuses the memory. Nothing changes then.
     pub fn allocate(&mut self, pool: u64, units: u64) -> Result<Address, StoreFault>
         requires open { IsBlockPool pool self.old }
@@ -125,12 +127,12 @@ impl<A: Allocator + Copy> BlockStore<A> {
         Ok(Address(address))
     }
 
-    /// Puts a new object into a block that is out and holds none, under this address: as many words as lie in so many
-    /// storage units, all of them 0.
+    /// Adds an object, in the block with this address, which is out and holds none: as many words as `units` storage
+    /// units hold, all of them 0.
     ///
     /// # Errors
     ///
-    /// `BadAddress` where no such block is out or it is smaller than that, then `Memory` where the allocator refuses
+    /// Returns `BadAddress` if no such block is out or it is smaller than that, else `Memory` if the allocator refuses
     /// the memory. Nothing changes then.
     pub fn occupy(
         &mut self,
@@ -160,11 +162,12 @@ impl<A: Allocator + Copy> BlockStore<A> {
 }
 
 impl<A: Allocator> BlockStore<A> {
-    /// A block of a pool comes back.
+    /// Gives a block of a pool back.
     ///
     /// # Errors
     ///
-    /// `BadAddress` where no block of the pool is out under this address, or it holds an object. Nothing changes then.
+    /// Returns `BadAddress` if no block of the pool is out under this address, or it holds an object. Nothing changes
+    /// then.
     pub fn deallocate(&mut self, pool: u64, address: Address) -> Result<(), StoreFault>
         ensures result { result ≡ (if is_vacant_in pool address.0 self.old then Ok tt else Err StoreFault.BadAddress) }
         ensures store { self.new ≡ (if is_vacant_in pool address.0 self.old then give_block pool address.0 self.old else self.old) }
@@ -180,12 +183,12 @@ impl<A: Allocator> BlockStore<A> {
         Ok(())
     }
 
-    /// The object is held no more. It answers the address of its block, which an object of the standard pool has not.
-    /// The block stays out.
+    /// Removes an object and returns the address of its block, `None` for an object of the standard pool. The block
+    /// stays out.
     ///
     /// # Errors
     ///
-    /// `Gone` where no such object is held.
+    /// Returns `Gone` if no such object is held.
     pub fn vacate(&mut self, object: u64) -> Result<Option<Address>, StoreFault>
         ensures result { result ≡ vacated object self.old }
         ensures store { self.new ≡ without_object object self.old }
@@ -203,7 +206,8 @@ impl<A: Allocator> BlockStore<A> {
         }
     }
 
-    /// Writes `count` words of an object from the place `word` on over those from `target` on, as they were before.
+    /// Copies `count` words of an object from the place `word` on over those from `target` on, as they were before the
+    /// call.
     pub fn copy_within(&mut self, object: u64, word: usize, target: usize, count: usize)
         requires some { 0 < count }
         requires from { word + count ≤ length (words_of object self.old) }
@@ -220,7 +224,7 @@ impl<A: Allocator> BlockStore<A> {
         entry.copy_within(word, target, count);
     }
 
-    /// No object of it lies in a subpool. The call says so, and does nothing.
+    /// Shows that none of its objects is in a subpool. Does nothing when it runs.
     pub fn lies_outside_subpools(&self)
         ensures { AreOutside self.now }
     {
@@ -228,14 +232,14 @@ impl<A: Allocator> BlockStore<A> {
         let _given = self.given;
     }
 
-    /// Whether an object of this number is held.
+    /// Returns whether an object of this number is held.
     pub fn is_held(&self, object: u64) -> bool
         ensures { result ≡ is_some (get self.now.objects object) }
     {
         self.objects.contains(object)
     }
 
-    /// How many words an object has, none where it is gone.
+    /// Counts the words of an object, none if it is gone.
     pub fn len_of(&self, object: u64) -> usize
         ensures { result ≡ length (words_of object self.now) }
     {
@@ -246,7 +250,7 @@ impl<A: Allocator> BlockStore<A> {
         }
     }
 
-    /// A word of an object, where one of this number lies in the standard pool.
+    /// Returns a word of an object, or `None` if no object of this number is in the standard pool.
     #[inline(always)]
     pub fn standard_word(&self, object: u64, place: usize) -> Option<u64>
         requires { IsWithin object place 1 self.now }
@@ -258,7 +262,7 @@ impl<A: Allocator> BlockStore<A> {
         }
     }
 
-    /// Writes a word of an object, where one of this number lies in the standard pool; whether one does.
+    /// Writes a word of an object, if one of this number is in the standard pool, and returns whether one is.
     #[inline(always)]
     pub fn set_standard_word(&mut self, object: u64, place: usize, value: u64) -> bool
         requires { IsWithin object place 1 self.old }
@@ -276,7 +280,7 @@ impl<A: Allocator> BlockStore<A> {
         true
     }
 
-    /// A word of an object.
+    /// Returns a word of an object.
     pub fn word(&self, object: u64, place: usize) -> u64
         requires { place < length (words_of object self.now) }
         ensures { result ≡ slice_index_or (words_of object self.now) place 0 }
@@ -303,7 +307,7 @@ impl<A: Allocator> BlockStore<A> {
         entry.set_word(place, value);
     }
 
-    // Where the object lies, unless in the standard pool.
+    // Returns the block of the object, or `None` if it is in the standard pool.
     fn spot_of(&self, object: u64) -> Option<Spot>
         ensures { result ≡ spot_of object self.now }
     {
@@ -313,15 +317,15 @@ impl<A: Allocator> BlockStore<A> {
         }
     }
 
-    /// Whether the pool is open.
+    /// Returns whether the pool is open.
     pub fn is_open(&self, pool: u64) -> bool
         ensures { result ≡ is_some (get self.now.blocks pool) }
     {
         self.blocks.contains(pool)
     }
 
-    /// Closes a pool and frees it, where it is open: the objects in it are gone, and its addresses are out no more. It
-    /// takes no memory.
+    /// Closes a pool and frees it, if it is open: the objects in it are gone, and its addresses are no longer out.
+    /// Takes no memory.
     pub fn close_pool(&mut self, pool: u64)
         ensures { self.new ≡ without_pool pool self.old }
     {
@@ -331,7 +335,7 @@ impl<A: Allocator> BlockStore<A> {
         }
     }
 
-    /// Frees all memory.
+    /// Closes the store and frees all its memory.
     pub fn close(self) {
         let BlockStore {
             alloc: _alloc,
@@ -346,7 +350,7 @@ impl<A: Allocator> BlockStore<A> {
         blocks.destroy_empty();
     }
 
-    /// Whether another address can be given.
+    /// Returns whether there is an address left to give.
     pub fn has_addresses(&self) -> bool
         ensures { IsTrue result ↔ self.now.given < 2 ^ 64 - 1 }
     {
@@ -371,7 +375,7 @@ impl<A: Allocator> BlockStore<A> {
         }
     }
 
-    // Whether the block at this address holds no object and has so many storage units.
+    // Returns whether the block at this address holds no object and has at least `units` storage units.
     fn is_fit(&self, pool: u64, address: u64, units: u64) -> bool
         ensures { result ≡ is_fit_in pool address units self.now }
     {

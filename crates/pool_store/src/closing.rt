@@ -22,7 +22,7 @@ pub fn close_area<A: Allocator>(objects: &mut NumberMap<Entry<A>, A>, pool: u64,
     area.close();
 }
 
-// The object of a block is held no more, where it lies in this pool.
+// Removes the object of a block, if it is in this pool.
 fn forget<A: Allocator>(objects: &mut NumberMap<Entry<A>, A>, pool: u64, object: Option<u64>)
     ensures { objects.new.values ≡ forgotten pool object objects.old.values }
 {

@@ -4,7 +4,7 @@ ghost use Rattle.pool_area.specs.Lots.{overwritten, run_of};
 use crate::object::Object;
 use std::alloc::{Allocator, Global};
 
-/// Where an object lies in a block: the pool, by its number, and the block's address.
+/// The place of an object in a block: the pool, by its number, and the block's address.
 #[derive(Clone, Copy, Debug, PartialEq, Eq)]
 pub struct Spot {
     pub pool: u64,
@@ -23,7 +23,7 @@ pub enum Entry<A: Allocator = Global> {
 impl<A: Allocator> Entry<A> {
     ghost use Rattle.pool_store.specs.Entries.{own_words, with_own_words, spot_in, is_in};
 
-    /// Where it lies, unless in the standard pool.
+    /// Returns its block, or `None` if it is in the standard pool.
     #[inline(always)]
     pub fn spot(&self) -> Option<Spot>
         ensures { result ≡ spot_in self.now }
@@ -34,7 +34,7 @@ impl<A: Allocator> Entry<A> {
         }
     }
 
-    /// Whether it lies in a block of this pool.
+    /// Returns whether it is in a block of this pool.
     pub fn is_in(&self, pool: u64) -> bool
         ensures { result ≡ is_in pool self.now }
     {
@@ -56,8 +56,8 @@ impl<A: Allocator> Entry<A> {
         }
     }
 
-    /// Writes `count` words of an object of the standard pool from the place `from` on over those from `to` on, as they
-    /// were before.
+    /// Copies `count` words of an object of the standard pool from the place `from` on over those from `to` on, as they
+    /// were before the call.
     pub fn copy_within(&mut self, from: usize, to: usize, count: usize)
         requires from { from + count ≤ length (own_words self.old) }
         requires to { to + count ≤ length (own_words self.old) }

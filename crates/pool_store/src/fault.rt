@@ -4,10 +4,10 @@ ghost use Rattle.pool_store.specs.Fault.{code_of};
 use std::alloc::AllocError;
 use thiserror::Error;
 
-/// Why a call of the store was refused.
+/// The reason why a call of the store was refused.
 #[derive(Clone, Copy, Debug, PartialEq, Eq, Error)]
 pub enum StoreFault {
-    /// No block is free or none is large enough, or a pool with marks has not so many storage units left.
+    /// No block is free or none is large enough, or a pool with marks has fewer storage units left.
     #[error("the pool is exhausted")]
     Exhausted,
     /// No block that holds no object is out under this address, or it is too small.
@@ -34,9 +34,9 @@ pub enum StoreFault {
 }
 
 impl StoreFault {
-    /// The fault's number: 60 for a pool that is exhausted, 61 for a subpool that is not the last, 62 for one of another
-    /// pool, 63 for a bad address, 64 for an object that is gone, 65 for an eleventh subpool, 66 for a subpool that is
-    /// released, 9 for memory.
+    /// Returns the fault's number: 60 for a pool that is exhausted, 61 for a subpool that is not the last, 62 for one
+    /// of another pool, 63 for a bad address, 64 for an object that is gone, 65 for an eleventh subpool, 66 for a
+    /// subpool that is released, 9 for memory that was refused.
     pub fn code(self) -> u32
         ensures { result ≡ code_of self }
     {

@@ -11,7 +11,7 @@ use number_map::NumberMap;
 use pool_area::MarkArea;
 use std::alloc::Allocator;
 
-/// The objects in the subpools of a pool are held no more.
+/// Removes the objects in the subpools of a pool.
 pub fn forget_pool<A: Allocator>(cells: &mut NumberMap<Cell, A>, pool: u64, area: &MarkArea<A>)
     requires { AreHeldIn pool area.now cells.old.values }
     ensures { cells.new.values ≡ kept (is_out_of_pool pool) cells.old.values }
@@ -23,7 +23,7 @@ pub fn forget_pool<A: Allocator>(cells: &mut NumberMap<Cell, A>, pool: u64, area
     }
 }
 
-/// The objects in a subpool are held no more.
+/// Removes the objects in a subpool.
 pub fn forget_subpool<A: Allocator>(
     cells: &mut NumberMap<Cell, A>,
     pool: u64,
@@ -38,7 +38,7 @@ pub fn forget_subpool<A: Allocator>(
     }
 }
 
-// The object of a block is held no more, where it lies in this subpool.
+// Removes the object of a block, if it is in this subpool.
 fn forget<A: Allocator>(
     cells: &mut NumberMap<Cell, A>,
     pool: u64,
@@ -64,7 +64,7 @@ fn lies_in<A: Allocator>(cells: &NumberMap<Cell, A>, pool: u64, subpool: u64, ob
     }
 }
 
-/// A number is in the list no more.
+/// Removes a number from the list.
 pub fn forget_number<A: Allocator>(numbers: &mut Vec<u64, A>, number: u64)
     ensures { numbers.new.items ≡ others number numbers.old.items }
 {

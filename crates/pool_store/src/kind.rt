@@ -1,4 +1,4 @@
-/// Which pools are open under a number. A pool of blocks and a pool with marks may have the same one.
+/// The pools that are open under a number. A pool of blocks and a pool with marks may have the same one.
 #[derive(Clone, Copy, Debug, PartialEq, Eq)]
 pub enum PoolKind {
     /// a pool of blocks

@@ -1,4 +1,4 @@
-//! Objects by number: their words, and where these lie.
+//! The object store: objects by number, with their words, in the standard pool, in blocks and in subpools (RM 13.11).
 #![tactic(auto)]
 
 mod block_store;

@@ -14,7 +14,7 @@ use pool_area::{MarkArea, Standing};
 use std::alloc::{Allocator, Global};
 use std::marker::Model;
 
-/// The objects that lie in subpools, by their numbers, and the pools with marks. It ends by `close`.
+/// The objects in subpools, by their numbers, and the pools with marks. It has to be closed by `close`.
 ///
 /// Contracts see it as a store without a standard pool and without pools of blocks.
 pub struct MarkStore<A: Allocator = Global> {
@@ -23,7 +23,7 @@ pub struct MarkStore<A: Allocator = Global> {
     // The numbers of the pools, in the order in which they were opened.
     opened: Vec<u64, A>,
     cells: NumberMap<Cell, A>,
-    // How many numbers subpools got. They count from 1, since 0 names none.
+    // How many numbers were given to subpools. They count from 1, since 0 names none.
     numbered: u64,
 }
 
@@ -51,7 +51,7 @@ impl<A: Allocator> Model for MarkStore<A> {
 }
 
 impl<A: Allocator + Copy> MarkStore<A> {
-    /// No object and no pool yet. It takes no memory.
+    /// Makes a store with no object and no pool. Takes no memory.
     pub fn new(alloc: A) -> MarkStore<A>
         ensures { result ≡ no_store }
     {
@@ -64,11 +64,11 @@ impl<A: Allocator + Copy> MarkStore<A> {
         }
     }
 
-    /// Opens a pool of `units` storage units. It answers the number of its first subpool.
+    /// Opens a pool of `units` storage units, and returns the number of its first subpool.
     ///
     /// # Errors
     ///
-    /// `Memory` where the allocator refuses the memory. Nothing changes then.
+    /// Returns `Memory` if the allocator refuses the memory. Nothing changes then.
     pub fn open(&mut self, pool: u64, units: u64) -> Result<u64, StoreFault>
         requires size { IsMarkSize units }
         requires new { get self.old.marks pool ≡ None }
@@ -88,11 +88,11 @@ impl<A: Allocator + Copy> MarkStore<A> {
         Ok(number)
     }
 
-    /// Adds a subpool to a pool, which becomes its last, and answers its number. It takes no memory.
+    /// Adds a subpool to a pool, as its last, and returns its number. Takes no memory.
     ///
     /// # Errors
     ///
-    /// `TooManyMarks` where ten subpools stand in the pool. Nothing changes then.
+    /// Returns `TooManyMarks` if ten subpools stand in the pool. Nothing changes then.
     pub fn create(&mut self, pool: u64) -> Result<u64, StoreFault>
         requires open { IsMarkPool pool self.old }
         requires numbers { self.old.next_subpool < 2 ^ 64 }
@@ -113,11 +113,11 @@ impl<A: Allocator + Copy> MarkStore<A> {
         Ok(number)
     }
 
-    /// Puts a new object into a subpool: as many words as lie in so many storage units, all of them 0.
+    /// Adds an object in a subpool: as many words as `units` storage units hold, all of them 0.
     ///
     /// # Errors
     ///
-    /// What `refusal` answers, then `Memory` where the allocator refuses the memory. Nothing changes then.
+    /// Returns the fault of `refusal`, else `Memory` if the allocator refuses the memory. Nothing changes then.
     pub fn allocate(
         &mut self,
         subpool: u64,
@@ -152,7 +152,8 @@ impl<A: Allocator + Copy> MarkStore<A> {
 }
 
 impl<A: Allocator> MarkStore<A> {
-    /// Why a request in a subpool of a pool is refused: `Released`, `Foreign`, `NotTop`, `Exhausted`, in this order.
+    /// Returns the first reason to refuse a request in a subpool of a pool: `Released`, `Foreign`, `NotTop`,
+    /// `Exhausted`.
     fn refusal(&self, subpool: u64, pool: u64, units: u64) -> Option<StoreFault>
         ensures { result ≡ refusal_in subpool pool units self.now }
     {
@@ -171,7 +172,7 @@ impl<A: Allocator> MarkStore<A> {
         None
     }
 
-    /// The pool in which a subpool stands.
+    /// Returns the pool in which a subpool stands, or `None` if it stands in none.
     fn pool_with(&self, subpool: u64) -> Option<u64>
         ensures { result ≡ pool_with subpool self.now }
     {
@@ -199,7 +200,7 @@ impl<A: Allocator> MarkStore<A> {
         }
     }
 
-    /// Whether a subpool belongs to this pool (RM 13.11.5).
+    /// Returns whether a subpool belongs to this pool (RM 13.11.5).
     fn belongs(&self, pool: u64, subpool: u64) -> bool
         ensures { result ≡ belongs_to subpool pool self.now }
     {
@@ -236,7 +237,7 @@ impl<A: Allocator> MarkStore<A> {
         }
     }
 
-    /// The number of the last subpool of a pool.
+    /// Returns the number of the last subpool of a pool.
     pub fn default_subpool(&self, pool: u64) -> u64
         requires { IsMarkPool pool self.now }
         ensures { option_and_then default_of (get self.now.marks pool) ≡ Some result }
@@ -250,11 +251,11 @@ impl<A: Allocator> MarkStore<A> {
         number
     }
 
-    /// A subpool belongs to no pool from now on.
+    /// Detaches a subpool from its pool: it belongs to none after the call.
     ///
     /// # Errors
     ///
-    /// `Released` where it already belongs to none. Nothing changes then.
+    /// Returns `Released` if it belongs to none already. Nothing changes then.
     pub fn detach(&mut self, subpool: u64) -> Result<(), StoreFault>
         ensures result { result ≡ (if is_attached subpool self.old then Ok tt else Err StoreFault.Released) }
         ensures store { self.new ≡ (if is_attached subpool self.old then detached subpool self.old else self.old) }
@@ -272,18 +273,18 @@ impl<A: Allocator> MarkStore<A> {
         Ok(())
     }
 
-    /// Whether an object of this number is held.
+    /// Returns whether an object of this number is held.
     pub fn is_held(&self, object: u64) -> bool
         ensures { result ≡ is_some (get self.now.objects object) }
     {
         self.cells.contains(object)
     }
 
-    /// The object is held no more. It leaves no block behind: its words stay used.
+    /// Removes an object. It leaves no block: its words stay used.
     ///
     /// # Errors
     ///
-    /// `Gone` where no such object is held.
+    /// Returns `Gone` if no such object is held.
     pub fn vacate(&mut self, object: u64) -> Result<Option<Address>, StoreFault>
         ensures result { result ≡ vacated object self.old }
         ensures spot { spot_of object self.old ≡ None }
@@ -299,7 +300,7 @@ impl<A: Allocator> MarkStore<A> {
         Ok(None)
     }
 
-    /// How many words an object has, none where it is gone.
+    /// Counts the words of an object, none if it is gone.
     pub fn len_of(&self, object: u64) -> usize
         ensures { result ≡ length (words_of object self.now) }
     {
@@ -312,7 +313,7 @@ impl<A: Allocator> MarkStore<A> {
         }
     }
 
-    /// A word of an object.
+    /// Returns a word of an object.
     pub fn word(&self, object: u64, place: usize) -> u64
         requires { place < length (words_of object self.now) }
         ensures { result ≡ slice_index_or (words_of object self.now) place 0 }
@@ -340,7 +341,8 @@ impl<A: Allocator> MarkStore<A> {
         area.set_word(cell.subpool, cell.index, place, value);
     }
 
-    /// Writes `count` words of an object from the place `word` on over those from `target` on, as they were before.
+    /// Copies `count` words of an object from the place `word` on over those from `target` on, as they were before the
+    /// call.
     pub fn copy_within(&mut self, object: u64, word: usize, target: usize, count: usize)
         requires some { 0 < count }
         requires from { word + count ≤ length (words_of object self.old) }
@@ -356,14 +358,14 @@ impl<A: Allocator> MarkStore<A> {
         area.copy_within(cell.subpool, cell.index, word, target, count);
     }
 
-    /// Whether the pool is open.
+    /// Returns whether the pool is open.
     pub fn is_open(&self, pool: u64) -> bool
         ensures { result ≡ is_some (get self.now.marks pool) }
     {
         self.pools.contains(pool)
     }
 
-    /// Closes a pool and frees it, where it is open: the objects in it are gone, and none of its subpools stands.
+    /// Closes a pool and frees it, if it is open: the objects in it are gone, and none of its subpools stands.
     pub fn close_pool(&mut self, pool: u64)
         ensures { self.new ≡ without_pool pool self.old }
     {
@@ -375,9 +377,9 @@ impl<A: Allocator> MarkStore<A> {
         area.close();
     }
 
-    /// Releases a subpool (RM 13.11.5): its objects are gone, and it is dead. Where it is the last of its pool it is
-    /// dropped, with the dead ones before it, and with their words; the first one comes back under a new number. It
-    /// answers whether it was the last.
+    /// Releases a subpool (RM 13.11.5), and returns whether it was the last of its pool. Its objects are gone, and it
+    /// is dead. If it was the last, it is dropped, with the dead ones before it and with their words; the first one
+    /// comes back under a new number.
     pub fn release(&mut self, subpool: u64) -> bool
         requires { self.old.next_subpool < 2 ^ 64 }
         ensures last { result ≡ is_last subpool self.old }
@@ -398,14 +400,14 @@ impl<A: Allocator> MarkStore<A> {
         last
     }
 
-    /// Whether another subpool can have a number.
+    /// Returns whether there is a number left for another subpool.
     pub fn has_subpool_numbers(&self) -> bool
         ensures { IsTrue result ↔ self.now.next_subpool < 2 ^ 64 }
     {
         self.numbered < u64::MAX
     }
 
-    /// Whether a subpool belongs to its pool, where it stands in one.
+    /// Returns whether a subpool belongs to its pool, or `None` if it stands in none.
     pub fn standing(&self, subpool: u64) -> Option<Standing>
         ensures { result ≡ standing_of subpool self.now }
     {
@@ -415,7 +417,7 @@ impl<A: Allocator> MarkStore<A> {
         }
     }
 
-    /// Frees all memory.
+    /// Closes the store and frees all its memory.
     pub fn close(self) {
         let MarkStore {
             alloc: _alloc,

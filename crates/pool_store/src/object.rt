@@ -19,7 +19,7 @@ impl<A: Allocator> Model for Object<A> {
 }
 
 impl<A: Allocator> Object<A> {
-    /// An object of so many words, all of them 0.
+    /// Makes an object of `words` words, all of them 0.
     pub fn new(alloc: A, words: usize) -> Result<Object<A>, AllocError>
         ensures { IfOk result (λ o. o ≡ replicate words 0) }
     {
@@ -28,14 +28,14 @@ impl<A: Allocator> Object<A> {
         })
     }
 
-    /// How many words it has.
+    /// Counts its words.
     pub fn len(&self) -> usize
         ensures { result ≡ length self.now }
     {
         self.words.len()
     }
 
-    /// The word at this place.
+    /// Returns the word at this place, from 0.
     #[inline(always)]
     pub fn word(&self, place: usize) -> u64
         requires { place < length self.now }
@@ -44,7 +44,7 @@ impl<A: Allocator> Object<A> {
         self.words[place]
     }
 
-    /// Writes the word at this place.
+    /// Writes the word at this place, from 0.
     #[inline(always)]
     pub fn set_word(&mut self, place: usize, value: u64)
         requires { place < length self.old }
@@ -53,7 +53,7 @@ impl<A: Allocator> Object<A> {
         self.words[place] = value;
     }
 
-    /// Writes `count` words from the place `from` on to the place `to` on, as they were before.
+    /// Copies `count` words from the place `from` on over those from `to` on, as they were before the call.
     pub fn copy_within(&mut self, from: usize, to: usize, count: usize)
         requires from { from + count ≤ length self.old }
         requires to { to + count ≤ length self.old }

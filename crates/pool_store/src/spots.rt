@@ -10,7 +10,7 @@ use number_map::NumberMap;
 use pool_area::BlockArea;
 use std::alloc::Allocator;
 
-/// How many words the object has that lies there, none where there is no object.
+/// Counts the words of the object in that block, none if there is no object.
 pub fn len_at<A: Allocator>(blocks: &NumberMap<BlockArea<A>, A>, spot: Spot) -> usize
     ensures { result ≡ length (words_in (lot_at spot blocks.now.values)) }
 {
@@ -20,7 +20,7 @@ pub fn len_at<A: Allocator>(blocks: &NumberMap<BlockArea<A>, A>, spot: Spot) -> 
     }
 }
 
-/// A word of the object that lies there.
+/// Returns a word of the object in that block.
 pub fn word_at<A: Allocator>(blocks: &NumberMap<BlockArea<A>, A>, spot: Spot, place: usize) -> u64
     requires { place < length (words_in (lot_at spot blocks.now.values)) }
     ensures { result ≡ slice_index_or (words_in (lot_at spot blocks.now.values)) place 0 }
@@ -31,7 +31,7 @@ pub fn word_at<A: Allocator>(blocks: &NumberMap<BlockArea<A>, A>, spot: Spot, pl
     }
 }
 
-/// Writes a word of the object that lies there.
+/// Writes a word of the object in that block.
 pub fn set_word_at<A: Allocator>(
     blocks: &mut NumberMap<BlockArea<A>, A>,
     spot: Spot,
@@ -46,7 +46,8 @@ pub fn set_word_at<A: Allocator>(
     }
 }
 
-/// Writes `count` words of the object that lies there, from the place `from` on, over those from `to` on, as they were before.
+/// Copies `count` words of the object in that block, from the place `from` on, over those from `to` on, as they were
+/// before the call.
 pub fn copy_within_at<A: Allocator>(
     blocks: &mut NumberMap<BlockArea<A>, A>,
     spot: Spot,

@@ -18,8 +18,9 @@ use std::marker::Model;
 #[derive(Clone, Copy, Debug, PartialEq, Eq)]
 pub struct SubpoolNo(pub u64);
 
-/// The objects that are held, by their numbers, the pools of blocks, and the pools with marks with their subpools. It
-/// ends by `close`.
+/// The objects that are held, by their numbers, the pools of blocks, and the pools with marks with their subpools.
+///
+/// A store has to be closed by `close`. A word of an object has 8 storage units.
 pub struct PoolStore<A: Allocator = Global> {
     blocks: BlockStore<A>,
     marks: MarkStore<A>,
@@ -39,7 +40,7 @@ impl<A: Allocator> Model for PoolStore<A> {
 }
 
 impl<A: Allocator + Copy> PoolStore<A> {
-    /// No object and no pool yet. It takes no memory.
+    /// Makes a store with no object and no pool. Takes no memory.
     pub fn new(alloc: A) -> PoolStore<A>
         ensures { result ≡ no_store }
     {
@@ -49,11 +50,11 @@ impl<A: Allocator + Copy> PoolStore<A> {
         }
     }
 
-    /// A new object of the standard pool, of so many words, all of them 0.
+    /// Adds an object of `words` words, all of them 0, to the standard pool.
     ///
     /// # Errors
     ///
-    /// `Memory` where the allocator refuses the memory. Nothing changes then.
+    /// Returns `Memory` if the allocator refuses the memory. Nothing changes then.
     pub fn standard(&mut self, object: u64, words: usize) -> Result<(), StoreFault>
         requires { get self.old.objects object ≡ None }
         ensures ok { OnOk result (self.new ≡ with_object object words self.old) }
@@ -67,7 +68,7 @@ impl<A: Allocator + Copy> PoolStore<A> {
     ///
     /// # Errors
     ///
-    /// `Memory` where the allocator refuses the memory. Nothing changes then.
+    /// Returns `Memory` if the allocator refuses the memory. Nothing changes then.
     pub fn open_block(&mut self, pool: u64, units: u64, count: usize) -> Result<(), StoreFault>
         requires size { IsPoolSize units count }
         requires new { get self.old.blocks pool ≡ None }
@@ -78,11 +79,12 @@ impl<A: Allocator + Copy> PoolStore<A> {
         self.blocks.open_block(pool, units, count)
     }
 
-    /// A free block of a pool goes out, for a request of so many storage units, under an address that no block had before.
+    /// Takes a free block of a pool for a request of `units` storage units, and returns its address, which no block had
+    /// before (RM 13.11).
     ///
     /// # Errors
     ///
-    /// `Exhausted` where no block is free or the request is larger than a block, then `Memory` where the allocator
+    /// Returns `Exhausted` if no block is free or the request is larger than a block, else `Memory` if the allocator
     /// refuses the memory. Nothing changes then.
     pub fn allocate(&mut self, pool: u64, units: u64) -> Result<Address, StoreFault>
         requires open { IsBlockPool pool self.old }
@@ -94,12 +96,12 @@ impl<A: Allocator + Copy> PoolStore<A> {
         self.blocks.allocate(pool, units)
     }
 
-    /// Puts a new object into a block that is out and holds none, under this address: as many words as lie in so many
-    /// storage units, all of them 0.
+    /// Adds an object, in the block with this address, which is out and holds none: as many words as `units` storage
+    /// units hold, all of them 0.
     ///
     /// # Errors
     ///
-    /// `BadAddress` where no such block is out or it is smaller than that, then `Memory` where the allocator refuses
+    /// Returns `BadAddress` if no such block is out or it is smaller than that, else `Memory` if the allocator refuses
     /// the memory. Nothing changes then.
     pub fn occupy(
         &mut self,
@@ -116,12 +118,12 @@ impl<A: Allocator + Copy> PoolStore<A> {
         self.blocks.occupy(pool, address, object, units)
     }
 
-    /// Opens a pool with marks, of `units` storage units, from 8 to 16,777,216. It answers the number of its first
+    /// Opens a pool with marks, of `units` storage units, from 8 to 16,777,216, and returns the number of its first
     /// subpool, which is there from the start.
     ///
     /// # Errors
     ///
-    /// `Memory` where the allocator refuses the memory. Nothing changes then.
+    /// Returns `Memory` if the allocator refuses the memory. Nothing changes then.
     pub fn open_mark(&mut self, pool: u64, units: u64) -> Result<SubpoolNo, StoreFault>
         requires size { IsMarkSize units }
         requires new { get self.old.marks pool ≡ None }
@@ -135,14 +137,14 @@ impl<A: Allocator + Copy> PoolStore<A> {
         Ok(SubpoolNo(number))
     }
 
-    /// Puts a new object into a subpool of a pool (RM 13.11.4): as many words as lie in so many storage units, a
-    /// positive multiple of 8, all of them 0. The pool may be closed.
+    /// Adds an object in a subpool of a pool (RM 13.11.4): as many words as `units` storage units hold, a positive
+    /// multiple of 8, all of them 0. The pool may be closed.
     ///
     /// # Errors
     ///
-    /// `Released` where the subpool stands in no open pool, then `Foreign` where it does not belong to this one, then
-    /// `NotTop` where it is not the last, then `Exhausted` where the pool has not so many storage units left, then
-    /// `Memory` where the allocator refuses the memory. Nothing changes then.
+    /// Returns `Released` if the subpool stands in no open pool, else `Foreign` if it does not belong to this one, else
+    /// `NotTop` if it is not the last, else `Exhausted` if the pool has fewer storage units left, else `Memory` if the
+    /// allocator refuses the memory. Nothing changes then.
     pub fn allocate_in(
         &mut self,
         subpool: SubpoolNo,
@@ -160,11 +162,11 @@ impl<A: Allocator + Copy> PoolStore<A> {
         self.marks.allocate(number, pool, object, units)
     }
 
-    /// Adds a subpool to a pool, its last from then on (RM 13.11.4). It takes no memory.
+    /// Adds a subpool to a pool, as its last (RM 13.11.4), and returns its number. Takes no memory.
     ///
     /// # Errors
     ///
-    /// `TooManyMarks` exactly where ten subpools stand in the pool. Nothing changes then.
+    /// Returns `TooManyMarks` exactly if ten subpools stand in the pool. Nothing changes then.
     pub fn create_subpool(&mut self, pool: u64) -> Result<SubpoolNo, StoreFault>
         requires open { IsMarkPool pool self.old }
         requires numbers { self.old.next_subpool < 2 ^ 64 }
@@ -181,11 +183,12 @@ impl<A: Allocator + Copy> PoolStore<A> {
 }
 
 impl<A: Allocator> PoolStore<A> {
-    /// A block of a pool comes back.
+    /// Gives a block of a pool back (RM 13.11).
     ///
     /// # Errors
     ///
-    /// `BadAddress` where no block of the pool is out under this address, or it holds an object. Nothing changes then.
+    /// Returns `BadAddress` if no block of the pool is out under this address, or it holds an object. Nothing changes
+    /// then.
     pub fn deallocate(&mut self, pool: u64, address: Address) -> Result<(), StoreFault>
         ensures result { result ≡ (if is_vacant_in pool address.0 self.old then Ok tt else Err StoreFault.BadAddress) }
         ensures store { self.new ≡ (if is_vacant_in pool address.0 self.old then give_block pool address.0 self.old else self.old) }
@@ -193,7 +196,7 @@ impl<A: Allocator> PoolStore<A> {
         self.blocks.deallocate(pool, address)
     }
 
-    /// The subpool of a pool that is its default, the last one (RM 13.11.4).
+    /// Returns the default subpool of a pool, which is its last one (RM 13.11.4).
     pub fn default_subpool(&self, pool: u64) -> SubpoolNo
         requires { IsMarkPool pool self.now }
         ensures { option_and_then default_of (get self.now.marks pool) ≡ Some result.0 }
@@ -201,11 +204,12 @@ impl<A: Allocator> PoolStore<A> {
         SubpoolNo(self.marks.default_subpool(pool))
     }
 
-    /// A subpool belongs to no pool from then on (RM 13.11.5). Its objects stay, until it is released.
+    /// Detaches a subpool from its pool (RM 13.11.5): it belongs to none after the call. Its objects stay until it is
+    /// released.
     ///
     /// # Errors
     ///
-    /// `Released` where it already belongs to none. Nothing changes then.
+    /// Returns `Released` if it belongs to none already. Nothing changes then.
     pub fn detach_subpool(&mut self, subpool: SubpoolNo) -> Result<(), StoreFault>
         ensures result { result ≡ (if is_attached subpool.0 self.old then Ok tt else Err StoreFault.Released) }
         ensures store { self.new ≡ (if is_attached subpool.0 self.old then detached subpool.0 self.old else self.old) }
@@ -214,10 +218,12 @@ impl<A: Allocator> PoolStore<A> {
         self.marks.detach(number)
     }
 
-    /// Releases a subpool that belongs to no pool (RM 13.11.5): its objects are gone, and it is dead. Where it is the last
-    /// of its pool it is dropped, with the dead ones before it, and as many words are used as were when it was made; the
-    /// first subpool of a pool comes back, empty, under a new number. It answers whether it was the last. It takes no
-    /// memory.
+    /// Releases a subpool that is detached from its pool (RM 13.11.5), and returns whether it was the last of that
+    /// pool. Takes no memory.
+    ///
+    /// Its objects are gone, and it is dead. If it was the last, it is dropped, with the dead ones before it: as many
+    /// words are used as were when the first of these was made. The first subpool of a pool comes back, empty, under a
+    /// new number.
     pub fn release_subpool(&mut self, subpool: SubpoolNo) -> bool
         requires detached { IsDetached subpool.0 self.old }
         requires numbers { self.old.next_subpool < 2 ^ 64 }
@@ -229,12 +235,12 @@ impl<A: Allocator> PoolStore<A> {
         self.marks.release(number)
     }
 
-    /// The object is held no more. It answers the address of its block, which an object of the standard pool or of a
-    /// subpool has not. The block stays out; the words of a subpool stay used.
+    /// Removes an object and returns the address of its block, `None` for an object of the standard pool or of a
+    /// subpool. The block stays out; the words of a subpool stay used.
     ///
     /// # Errors
     ///
-    /// `Gone` where no such object is held. Nothing changes then.
+    /// Returns `Gone` if no such object is held. Nothing changes then.
     pub fn vacate(&mut self, object: u64) -> Result<Option<Address>, StoreFault>
         ensures result { result ≡ vacated object self.old }
         ensures store { self.new ≡ without_object object self.old }
@@ -247,11 +253,11 @@ impl<A: Allocator> PoolStore<A> {
         }
     }
 
-    /// A word of an object: the one that was last written there, 0 before.
+    /// Returns the word of an object at the place `word`, from 0: the one that was last written there, 0 before.
     ///
     /// # Errors
     ///
-    /// `Gone` where no such object is held.
+    /// Returns `Gone` if no such object is held.
     #[inline(always)]
     pub fn read(&self, object: u64, word: usize) -> Result<u64, StoreFault>
         requires { IsWithin object word 1 self.now }
@@ -275,11 +281,11 @@ impl<A: Allocator> PoolStore<A> {
         Ok(self.word(object, word))
     }
 
-    /// Writes a word of an object.
+    /// Writes `value` to the word of an object at the place `word`, from 0.
     ///
     /// # Errors
     ///
-    /// `Gone` where no such object is held. Nothing changes then.
+    /// Returns `Gone` if no such object is held. Nothing changes then.
     #[inline(always)]
     pub fn write(&mut self, object: u64, word: usize, value: u64) -> Result<(), StoreFault>
         requires { IsWithin object word 1 self.old }
@@ -305,12 +311,12 @@ impl<A: Allocator> PoolStore<A> {
         Ok(())
     }
 
-    /// Writes `count` words of one object, from the place `word` on, over those of another or of the same, from the
-    /// place `target` on. Within one object it writes the words from before the call.
+    /// Copies `count` words of one object, from the place `word` on, over those of another or of the same, from the
+    /// place `target` on. Within one object the words from before the call are copied.
     ///
     /// # Errors
     ///
-    /// `Gone` where one of the two is not held. Nothing changes then.
+    /// Returns `Gone` if one of the two is not held. Nothing changes then.
     pub fn copy(
         &mut self,
         from: u64,
@@ -357,14 +363,14 @@ impl<A: Allocator> PoolStore<A> {
         }
     }
 
-    /// Whether an object of this number is held.
+    /// Returns whether an object of this number is held.
     pub fn is_held(&self, object: u64) -> bool
         ensures { result ≡ is_some (get self.now.objects object) }
     {
         self.marks.is_held(object) || self.blocks.is_held(object)
     }
 
-    /// How many words an object has, none where it is gone.
+    /// Counts the words of an object, none if it is gone.
     pub fn len_of(&self, object: u64) -> usize
         ensures { result ≡ length (words_of object self.now) }
     {
@@ -410,14 +416,14 @@ impl<A: Allocator> PoolStore<A> {
         }
     }
 
-    /// Whether a pool of this number is open.
+    /// Returns whether a pool of this number is open.
     pub fn is_open(&self, pool: u64) -> bool
         ensures { result ≡ is_open pool self.now }
     {
         self.blocks.is_open(pool) || self.marks.is_open(pool)
     }
 
-    /// Which pools are open under a number, `None` where no pool is.
+    /// Returns which pools are open under a number, or `None` if no pool is.
     pub fn kind(&self, pool: u64) -> Option<PoolKind>
         ensures { MatchOption result (IsNoPool pool self.now) (λ kind. IsKind kind pool self.now) }
     {
@@ -429,29 +435,30 @@ impl<A: Allocator> PoolStore<A> {
         }
     }
 
-    /// Whether another address can be given.
+    /// Returns whether there is an address left to give.
     pub fn has_addresses(&self) -> bool
         ensures { IsTrue result ↔ self.now.given < 2 ^ 64 - 1 }
     {
         self.blocks.has_addresses()
     }
 
-    /// Whether another subpool can have a number.
+    /// Returns whether there is a number left for another subpool.
     pub fn has_subpool_numbers(&self) -> bool
         ensures { IsTrue result ↔ self.now.next_subpool < 2 ^ 64 }
     {
         self.marks.has_subpool_numbers()
     }
 
-    /// Whether a subpool belongs to its pool, is detached from it or dead, `None` where it stands in no open pool.
+    /// Returns whether a subpool belongs to its pool, is detached from it or dead, or `None` if it stands in no open
+    /// pool.
     pub fn standing(&self, subpool: SubpoolNo) -> Option<Standing>
         ensures { result ≡ standing_of subpool.0 self.now }
     {
         self.marks.standing(subpool.0)
     }
 
-    /// Closes a pool and frees it: the objects in it are gone, its addresses are out no more, and none of its subpools
-    /// stands. It takes no memory.
+    /// Closes a pool and frees it: the objects in it are gone, its addresses are no longer out, and none of its
+    /// subpools stands. Takes no memory.
     pub fn close_pool(&mut self, pool: u64)
         requires { is_open pool self.old ≡ true }
         ensures { self.new ≡ without_pool pool self.old }
@@ -460,7 +467,7 @@ impl<A: Allocator> PoolStore<A> {
         self.marks.close_pool(pool);
     }
 
-    /// Frees all memory.
+    /// Closes the store and frees all its memory.
     pub fn close(self) {
         let PoolStore { blocks, marks } = self;
         blocks.close();

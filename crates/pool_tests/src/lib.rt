@@ -12,6 +12,6 @@ mod marks;
 #[cfg(test)]
 mod stores;
 
-/// A heap's room is taken in pieces of so many bytes: heaps that grow by it refuse each growth of a call in turn.
+/// The unit in bytes in which a heap gives memory: the heaps of a test rise by it from each to the next.
 #[cfg(test)]
 const HEAP_STEP: usize = 16;

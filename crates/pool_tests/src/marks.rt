@@ -46,7 +46,7 @@ fn marks_and_releases(rt: HostRuntime) -> Result<(), Fail> {
     Ok(())
 }
 
-/// Releases the newest mark where the pool says that all words since then are back, and answers whether it did.
+/// Releases the newest mark if the pool says that all words since then are back, and returns whether it did.
 fn is_released<A: Allocator>(pool: &mut MarkPool<A>) -> bool
     requires { pool.old.issued < 1000 }
     ensures { (pool.new.home ≡ pool.old.home) × (pool.new.places ≡ pool.old.places)
@@ -59,7 +59,7 @@ fn is_released<A: Allocator>(pool: &mut MarkPool<A>) -> bool
     false
 }
 
-/// How many words are out, and how many of them from the newest mark on.
+/// Counts the words that are out, and those of them from the newest mark on.
 fn words_out<A: Allocator>(pool: &MarkPool<A>) -> (u64, u64) {
     (pool.out(), pool.out_since_top())
 }

@@ -416,8 +416,8 @@ fn each_growth_is_refused(rt: HostRuntime) -> Result<(), Fail> {
     Ok(())
 }
 
-// Pools with marks. A number that is given is the answer, a fault's number comes with 1000, 2000 stands for a condition
-// that does not hold.
+// Pools with marks. A number that is given is returned, a fault's number with 1000 added, and 2000 for a condition that
+// does not hold.
 
 fn open_mark<A: Allocator + Copy>(store: &mut PoolStore<A>, pool: u64, units: u64) -> u64 {
     if store.kind(pool).is_some() || units < 8 || units > 16777216 || !store.has_subpool_numbers() {
@@ -558,7 +558,7 @@ fn a_release_takes_the_objects_of_its_subpool(rt: HostRuntime) {
     assert_eq!(rt; word, 5);
 }
 
-/// What the queries answer on a pool of blocks 1, a pool with marks 2 with the object 10 of two words, pools of both kinds
+/// Asks the queries about a pool of blocks 1, a pool with marks 2 with the object 10 of two words, pools of both kinds
 /// under 3, and no pool 4.
 #[test]
 fn conditions_can_be_asked(rt: HostRuntime) {

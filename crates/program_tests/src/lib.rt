@@ -10,6 +10,8 @@ mod freeing;
 #[cfg(test)]
 mod functions;
 #[cfg(test)]
+mod given;
+#[cfg(test)]
 mod jobs;
 #[cfg(test)]
 mod names;

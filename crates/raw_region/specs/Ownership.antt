@@ -1,7 +1,7 @@
 -- What the parts of a region own, place by place. Each place has a ticket, of which there is one: whoever has the place has it. So a place that a Block has can be in no other Block, and not in the region.
 use Rattle.std.specs.Prelude.{ℕ, zero, suc, ◌+◌, ◌*◌, Option, None, Some, List, length}
 use base.Fraction.{full_share}
-use base.Fml.{Lft, Fml, ftrue, fsep}
+use base.Fml.{Lft, Fml, ftrue, fsep, fall, fwand, feq}
 use types.Keyed.{ticket}
 use denote.Array.{Array}
 use denote.Builtin.{u64}
@@ -49,3 +49,11 @@ tickets h = span (ticket h.name)
 -- The words ws lie at p, one after the other.
 abbrev pub run_at : Ptr → List ℕ → Fml
 run_at p ws = lies_at (Array u64 (length ws)) full_share p ws
+
+-- As many words as the home has, where it is, give what F is of them.
+abbrev pub whole_again : Home → (List ℕ → Fml) → Fml
+whole_again h F = fall (List ℕ) (λ ws. fwand (fsep (feq ℕ (length ws) h.size) (run_at h.at ws)) (F ws))
+
+-- What a `&` to an allocation shows, wherever it lies: nothing.
+abbrev pub unread : Home → Ptr → Lft → Fml
+unread h p = nothing

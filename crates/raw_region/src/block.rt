@@ -7,7 +7,9 @@ use crate::holding::Claim;
 use std::marker::Model;
 use std_alloc::vec::Lodged;
 
-/// A run of words that was cut out of a region. It goes home to that region, by `RawRegion::home`.
+/// A run of 64-bit words that was cut out of a region.
+///
+/// A Block has to be brought back to that region, by `RawRegion::home`.
 pub struct Block {
     pub(crate) words: Vec<u64, Lodged>,
     pub(crate) start: usize,
@@ -31,21 +33,21 @@ impl Model for Block {
 }
 
 impl Block {
-    /// The number of its first place in the region, from 0.
+    /// Returns the place of its first word in the region, from 0.
     pub fn start(&self) -> usize
         ensures { result ≡ self.now.start }
     {
         self.start
     }
 
-    /// Its words, to be read.
+    /// Returns its words, for reading.
     pub fn words(&self) -> &[u64]
         ensures { result.now ≡ self.now.words }
     {
         self.words.as_slice()
     }
 
-    /// Its words, to be read and written. There are as many as were cut out.
+    /// Returns its words, for reading and writing. There are as many as were cut out.
     pub fn words_mut(&mut self) -> &mut [u64]
         ensures* writes_back { sem 𝓛 (Lends the_row (Array u64 0) self.entry result (with_words self.old)) }
         ensures value { result.now ≡ self.old.words }

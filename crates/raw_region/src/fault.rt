@@ -4,10 +4,10 @@ ghost use Rattle.raw_region.specs.Fault.{code_of};
 use std::alloc::AllocError;
 use thiserror::Error;
 
-/// Why a pool over a region was not made.
+/// The reason why a pool over a region was not opened.
 #[derive(Clone, Copy, Debug, PartialEq, Eq, Error)]
 pub enum PoolFault {
-    /// The sizes asked for are not ones that such a pool may have.
+    /// A size is out of the range that such a pool allows.
     #[error("the pool's size is out of range")]
     Size,
     /// The allocator refused the memory.
@@ -16,7 +16,7 @@ pub enum PoolFault {
 }
 
 impl PoolFault {
-    /// The fault's number: 50 for a size out of range, 9 for memory.
+    /// Returns the fault's number: 50 for a size out of range, 9 for memory that was refused.
     pub fn code(self) -> u32
         ensures { result ≡ code_of self }
     {

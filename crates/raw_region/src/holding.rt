@@ -7,7 +7,7 @@ ghost use Rattle.raw_region.specs.Ownership.{nth_place, span_lent, place_lent, p
 use std::marker::Model;
 use std_alloc::vec::{Lodged, lodge};
 
-// The words that lie in their places of the region `home`.
+// The words that are in their places of the region `home`.
 pub(crate) struct Holding {
     ghost home: { Home } by { home_code },
     ghost places: { Places } by { places_code },
@@ -31,7 +31,7 @@ impl Model for Claim {
 }
 
 impl Holding {
-    // The word in the place i of the region that begins at `base`.
+    // Returns the word in the place i of the region that begins at `base`.
     #[inline(always)]
     pub(crate) fn word(&self, base: *mut u64, i: usize) -> &u64
         requires { (self.now.home.at ≡ base) × InBlock base × IsSome (place self.now.places i)
@@ -41,7 +41,7 @@ impl Holding {
         unsafe { &*base.add(i) }
     }
 
-    // Takes the `len` words from `start` on out. They are a `Vec` that neither grows nor frees them.
+    // Takes the `len` words from `start` on out, as a `Vec` that neither grows nor frees them.
     #[inline(always)]
     pub(crate) fn lend_out(
         &mut self,
@@ -60,7 +60,7 @@ impl Holding {
         (Claim {}, words)
     }
 
-    // Puts words back into their places, which were out until now.
+    // Puts words back into their places, which were out before the call.
     #[inline(always)]
     pub(crate) fn take_back(&mut self, claim: Claim, words: Vec<u64, Lodged>)
         requires { (claim.home ≡ self.old.home) × InBlock self.old.home.at

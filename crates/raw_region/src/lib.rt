@@ -1,4 +1,4 @@
-//! Words in one allocation, from which runs of words can be cut out as Blocks and brought home.
+//! Regions of 64-bit words, each in one allocation, from which runs of words can be cut out as Blocks and brought back.
 #![tactic(auto)]
 
 mod allocation;

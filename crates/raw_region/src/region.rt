@@ -7,7 +7,9 @@ use crate::holding::Holding;
 use std::alloc::{AllocError, Allocator, Global};
 use std::marker::Model;
 
-/// Words in one allocation. It ends by `close`, and each Block that was cut out of it by `home`.
+/// A region of 64-bit words in one allocation, from which runs of words can be cut out as Blocks.
+///
+/// A region has to be closed by `close`, and each of its Blocks brought back by `home`.
 pub struct RawRegion<A: Allocator = Global> {
     base: *mut u64,
     size: usize,
@@ -31,11 +33,11 @@ impl<A: Allocator> Model for RawRegion<A> {
 }
 
 impl<A: Allocator> RawRegion<A> {
-    /// A region of `words` words, from 1 to 33,554,432, all of them zero.
+    /// Opens a region of `words` 64-bit words, from 1 to 33,554,432, all of them zero.
     ///
     /// # Errors
     ///
-    /// `AllocError` where the allocator refuses the memory.
+    /// Returns `AllocError` if the allocator refuses the memory.
     pub fn open(alloc: A, words: usize) -> Result<RawRegion<A>, AllocError>
         requires { (1 ≤ words) × (words ≤ 33554432) }
         ensures size { IfOk result (λ r. r.home.size ≡ words) }
@@ -52,7 +54,7 @@ impl<A: Allocator> RawRegion<A> {
         })
     }
 
-    /// The word at the place `i`, which is in no Block.
+    /// Returns the word at the place `i`, from 0, which is in no Block.
     pub fn read(&self, i: usize) -> u64
         requires { IsSome (place self.now.places i) }
         ensures { Some result ≡ place self.now.places i }
@@ -60,7 +62,7 @@ impl<A: Allocator> RawRegion<A> {
         *self.holding.word(self.base, i)
     }
 
-    /// Puts `word` at the place `i`, which is in no Block.
+    /// Writes `word` to the place `i`, from 0, which is in no Block.
     pub fn write(&mut self, i: usize, word: u64)
         requires { IsSome (place self.old.places i) }
         ensures home { self.new.home ≡ self.old.home }
@@ -71,7 +73,7 @@ impl<A: Allocator> RawRegion<A> {
         self.holding.take_back(claim, words);
     }
 
-    /// Takes `len` words, at least one, out from the place `start` on. None of them is in a Block.
+    /// Cuts `len` words, at least one, out of the region, from the place `start` on. None of them is in a Block yet.
     pub fn cut(&mut self, start: usize, len: usize) -> Block
         requires { (1 ≤ len) × AreHeld self.old.places start len }
         ensures home { self.new.home ≡ self.old.home }
@@ -86,7 +88,7 @@ impl<A: Allocator> RawRegion<A> {
         }
     }
 
-    /// Brings a Block of this region back, with its words. Its places were out until now.
+    /// Brings a Block of this region back, with its words. Its places were out before the call.
     pub fn home(&mut self, block: Block)
         requires { block.home ≡ self.old.home }
         ensures home { self.new.home ≡ self.old.home }
@@ -102,7 +104,7 @@ impl<A: Allocator> RawRegion<A> {
         self.holding.take_back(claim, words);
     }
 
-    /// Brings two Blocks back. They share no place, however they came about.
+    /// Brings two Blocks of this region back. They share no place, however they were made.
     pub fn home_both(&mut self, first: Block, second: Block)
         requires first { first.home ≡ self.old.home }
         requires second { second.home ≡ self.old.home }
@@ -115,7 +117,7 @@ impl<A: Allocator> RawRegion<A> {
         self.home(second);
     }
 
-    /// Frees the allocation. No Block is out.
+    /// Closes the region and frees its allocation. No Block is out.
     pub fn close(self)
         requires { AreHeld self.places 0 (length self.places) }
     {

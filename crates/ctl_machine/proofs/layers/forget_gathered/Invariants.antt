@@ -6,4 +6,4 @@ use Rattle.ctl_machine.proofs.layers.forget_gathered.Given as goal
 
 -- those before are gone with their objects
 abbrev pub invariant-loop-at : goal.invariant-loop-at
-invariant-loop-at l = AreUpTo l.master l.objects × ((all : List Object) → l.fn.objects ≡ remaining l.master [] all → l.objects ≡ remaining l.master (set_numbers (drop l.start (take l.at l.owned))) all)
+invariant-loop-at l = (l.stock.needs ≡ l.fn.stock.needs) × (AreUpTo l.master l.stock.objects × ((all : List Object) → l.fn.stock.objects ≡ remaining l.master [] all → l.stock.objects ≡ remaining l.master (set_numbers (drop l.start (take l.at l.owned))) all))

@@ -9,4 +9,4 @@ use Rattle.ctl_machine.proofs.layers.forget_owned.Goals as goal
 pub forget_gathered-requires-clause-masters : goal.forget_gathered-requires-clause-masters
 forget_gathered-requires-clause-masters c =
     let m = c.args.master.now.number in
-    subst (λ (l : List Object). AreUpTo m l) (sym c.close_master.ensures) (all_kept (λ x. IsUpTo m x.origin) (λ x. not (ends_with_master m [] x.origin)) c.args.objects.now c.requires.masters)
+    subst (λ (l : List Object). AreUpTo m l) (sym c.close_master.ensures.objects) (all_kept (λ x. IsUpTo m x.origin) (λ x. not (ends_with_master m [] x.origin)) c.args.stock.now.objects c.requires.masters)

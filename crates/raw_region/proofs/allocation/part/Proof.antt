@@ -68,14 +68,14 @@ module _ (P : RattleType) (g : Ghosts P.Denot) {M : Type 1} {𝓤 : Ura M} (𝓛
       use1 𝓛 (‵ (Words v.items) ⊛ ‵ (fall (List ℕ) (λ ws. fwand (Words ws) (Owns ws)))) (hollow 𝓛 (g.dealloc_token v.alloc) v.ptr v.len v.cap v.items (omega (arith, v.ok.1, positive))) $ split ! $
       rewrite ! 0 (λ n. ‵ (lies_at (Array u64 n) full_share v.ptr v.items)) v.ok.0 refl $ frame ! $
       -- [the way back; the fields]
-      each ! (λ ws. wand 𝓤 (sem 𝓛 (Given ws)) (ex 𝓤 (λ i. sem 𝓛 (Full ws i.vec)))) (λ ws. assume ! (‵ (Given ws)) $ fsplit ! $ feq_l ! (λ long.
+      each ! (λ ws. wand 𝓤 (sem 𝓛 (Given ws)) (ex 𝓤 (λ i. sem 𝓛 (Full ws i.backing)))) (λ ws. assume ! (‵ (Given ws)) $ fsplit ! $ feq_l ! (λ long.
       rewrite ! 0 (λ n. ‵ (lies_at (Array u64 n) full_share v.ptr ws)) long refl $ move ! (1 ∷ []) $
       use1 𝓛 (‵ (fwand (Words ws) (Owns ws))) (all_e 𝓤 (λ xs. sem 𝓛 (fwand (Words xs) (Owns xs))) ws) $ move ! (1 ∷ 0 ∷ []) $
       use2 𝓛 (‵ (Owns ws)) (apply∗ 𝓤 (sem 𝓛 (Words ws)) (sem 𝓛 (Owns ws))) $
       let x = with_items v ws in let is = with_items_is v ws long in
       rewrite ! 0 (λ xs. ‵ (Owns xs)) (sym is) refl $ move ! (1 ∷ 0 ∷ []) $ fjoin ! $ nothing ! $ move ! (1 ∷ 0 ∷ []) $ fjoin ! $
       use1 𝓛 (‵ ((Fields (Whole ∷ [])).own_val (x, tt) (shell ∷ []))) (whole 𝓛 (Whole ∷ []) (x, tt) (u ∷ [], tt)) $
-      feq_i ! (List ℕ) x.items ws is $ fjoin ! $ show ! (λ i. sem 𝓛 (Full ws i.vec)) (record { vec = x }) $ done !))
+      feq_i ! (List ℕ) x.items ws is $ fjoin ! $ show ! (λ i. sem 𝓛 (Full ws i.backing)) (record { backing = x }) $ done !))
 
 abbrev args : RattleType → Dict → Dict → Args
 args A d dd = bounded (a_type ∷ []) (A, tt) (dcons d (dcons dd dnil))

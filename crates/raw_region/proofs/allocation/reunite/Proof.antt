@@ -61,7 +61,7 @@ reunite_spec 𝓤 𝓛 𝓜 𝓡 wired A L g d dd met md =
     let ws = words_at h.places 0 e.size in
     let Places = places_own h.home h.places 0 (length h.places) in
     let Given = λ (xs : List ℕ). fsep (feq ℕ (length xs) e.size) (run_at e.at xs) in
-    let Full = λ (xs : List ℕ). fex (Inside P.Denot) (λ i. fsep (feq (List ℕ) i.vec.items xs) ((Inner P g).own_val i vss.1.0)) in
+    let Full = λ (xs : List ℕ). fex (Inside P.Denot) (λ i. fsep (feq (List ℕ) i.backing.items xs) ((Inner P g).own_val i vss.1.0)) in
     let Asked = (h.home ≡ e) × InBlock e.at × (length h.places ≡ e.size) × AreHeld h.places 0 e.size in
     qed 𝓛 ((raw (alive 𝓛 T.signature y.0.0 y.0.1) ⊛ ‵ (owns (types_at T.signature.params y.0.0) y.0.3 vss)) ∷ (raw (fact 𝓤 (y.0.0.0 ⊑ A.lives)) ⊛ raw (fact 𝓤 Asked)) ∷ []) ∵
     move ! (1 ∷ []) $ split ! $ drop ! $ heard ! Asked (λ asked. split ! $ move ! (1 ∷ []) $ fsplit ! $
@@ -73,9 +73,9 @@ reunite_spec 𝓤 𝓛 𝓜 𝓡 wired A L g d dd met md =
     use1 𝓛 (‵ (fwand (Given ws) (Full ws))) (all_e 𝓤 (λ xs. sem 𝓛 (fwand (Given xs) (Full xs))) ws) $ move ! (2 ∷ []) $
     feq_i ! ℕ (length ws) e.size long $ fjoin ! $ use2 𝓛 (‵ (Full ws)) (apply∗ 𝓤 (sem 𝓛 (Given ws)) (sem 𝓛 (Full ws))) $
     fpick ! (λ i. fsplit ! $ feq_l ! (λ is_ws.
-    use1 𝓛 (some (λ (parts : Valss (V ∷ [])). given (vss.1.0 ≡ vstruct (of_list (flat (V ∷ []) parts)) ∷ []) (‵ (owns (V ∷ []) (i.vec, tt) parts)))) (apart 𝓛 (V ∷ []) (i.vec, tt) vss.1.0) $
+    use1 𝓛 (some (λ (parts : Valss (V ∷ [])). given (vss.1.0 ≡ vstruct (of_list (flat (V ∷ []) parts)) ∷ []) (‵ (owns (V ∷ []) (i.backing, tt) parts)))) (apart 𝓛 (V ∷ []) (i.backing, tt) vss.1.0) $
     pick ! (λ parts. learn ! (λ is_parts. fsplit ! $
-    handle_tells (as_handle V (vec.the_row_laws u64 P g word_laws (param_laws 0 A L))) ! i.vec parts.0 (λ u is good.
+    handle_tells (as_handle V (vec.the_row_laws u64 P g word_laws (param_laws 0 A L))) ! i.backing parts.0 (λ u is good.
     let shell = vstruct (vcons u vnil) in
     let is_shell : vss.1.0 ≡ shell ∷ [] = is_parts ∙ ap (λ (us : List Val). vstruct (of_list (us ++ [])) ∷ []) is in
     regoal ! (λ (us : List Val). prop (WpFn 𝓤 𝓛.H 𝓣.C 𝓣.Λ fn (us ++ (vss.1.0 ++ [])) Post)) is_bare refl $
@@ -84,5 +84,5 @@ reunite_spec 𝓤 𝓛 𝓜 𝓡 wired A L g d dd met md =
     sets ! (of_opd ! (get_in ! (fld ! refl (stop !)) (sub ! 0 refl (all_of !)))) refl good $
     sets ! (of_opd ! (get ! refl)) refl good $ returns ! (look_at ! 0 refl) $ free_all ! refl $
     -- [the `Vec`; nothing; nothing; the tokens]
-    suffices ! _ (ends_at 𝓛 T hs c y u i.vec (tt, (tt, tt)) (tt, (tt, tt))) $ says ! is_ws $
+    suffices ! _ (ends_at 𝓛 T hs c y u i.backing (tt, (tt, tt)) (tt, (tt, tt))) $ says ! is_ws $
     nothing ! $ nothing ! $ fjoin ! $ nothing ! $ fjoin ! $ keep ! (4 ∷ 0 ∷ 1 ∷ []) $ done !))))))))))

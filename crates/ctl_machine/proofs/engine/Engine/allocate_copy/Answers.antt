@@ -17,8 +17,8 @@ returns-then-not-exists-clause-ok g c =
     let p = source_part code old c.args.access c.args.place c.args.record g.s.2 g.s.1 s b in
     let count = c.count_spots-newest in
     let spot = newest_read old.spots.items (standing s.control (drop 1 s.operands)) (first_spot s.operands) c.index.result.now count.result p.spots count.ensures.count c.index.ensures in
-    let none = none_there (object_in c.object.result old.objects) (sym c.exists.ensures ∙ c.if-not-exists.true) in
-    source_gone code old _ c.args.access c.args.place c.args.record g.s.2 g.s.1 s b (ap (λ n. object_in n old.objects) (sym (c.object.ensures ∙ ap (λ (x : Spot). x.object) spot)) ∙ none) c.go_on.ensures
+    let none = none_there (object_in c.object.result old.stock.objects) (sym c.exists.ensures ∙ c.if-not-exists.true) in
+    source_gone code old _ c.args.access c.args.place c.args.record g.s.2 g.s.1 s b (ap (λ n. object_in n old.stock.objects) (sym (c.object.ensures ∙ ap (λ (x : Spot). x.object) spot)) ∙ none) c.go_on.ensures
 
 pub set_for-requires : goal.set_for-requires
 set_for-requires g c = let b = c.requires.1.0 in (b.inside.holds, (b.fine.1.0, b.fine.1.1, b.fine.1.2))

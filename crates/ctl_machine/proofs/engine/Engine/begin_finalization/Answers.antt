@@ -1,10 +1,9 @@
-use Rattle.std.proofs.Common.{List, subst, sym}
-use Rattle.ctl_meaning.specs.World.{Object}
+use Rattle.std.proofs.Common.{subst, sym}
 use Rattle.ctl_meaning.specs.Objects.{with_begun}
 use Rattle.ctl_meaning.specs.Changes.{begin_finalization, opened_changes}
-use Rattle.ctl_machine.specs.Finishing.{with_objects}
-use Rattle.ctl_machine.specs.Shows.{Holds, kept}
+use Rattle.ctl_machine.specs.Shows.{Holds, Kept, kept}
 use Rattle.ctl_machine.proofs.Owned.{begun_keeps, holds_changed}
+use Rattle.ctl_machine.proofs.Stocked.{stocked}
 use Rattle.ctl_machine.proofs.engine.Engine.begin_finalization.Goals as goal
 
 pub returns-clause-holds : goal.returns-clause-holds
@@ -12,4 +11,4 @@ unfolding opened_changes
 returns-clause-holds c = λ code k ops w h.
     let old = c.args.self.now in
     let n = c.args.number in
-    subst (λ (os : List Object). Holds code (with_objects os (kept old)) k ops (begin_finalization n w)) (sym c.begin_finalization.ensures) (holds_changed code (kept old) k ops w n with_begun begun_keeps h)
+    subst (λ (e : Kept). Holds code e k ops (begin_finalization n w)) (sym (stocked (kept old) c.begin_finalization.new.self _ c.begin_finalization.ensures.objects c.begin_finalization.ensures.needs)) (holds_changed code (kept old) k ops w n with_begun begun_keeps h)

@@ -34,4 +34,4 @@ returns-clause-objects g c =
     let owned = c.args.self.now.owned.items in
     let x = c.index_mut-object.result.now in
     let same = same_at x g.o (slice_get owned c.args.at) (got owned c.args.at x (slice_get_within owned c.args.at g.o c.requires.0) c.index_mut-object.ensures.value) c.requires.0 in
-    c.begin_finalization.ensures ∙ ap (λ (o : Owned). change_in o.number with_begun c.args.self.now.objects) same
+    c.begin_finalization.ensures.objects ∙ ap (λ (o : Owned). change_in o.number with_begun c.args.self.now.stock.objects) same

@@ -9,6 +9,7 @@ use Rattle.ctl_machine.specs.Moves.{Makes}
 use Rattle.ctl_machine.specs.Shows.{Kept, kept, with_spots}
 use Rattle.ctl_machine.proofs.Owned.{found_below, newest_above, none_there, some_there}
 use Rattle.ctl_machine.proofs.CopyDeclared.{copy_kept, copied_at, copied_gone, copied_is, copied_part}
+use Rattle.ctl_machine.proofs.Stocked.{copied_stock}
 use Rattle.ctl_machine.proofs.Words.{newest_read, same_front}
 use Rattle.ctl_machine.specs.Spots.{first_spot, standing}
 use Rattle.ctl_meaning.specs.Finalization.{Spot}
@@ -31,8 +32,8 @@ returns-then-not-exists-clause-ok g c =
     let count = c.count_spots-newest_spot in
     let y = first_spot g.s.operands in
     let spot = newest_read old.spots.items (standing g.s.control (drop 1 g.s.operands)) y c.index-spot.result.now count.result p.spots count.ensures.count c.index-spot.ensures in
-    let none = none_there (object_in c.object-source.result old.objects) (sym c.exists.ensures ∙ c.if-not-exists.true) in
-    copied_gone code old _ c.args.place c.args.slot c.args.record g.s c.requires.1.0 (ap (λ n. object_in n old.objects) (sym (c.object-source.ensures ∙ ap (λ (x : Spot). x.object) spot)) ∙ none)
+    let none = none_there (object_in c.object-source.result old.stock.objects) (sym c.exists.ensures ∙ c.if-not-exists.true) in
+    copied_gone code old _ c.args.place c.args.slot c.args.record g.s c.requires.1.0 (ap (λ n. object_in n old.stock.objects) (sym (c.object-source.ensures ∙ ap (λ (x : Spot). x.object) spot)) ∙ none)
     (record { mode = refl; kept = refl; events = refl; picks = refl })
 
 pub create-requires-clause-cell : goal.create-requires-clause-cell
@@ -62,8 +63,8 @@ copy-requires g c = λ e.
     let old = c.args.self.now in
     let given = c.in_ok-create.ensures.number in
     let before = ap (λ (n : Numbered). n.objects) c.in_ok-reserve_object.ensures.number in
-    let some = some_there (object_in c.object-source.result old.objects) (sym c.exists.ensures ∙ c.if-not-exists.false) in
-    let less = found_below old.owned.items (old.numbered.objects + 1) old.objects c.object-source.result some.0 c.requires.1.0.inside.holds.owns some.1 in
+    let some = some_there (object_in c.object-source.result old.stock.objects) (sym c.exists.ensures ∙ c.if-not-exists.false) in
+    let less = found_below old.owned.items (old.numbered.objects + 1) old.stock.objects c.object-source.result some.0 c.requires.1.0.inside.holds.owns some.1 in
     omega (arith, e, given, before, less)
 
 pub adjust_new-requires : goal.adjust_new-requires
@@ -82,15 +83,16 @@ adjust_new-requires g c =
     let spots : made.spots.items ≡ old.spots.items = ap (λ (e : Kept). e.spots) c.in_ok-create.ensures.kept ∙ ap (λ (e : Kept). e.spots) same.kept in
     let popped = (same_front c.take_last.new.self.items below c.take_last.result y (sym c.take_last.ensures.items ∙ (spots ∙ p.spots))).0 in
     let mid : Engine = record old { spots = c.take_last.new.self } in
-    let some = some_there (object_in c.object-source.result old.objects) (sym c.exists.ensures ∙ c.if-not-exists.false) in
+    let some = some_there (object_in c.object-source.result old.stock.objects) (sym c.exists.ensures ∙ c.if-not-exists.false) in
     let number : c.object-source.result ≡ y.object = c.object-source.ensures ∙ ap (λ (x : Spot). x.object) spot in
     let start : c.offset-start.result ≡ y.offset = c.offset-start.ensures ∙ ap (λ (x : Spot). x.offset) spot in
     let given : made.numbered.objects ≡ old.numbered.objects + 1 = c.in_ok-create.ensures.number ∙ ap (λ (n : Numbered). n.objects + 1) c.in_ok-reserve_object.ensures.number in
-    let begun : Engine = record made { spots = c.take_last.new.self; objects = c.copy.new.self } in
-    let are = copy_kept (kept old) (kept ready) (kept made) c.copy.new.self c.take_last.new.self.items m c.args.slot c.args.record c.size_of-size.result c.object-source.result c.offset-start.result y.offset (size_of code c.args.record) made.numbered.objects some.0
-    same.kept c.in_ok-create.ensures.kept given some.1 start c.size_of-size.ensures c.copy.ensures in
+    let begun : Engine = record made { spots = c.take_last.new.self; stock = c.copy.new.self } in
+    let are = copied_stock (kept made) c.copy.new.self c.take_last.new.self.items c.copy.ensures.needs
+    ∙ copy_kept (kept old) (kept ready) (kept made) c.copy.new.self.objects c.take_last.new.self.items m c.args.slot c.args.record c.size_of-size.result c.object-source.result c.offset-start.result y.offset (size_of code c.args.record) made.numbered.objects some.0
+    same.kept c.in_ok-create.ensures.kept given some.1 start c.size_of-size.ensures c.copy.ensures.objects in
     let copied = copied_is code old mid begun c.args.place c.args.slot c.args.record g.s m some.0 c.requires.1.0 (ap (λ (l : List Spot). with_spots (kept old) l) popped) c.newest-newest.ensures.last
-    (ap (λ n. object_in n old.objects) (sym number) ∙ some.1) are given in
+    (ap (λ n. object_in n old.stock.objects) (sym number) ∙ some.1) are given in
     let slot : (newest_object made.owned.items).slot ≡ c.args.slot = ap (λ (e : Kept). (newest_object e.owned).slot) c.in_ok-create.ensures.kept ∙ ap (λ (x : Owned). x.slot) (newest_object_is ready.owned.items (row_of m c.args.slot c.args.record (kept ready))) in
     let room = c.in_ok-reserve_object.ensures.control in
     let frames = c.in_ok-create.ensures.control in
@@ -122,15 +124,16 @@ returns-clause-ok g c =
     let spots : made.spots.items ≡ old.spots.items = ap (λ (e : Kept). e.spots) c.in_ok-create.ensures.kept ∙ ap (λ (e : Kept). e.spots) same.kept in
     let popped = (same_front c.take_last.new.self.items below c.take_last.result y (sym c.take_last.ensures.items ∙ (spots ∙ p.spots))).0 in
     let mid : Engine = record old { spots = c.take_last.new.self } in
-    let some = some_there (object_in c.object-source.result old.objects) (sym c.exists.ensures ∙ c.if-not-exists.false) in
+    let some = some_there (object_in c.object-source.result old.stock.objects) (sym c.exists.ensures ∙ c.if-not-exists.false) in
     let number : c.object-source.result ≡ y.object = c.object-source.ensures ∙ ap (λ (x : Spot). x.object) spot in
     let start : c.offset-start.result ≡ y.offset = c.offset-start.ensures ∙ ap (λ (x : Spot). x.offset) spot in
     let given : made.numbered.objects ≡ old.numbered.objects + 1 = c.in_ok-create.ensures.number ∙ ap (λ (n : Numbered). n.objects + 1) c.in_ok-reserve_object.ensures.number in
-    let begun : Engine = record made { spots = c.take_last.new.self; objects = c.copy.new.self } in
-    let are = copy_kept (kept old) (kept ready) (kept made) c.copy.new.self c.take_last.new.self.items m c.args.slot c.args.record c.size_of-size.result c.object-source.result c.offset-start.result y.offset (size_of code c.args.record) made.numbered.objects some.0
-    same.kept c.in_ok-create.ensures.kept given some.1 start c.size_of-size.ensures c.copy.ensures in
+    let begun : Engine = record made { spots = c.take_last.new.self; stock = c.copy.new.self } in
+    let are = copied_stock (kept made) c.copy.new.self c.take_last.new.self.items c.copy.ensures.needs
+    ∙ copy_kept (kept old) (kept ready) (kept made) c.copy.new.self.objects c.take_last.new.self.items m c.args.slot c.args.record c.size_of-size.result c.object-source.result c.offset-start.result y.offset (size_of code c.args.record) made.numbered.objects some.0
+    same.kept c.in_ok-create.ensures.kept given some.1 start c.size_of-size.ensures c.copy.ensures.objects in
     let copied = copied_is code old mid begun c.args.place c.args.slot c.args.record g.s m some.0 c.requires.1.0 (ap (λ (l : List Spot). with_spots (kept old) l) popped) c.newest-newest.ensures.last
-    (ap (λ n. object_in n old.objects) (sym number) ∙ some.1) are given in
+    (ap (λ n. object_in n old.stock.objects) (sym number) ∙ some.1) are given in
     let slot : (newest_object made.owned.items).slot ≡ c.args.slot = ap (λ (e : Kept). (newest_object e.owned).slot) c.in_ok-create.ensures.kept ∙ ap (λ (x : Owned). x.slot) (newest_object_is ready.owned.items (row_of m c.args.slot c.args.record (kept ready))) in
     let b = c.requires.1.0 in
     let has = has_object code old b.stack c.args.slot c.args.record g.s g.s.operands m b.inside c.newest-newest.ensures.last in

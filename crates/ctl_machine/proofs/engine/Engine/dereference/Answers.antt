@@ -25,7 +25,7 @@ returns-then-not-exists-clause-gone g c = λ t new goes.
     let old = c.args.self.now in
     let x = c.take-object.result in
     let some : x ≢ 0 = λ z. omega (arith, z, c.if-object-eq0.false) in
-    let none = none_there (object_in x old.objects) (sym c.exists.ensures ∙ c.if-not-exists.true) in
+    let none = none_there (object_in x old.stock.objects) (sym c.exists.ensures ∙ c.if-not-exists.true) in
     designated_gone c.args.code.now old new c.args.place c.requires.0.0 c.args.at x g.s c.requires.0.1 c.take-object.ensures some none goes t
 
 pub returns-clause-passed : goal.returns-clause-passed
@@ -33,7 +33,7 @@ returns-clause-passed g c = λ t.
     let old = c.args.self.now in
     let x = c.take-object.result in
     let some : x ≢ 0 = λ z. omega (arith, z, c.if-object-eq0.false) in
-    let there = some_there (object_in x old.objects) (sym c.exists.ensures ∙ c.if-not-exists.false) in
+    let there = some_there (object_in x old.stock.objects) (sym c.exists.ensures ∙ c.if-not-exists.false) in
     let new : Engine = record old { mode = At (c.args.place + 1); spots = c.push_reserved.new.self } in (
       refl,
       designated_makes c.args.code.now old new c.args.place c.requires.0.0 c.args.at x g.s there.0 c.requires.0.1 c.take-object.ensures some there.1 refl

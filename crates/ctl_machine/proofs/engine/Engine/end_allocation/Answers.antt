@@ -1,5 +1,4 @@
-use Rattle.std.proofs.Common.{◌≡◌, ◌∙◌, ◌+◌, ℕ, List, ap, arith, drop, refl, reverse, subst, sym}
-use Rattle.ctl_meaning.specs.World.{Object}
+use Rattle.std.proofs.Common.{◌≡◌, ◌∙◌, ◌+◌, ℕ, ap, arith, drop, refl, reverse, subst, sym}
 use Rattle.ctl_code.specs.declared.code.Way.TheVariants as WayOf
 use Rattle.ctl_code.specs.Kinds.{stack_at}
 use Rattle.ctl_code.specs.States as T
@@ -16,22 +15,23 @@ use Rattle.ctl_machine.specs.Shows.{Kept, kept, tried_of}
 use Rattle.ctl_machine.proofs.AfterInitialize.{fine_of}
 use Rattle.ctl_machine.proofs.Allocated.{allocator_joins, allocator_raises, allocator_stops, join_within, with_member, with_value}
 use Rattle.ctl_machine.proofs.Foreign.{foreign_allocated}
+use Rattle.ctl_machine.proofs.Stocked.{stocked}
 use Rattle.ctl_machine.proofs.engine.Engine.end_allocation.Goals as goal
 
 pub forget-requires : goal.forget-requires
 forget-requires g c =
     let old = c.args.self.now in
     let m = c.requires.1 in
-    foreign_allocated c.args.object (old.numbered.objects + 1) old.objects old.owned.items m.inside.holds.owns m.foreign
+    foreign_allocated c.args.object (old.numbered.objects + 1) old.stock.objects old.owned.items m.inside.holds.owns m.foreign
 
 pub returns-in-Raised : goal.returns-in-Raised
 returns-in-Raised g c =
     let code = c.args.code.now in
     let old = c.args.self.now in
     let s = g.s in
-    let new : Engine = record old { objects = c.forget.new.self; mode = ModeOf.Transfers (WayOf.Raise c.in-Raised.exception) } in
+    let new : Engine = record old { stock = c.forget.new.self; mode = ModeOf.Transfers (WayOf.Raise c.in-Raised.exception) } in
     subst (λ (x : Ended). Makes code old new (by_creating (tried_of x) T.ByAllocator c.args.object (point_at c.args.place s) s.control s.world)) (sym c.in-Raised.is)
-    (allocator_raises code old new c.args.object c.args.place s c.in-Raised.exception c.requires.1 refl (ap (λ (l : List Object). with_objects l (kept old)) c.forget.ensures) refl refl)
+    (allocator_raises code old new c.args.object c.args.place s c.in-Raised.exception c.requires.1 refl (stocked (kept old) c.forget.new.self _ c.forget.ensures.objects c.forget.ensures.needs) refl refl)
 
 pub may_join-requires : goal.may_join-requires
 may_join-requires g c = c.requires.1.inside.holds
@@ -64,8 +64,8 @@ returns g c =
     let fine = fine_of c.args.ended c.in_default.not-Raised in
     let first = first_window (reverse old.masters.items) in
     let at = height (drop 1 (stack_at code.kinds c.args.place)) in
-    let made : List Object → ℕ → Kept = λ os n. with_value n c.args.object (with_objects os (kept old)) in
+    let made : Kept → ℕ → Kept = λ e n. with_value n c.args.object e in
     let cell : c.window.result + c.height_at.result ≡ first + at = ap (λ n. n + c.height_at.result) c.window.ensures ∙ ap (λ n. first + n) c.height_at.ensures in
     allocator_joins code old _ c.args.object c.args.place g.s (tried_of c.args.ended) fine.0 fine.1 c.requires.0 c.requires.1 (c.may_join.ensures.may c.if-not-may_join.false) refl
-    (ap (λ (l : List Object). made l (c.window.result + c.height_at.result)) c.join.ensures ∙ ap (λ n. made (with_member c.args.object old.objects) n) cell)
+    (ap (λ (e : Kept). made e (c.window.result + c.height_at.result)) (stocked (kept old) c.join.new.self _ c.join.ensures.objects c.join.ensures.needs) ∙ ap (λ n. made (with_objects (with_member c.args.object old.stock.objects) (kept old)) n) cell)
     refl refl

@@ -1,4 +1,4 @@
-use Rattle.std.proofs.Common.{◌≡◌, ◌∷◌, ◌+◌, ◌∙◌, [], ℕ, List, None, Some, ap, refl, subst, sym}
+use Rattle.std.proofs.Common.{◌≡◌, ◌+◌, ◌∙◌, List, None, Some, ap, refl, subst, sym}
 use Rattle.std.specs.Prelude.{IfSome}
 use Rattle.ctl_meaning.specs.Finalization.{Spot}
 use Rattle.ctl_meaning.specs.Objects.{object_in}
@@ -13,7 +13,7 @@ use Rattle.ctl_machine.proofs.Foreign.{foreign_allocated, forgotten}
 use Rattle.ctl_machine.proofs.Freed.{behind_frame, freeing, stands_behind}
 use Rattle.ctl_machine.proofs.FreedPart.{dropped_so, null_inside, null_written, nulled_part, part_ends, part_stops, with_null}
 use Rattle.ctl_machine.proofs.Owned.{none_there, some_there}
-use Rattle.ctl_machine.proofs.Words.{many_of}
+use Rattle.ctl_machine.proofs.Stocked.{stocked}
 use Rattle.ctl_machine.proofs.engine.Engine.end_in_part.Goals as goal
 
 pub returns-then-not-exists : goal.returns-then-not-exists
@@ -28,9 +28,9 @@ returns-then-not-exists g c =
     let d = c.drop_frame-component in
     let dropped = dropped_so old d.new.self (FrameOf.Freeing c.args.object NulledOf.Part c.args.place) top.0 parts x.part d.result d.ensures top.1 x.spots in
     let number : c.object.result ≡ x.part.object = c.object.ensures ∙ ap (λ (s : Spot). s.object) dropped.same in
-    let none : object_in c.object.result d.new.self.objects ≡ None = none_there (object_in c.object.result d.new.self.objects) (sym c.exists.ensures ∙ c.if-not-exists.true) in
+    let none : object_in c.object.result d.new.self.stock.objects ≡ None = none_there (object_in c.object.result d.new.self.stock.objects) (sym c.exists.ensures ∙ c.if-not-exists.true) in
     part_stops code old _ c.args.ended c.args.object c.args.place top.0 g.s b top.1 u x
-    (ap (λ (e : Kept). object_in x.part.object e.objects) (sym dropped.kept) ∙ (ap (λ n. object_in n d.new.self.objects) (sym number) ∙ none)) refl dropped.kept d.ensures.events d.ensures.picks
+    (ap (λ (e : Kept). object_in x.part.object e.objects) (sym dropped.kept) ∙ (ap (λ n. object_in n d.new.self.stock.objects) (sym number) ∙ none)) refl dropped.kept d.ensures.events d.ensures.picks
 
 pub forget-requires : goal.forget-requires
 forget-requires g c =
@@ -45,7 +45,7 @@ forget-requires g c =
     let d = c.drop_frame-component in
     let dropped = dropped_so old d.new.self (FrameOf.Freeing c.args.object NulledOf.Part c.args.place) top.0 parts x.part d.result d.ensures top.1 x.spots in
     let e = with_null x.part (behind_frame top.0 parts (kept old)) in
-    let written : c.write.new.self ≡ e.objects = null_written c.write.new.self d.new.self.objects old.objects c.object-2.result c.offset.result x.part c.write.ensures (c.object-2.ensures ∙ ap (λ (s : Spot). s.object) dropped.same) (c.offset.ensures ∙ ap (λ (s : Spot). s.offset) dropped.same) (ap (λ (z : Kept). z.objects) dropped.kept) in
+    let written : c.write.new.self.objects ≡ e.objects = null_written c.write.new.self.objects d.new.self.stock.objects old.stock.objects c.object-2.result c.offset.result x.part c.write.ensures.objects (c.object-2.ensures ∙ ap (λ (s : Spot). s.object) dropped.same) (c.offset.ensures ∙ ap (λ (s : Spot). s.offset) dropped.same) (ap (λ (z : Kept). z.objects) dropped.kept) in
     let i = null_inside code (behind_frame top.0 parts (kept old)) v.stack u.waiting u.point.operands g.s.world x.part v.inside in
     subst (λ (l : List Object). IfSome (object_in c.args.object l) (λ o. Order.IsAllocated o.origin)) (sym written)
     (foreign_allocated c.args.object (old.numbered.objects + 1) e.objects old.owned.items i.holds.owns u.foreign)
@@ -62,11 +62,11 @@ returns g c =
     let d = c.drop_frame-component in
     let dropped = dropped_so old d.new.self (FrameOf.Freeing c.args.object NulledOf.Part c.args.place) top.0 parts x.part d.result d.ensures top.1 x.spots in
     let number : c.object.result ≡ x.part.object = c.object.ensures ∙ ap (λ (s : Spot). s.object) dropped.same in
-    let some = some_there (object_in c.object.result d.new.self.objects) (sym c.exists.ensures ∙ c.if-not-exists.false) in
-    let found : object_in x.part.object old.objects ≡ Some some.0 = ap (λ (e : Kept). object_in x.part.object e.objects) (sym dropped.kept) ∙ (ap (λ n. object_in n d.new.self.objects) (sym number) ∙ some.1) in
+    let some = some_there (object_in c.object.result d.new.self.stock.objects) (sym c.exists.ensures ∙ c.if-not-exists.false) in
+    let found : object_in x.part.object old.stock.objects ≡ Some some.0 = ap (λ (e : Kept). object_in x.part.object e.objects) (sym dropped.kept) ∙ (ap (λ n. object_in n d.new.self.stock.objects) (sym number) ∙ some.1) in
     let e = with_null x.part (behind_frame top.0 parts (kept old)) in
-    let written : c.write.new.self ≡ e.objects = null_written c.write.new.self d.new.self.objects old.objects c.object-2.result c.offset.result x.part c.write.ensures (c.object-2.ensures ∙ ap (λ (s : Spot). s.object) dropped.same) (c.offset.ensures ∙ ap (λ (s : Spot). s.offset) dropped.same) (ap (λ (z : Kept). z.objects) dropped.kept) in
+    let written : c.write.new.self.objects ≡ e.objects = null_written c.write.new.self.objects d.new.self.stock.objects old.stock.objects c.object-2.result c.offset.result x.part c.write.ensures.objects (c.object-2.ensures ∙ ap (λ (s : Spot). s.object) dropped.same) (c.offset.ensures ∙ ap (λ (s : Spot). s.offset) dropped.same) (ap (λ (z : Kept). z.objects) dropped.kept) in
     part_ends code old _ c.args.ended c.args.object c.args.place top.0 g.s some.0 b top.1 u x found c.mode_freed-self.ensures
-    (ap (λ (z : Kept). with_objects c.forget.new.self z) dropped.kept
-    ∙ ap (λ (l : List Object). with_objects l (behind_frame top.0 parts (kept old))) (c.forget.ensures ∙ ap (λ (l : List Object). forgotten c.args.object l) written))
+    (stocked (kept d.new.self) c.forget.new.self _ (c.forget.ensures.objects ∙ ap (λ (l : List Object). forgotten c.args.object l) written) (c.forget.ensures.needs ∙ c.write.ensures.needs)
+    ∙ ap (λ (z : Kept). with_objects (forgotten c.args.object e.objects) z) dropped.kept)
     d.ensures.events d.ensures.picks

@@ -6,12 +6,12 @@ use Rattle.ctl_objects.specs.Order as Order
 use Rattle.ctl_machine.specs.declared.frame.Frame.{Frame}
 use Rattle.ctl_machine.specs.declared.frame.Frame.TheVariants as FrameOf
 use Rattle.ctl_machine.specs.declared.frame.Nulled.TheVariants as NulledOf
-use Rattle.ctl_machine.specs.Finishing.{with_objects}
 use Rattle.ctl_machine.specs.Masters.{first_display, heads_of}
 use Rattle.ctl_machine.specs.Shows.{Kept, kept}
 use Rattle.ctl_machine.proofs.AfterInitialize.{rest_is}
 use Rattle.ctl_machine.proofs.Foreign.{foreign_allocated}
 use Rattle.ctl_machine.proofs.Freed.{freeing, gives_on, variable_ends, without_frame}
+use Rattle.ctl_machine.proofs.Stocked.{stocked, with_stock}
 use Rattle.ctl_machine.proofs.engine.Engine.end_in_variable.Goals as goal
 
 pub give-requires : goal.give-requires
@@ -25,7 +25,7 @@ forget-requires g c =
     let u = freeing c.args.code.now old c.args.object (NulledOf.Variable c.args.out c.args.slot) c.args.place top.0 g.s b top.1 in
     let goes = gives_on (first_display (heads_of g.s.world.activations)) c.args.out c.args.slot 0 c.args.place old c.give.new.self c.give.ensures.gives in
     subst (λ (l : List Object). IfSome (object_in c.args.object l) (λ o. Order.IsAllocated o.origin)) (sym (ap (λ (e : Kept). e.objects) goes.kept))
-    (foreign_allocated c.args.object (old.numbered.objects + 1) old.objects old.owned.items b.holds.owns u.foreign)
+    (foreign_allocated c.args.object (old.numbered.objects + 1) old.stock.objects old.owned.items b.holds.owns u.foreign)
 
 pub returns : goal.returns
 returns g c =
@@ -38,5 +38,5 @@ returns g c =
     let there : reverse mid.control.items ≡ frame ∷ top.0 = ap (λ (e : Kept). e.control) goes.kept ∙ top.1 in
     let rest : reverse c.take_last.new.self.items ≡ top.0 = rest_is mid.control.items c.take_last.new.self.items c.take_last.result frame top.0 c.take_last.ensures.items there in
     variable_ends c.args.code.now old mid _ c.args.ended c.args.object c.args.out c.args.slot c.args.place top.0 g.s b top.1 c.give.ensures.gives c.mode_freed-self.ensures
-    (ap (λ (l : List Frame). with_objects c.forget.new.self (without_frame l (kept mid))) rest ∙ ap (λ (l : List Object). with_objects l (without_frame top.0 (kept mid))) c.forget.ensures)
+    (ap (λ (l : List Frame). with_stock c.forget.new.self (without_frame l (kept mid))) rest ∙ stocked (without_frame top.0 (kept mid)) c.forget.new.self _ c.forget.ensures.objects c.forget.ensures.needs)
     refl refl

@@ -1,13 +1,13 @@
 use Rattle.std.proofs.Common.{◌≡◌, ◌+◌, ◌∙◌, [], ◌∷◌, List, ap, drop, refl, sym}
 use Rattle.ctl_meaning.specs.Finalization.{Spot}
 use Rattle.ctl_meaning.specs.Objects.{change_in, object_in, with_cells}
-use Rattle.ctl_meaning.specs.World.{Object}
 use Rattle.ctl_machine.specs.declared.engine.Engine.{Engine}
 use Rattle.ctl_machine.specs.declared.frame.Mode.TheVariants.{At}
 use Rattle.ctl_machine.specs.Shows.{kept}
 use Rattle.ctl_machine.specs.Spots.{first_spot, standing}
 use Rattle.ctl_machine.proofs.Owned.{none_there, some_there}
 use Rattle.ctl_machine.proofs.PartStored.{is_given, parts_of, value_within, part_makes, store_gone}
+use Rattle.ctl_machine.proofs.Stocked.{stocked}
 use Rattle.ctl_machine.proofs.Words.{newest_read, same_front}
 use Rattle.ctl_machine.proofs.engine.Engine.store_part.Goals as goal
 
@@ -28,18 +28,18 @@ returns-clause-passed g c = λ t position ty same.
     let popped = (same_front c.take_last.new.self.items below c.take_last.result y (sym c.take_last.ensures.items ∙ i.spots)).0 in
     let number : c.object-object.result ≡ y.object = c.object-object.ensures ∙ ap (λ (x : Spot). x.object) spot in
     let start : c.offset-start.result ≡ y.offset = c.offset-start.ensures ∙ ap (λ (x : Spot). x.offset) spot in
-    let there = some_there (object_in c.object-object.result old.objects) (sym c.exists.ensures ∙ c.if-not-exists.false) in
+    let there = some_there (object_in c.object-object.result old.stock.objects) (sym c.exists.ensures ∙ c.if-not-exists.false) in
     let value = c.take-value.result in
-    let written : c.write_part.new.self ≡ change_in y.object (with_cells (y.offset + c.args.offset) (value ∷ [])) old.objects =
-    c.write_part.ensures
-    ∙ (ap (λ n. change_in n (with_cells (c.offset-start.result + c.args.offset) (value ∷ [])) old.objects) number
-    ∙ ap (λ n. change_in y.object (with_cells (n + c.args.offset) (value ∷ [])) old.objects) start) in
-    let new : Engine = record old { mode = At (c.args.place + 1); objects = c.write_part.new.self; spots = c.take_last.new.self } in (
+    let written : c.write_part.new.self.objects ≡ change_in y.object (with_cells (y.offset + c.args.offset) (value ∷ [])) old.stock.objects =
+    c.write_part.ensures.objects
+    ∙ (ap (λ n. change_in n (with_cells (c.offset-start.result + c.args.offset) (value ∷ [])) old.stock.objects) number
+    ∙ ap (λ n. change_in y.object (with_cells (n + c.args.offset) (value ∷ [])) old.stock.objects) start) in
+    let new : Engine = record old { mode = At (c.args.place + 1); stock = c.write_part.new.self; spots = c.take_last.new.self } in (
       refl,
       part_makes code old new c.args.place g.s from r.0 r.1 c.args.offset value r.2 there.0 r.3 c.take-value.ensures
-          (ap (λ n. object_in n old.objects) (sym number) ∙ there.1) refl
-          (ap (λ (l : List Object). record (kept old) { objects = l; spots = c.take_last.new.self.items }) written
-          ∙ ap (λ (l : List Spot). record (kept old) { objects = change_in y.object (with_cells (y.offset + c.args.offset) (value ∷ [])) old.objects; spots = l }) popped)
+          (ap (λ n. object_in n old.stock.objects) (sym number) ∙ there.1) refl
+          (stocked (record (kept old) { spots = c.take_last.new.self.items }) c.write_part.new.self _ written c.write_part.ensures.needs
+          ∙ ap (λ (l : List Spot). record (kept old) { objects = change_in y.object (with_cells (y.offset + c.args.offset) (value ∷ [])) old.stock.objects; spots = l }) popped)
           refl refl t position ty same,
     )
 
@@ -53,5 +53,5 @@ returns-then-not-exists-clause-gone g c = λ t position ty same new goes.
     let y = first_spot (parts_of from g.s) in
     let count = c.count_spots-newest in
     let spot = newest_read old.spots.items (standing g.s.control (drop 1 (parts_of from g.s))) y c.index-spot.result.now count.result i.spots count.ensures.count c.index-spot.ensures in
-    let none = none_there (object_in c.object-object.result old.objects) (sym c.exists.ensures ∙ c.if-not-exists.true) in
-    store_gone code old new c.args.place g.s from r.0 r.1 c.args.offset r.2 r.3 (ap (λ n. object_in n old.objects) (sym (c.object-object.ensures ∙ ap (λ (x : Spot). x.object) spot)) ∙ none) goes t position ty same
+    let none = none_there (object_in c.object-object.result old.stock.objects) (sym c.exists.ensures ∙ c.if-not-exists.true) in
+    store_gone code old new c.args.place g.s from r.0 r.1 c.args.offset r.2 r.3 (ap (λ n. object_in n old.stock.objects) (sym (c.object-object.ensures ∙ ap (λ (x : Spot). x.object) spot)) ∙ none) goes t position ty same

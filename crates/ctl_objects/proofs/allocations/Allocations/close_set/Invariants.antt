@@ -5,7 +5,10 @@ use Rattle.ctl_objects.proofs.allocations.Allocations.close_set.Given as goal
 
 -- what is left but for the collection
 abbrev pub invariant-loop-number : goal.invariant-loop-number
-invariant-loop-number l = keep (λ o. not (is_of_set l.set o.origin)) l.self ≡ keep (λ o. not (is_of_set l.set o.origin)) l.fn.self
+invariant-loop-number l = record {
+  objects : keep (λ o. not (is_of_set l.set o.origin)) l.self.objects ≡ keep (λ o. not (is_of_set l.set o.origin)) l.fn.self.objects;
+  needs : l.self.needs ≡ l.fn.self.needs;
+}
 
 abbrev pub decreases-loop-number : goal.decreases-loop-number
-decreases-loop-number l = length l.self
+decreases-loop-number l = length l.self.objects

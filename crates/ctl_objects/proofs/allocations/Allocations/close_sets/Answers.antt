@@ -13,16 +13,21 @@ loop-set-preserved c =
     let i = c.loop-set.set-index in
     let set = slice_index_or sets i 0 in
     let item : drop i sets ≡ set ∷ drop (i + 1) sets = item_dropped sets i (omega arith) in
-    ap (λ (l : List Object). keep (λ o. not (is_of_sets (drop (i + 1) sets) o.origin)) l) c.close_set.ensures
-    ∙ (sym (outside_first set (drop (i + 1) sets) c.loop-set.self)
-    ∙ (ap (λ (l : List ℕ). keep (λ o. not (is_of_sets l o.origin)) c.loop-set.self) (sym item)
-    ∙ c.loop-set.invariant))
+    let os = c.loop-set.self.objects in
+    record {
+      objects =
+          ap (λ (l : List Object). keep (λ o. not (is_of_sets (drop (i + 1) sets) o.origin)) l) c.close_set.ensures.objects
+          ∙ (sym (outside_first set (drop (i + 1) sets) os)
+          ∙ (ap (λ (l : List ℕ). keep (λ o. not (is_of_sets l o.origin)) os) (sym item)
+          ∙ c.loop-set.invariant.objects));
+      needs = c.close_set.ensures.needs ∙ c.loop-set.invariant.needs;
+    }
 
-pub returns : goal.returns
-returns c = λ m.
+pub returns-clause-objects : goal.returns-clause-objects
+returns-clause-objects c = λ m.
     let sets = c.args.sets.now in
     let none : drop c.loop-set.set-index sets ≡ [] = all_dropped sets c.loop-set.set-index (omega arith) in
-    sym (outside_none c.loop-set.self)
-    ∙ (ap (λ (l : List ℕ). keep (λ o. not (is_of_sets l o.origin)) c.loop-set.self) (sym none)
-    ∙ (c.loop-set.invariant
+    sym (outside_none c.loop-set.self.objects)
+    ∙ (ap (λ (l : List ℕ). keep (λ o. not (is_of_sets l o.origin)) c.loop-set.self.objects) (sym none)
+    ∙ (c.loop-set.invariant.objects
     ∙ c.are_allocated.ensures m sets))

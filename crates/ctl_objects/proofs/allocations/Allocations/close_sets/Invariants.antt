@@ -5,4 +5,7 @@ use Rattle.ctl_objects.proofs.allocations.Allocations.close_sets.Given as goal
 
 -- the objects of the collections that are left are still to go
 abbrev pub invariant-loop-set : goal.invariant-loop-set
-invariant-loop-set l = keep (λ o. not (is_of_sets (drop l.set-index l.sets) o.origin)) l.self ≡ keep (λ o. not (is_of_sets l.sets o.origin)) l.fn.self
+invariant-loop-set l = record {
+  objects : keep (λ o. not (is_of_sets (drop l.set-index l.sets) o.origin)) l.self.objects ≡ keep (λ o. not (is_of_sets l.sets o.origin)) l.fn.self.objects;
+  needs : l.self.needs ≡ l.fn.self.needs;
+}

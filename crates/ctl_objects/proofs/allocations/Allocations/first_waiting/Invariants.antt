@@ -4,7 +4,7 @@ use Rattle.ctl_objects.proofs.allocations.Allocations.first_waiting.Given as goa
 
 -- none waits before the number that is looked at
 abbrev pub invariant-loop-number : goal.invariant-loop-number
-invariant-loop-number l = (l.start < 2 ^ 64) × NoneBefore l.group l.self l.start
+invariant-loop-number l = (l.start < 2 ^ 64) × NoneBefore l.self.needs l.group l.self.objects l.start
 
 abbrev pub decreases-loop-number : goal.decreases-loop-number
 decreases-loop-number l = 2 ^ 64 - l.start

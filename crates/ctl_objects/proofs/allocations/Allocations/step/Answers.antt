@@ -1,22 +1,29 @@
-use Rattle.std.proofs.Common.{◌<◌, ◌^◌, List, length, subst, sym}
+use Rattle.std.proofs.Common.{◌<◌, ◌^◌, List, Some, length, subst, sym}
 use Rattle.ctl_meaning.specs.World.{Object}
+use Rattle.ctl_objects.specs.declared.needs.Need.{Need}
 use Rattle.ctl_objects.specs.Filed.{AreFiled}
+use Rattle.ctl_objects.specs.Groups.{Has, Moves}
+use Rattle.ctl_objects.specs.InStore.{bare_of}
+use Rattle.ctl_objects.specs.Stages.{with_step}
+use Rattle.ctl_objects.specs.Stock.{Stock}
 use Rattle.ctl_objects.proofs.Filed.{filed_stepped, filed_unstepped, has_found}
 use Rattle.ctl_objects.proofs.allocations.Allocations.step.Goals as goal
 
 pub follow-requires : goal.follow-requires
 follow-requires c =
     let s = c.self.inside in
-    let few = subst (λ (l : List Object). length l < 2 ^ 63) (sym c.self.view_is) c.are_few.ensures in
-    has_found s.objects s.sets s.groups c.args.number c.in-Some.before few c.in-Some.ensures.before c.self.invariant
+    let few = subst (λ (v : Stock). length v.objects < 2 ^ 63) (sym c.self.view_is) c.are_few.ensures in
+    subst (λ (l : List Need). Has l c.args.number (bare_of c.args.number c.in-Some.before) s.groups) (sym c.as_slice-needs.ensures.value)
+    (has_found s.needs.items s.objects s.sets s.groups c.args.number c.in-Some.before few c.in-Some.ensures.before c.self.invariant)
 
 pub invariant_of-self : goal.invariant_of-self
 invariant_of-self c =
     let s = c.self.inside in
-    subst (λ (l : List Object). AreFiled l s.sets s.groups) (sym c.in_default.ensures.stepped) (filed_unstepped s.objects s.sets s.groups c.args.number c.args.step c.in_default.ensures.before c.self.invariant)
+    subst (λ (l : List Object). AreFiled s.needs.items l s.sets s.groups) (sym c.in_default.ensures.stepped) (filed_unstepped s.needs.items s.objects s.sets s.groups c.args.number c.args.step c.in_default.ensures.before c.self.invariant)
 
 pub invariant_of-self-2 : goal.invariant_of-self-2
 invariant_of-self-2 c =
     let s = c.self.inside in
-    subst (λ (l : List Object). AreFiled l s.sets c.follow.new.self) (sym c.in-Some.ensures.stepped)
-    (filed_stepped s.objects s.sets s.groups c.follow.new.self c.args.number c.args.step c.in-Some.before c.in-Some.ensures.before c.follow.ensures c.self.invariant)
+    let moved = subst (λ (l : List Need). Moves l c.args.number (Some (bare_of c.args.number c.in-Some.before)) (Some (with_step c.args.step (bare_of c.args.number c.in-Some.before))) s.groups c.follow.new.self) c.as_slice-needs.ensures.value c.follow.ensures in
+    subst (λ (l : List Object). AreFiled s.needs.items l s.sets c.follow.new.self) (sym c.in-Some.ensures.stepped)
+    (filed_stepped s.needs.items s.objects s.sets s.groups c.follow.new.self c.args.number c.args.step c.in-Some.before c.in-Some.ensures.before moved c.self.invariant)

@@ -9,4 +9,4 @@ invariant_of-self c =
     let s = c.self.inside in
     let offset = c.args.start + c.args.offset in
     let v = c.args.value ∷ [] in
-    subst (λ (l : List Object). AreFiled l s.sets s.groups) (sym c.write.ensures.written) (filed_written s.objects s.sets s.groups c.args.number offset v c.self.invariant)
+    subst (λ (l : List Object). AreFiled s.needs.items l s.sets s.groups) (sym c.write.ensures.written) (filed_written s.needs.items s.objects s.sets s.groups c.args.number offset v c.self.invariant)

@@ -9,9 +9,9 @@ use Rattle.ctl_objects.proofs.groups.Groups.follow.Goals as goal
 pub returns-in-Begin : goal.returns-in-Begin
 returns-in-Begin c =
     let x = bare_of c.args.number c.args.before.now in
-    subst (λ (z : Step). Moves c.args.number (Some x) (Some (with_step z x)) c.args.self.now c.leave.new.self) (sym c.in-Begin.is) (begins c.args.number x c.args.self.now c.leave.new.self c.leave.ensures)
+    subst (λ (z : Step). Moves c.args.needs.now c.args.number (Some x) (Some (with_step z x)) c.args.self.now c.leave.new.self) (sym c.in-Begin.is) (begins c.args.needs.now c.args.number x c.args.self.now c.leave.new.self c.leave.ensures)
 
 pub returns-in-End : goal.returns-in-End
 returns-in-End c =
     let x = bare_of c.args.number c.args.before.now in
-    subst (λ (z : Step). Moves c.args.number (Some x) (Some (with_step z x)) c.args.self.now c.args.self.now) (sym c.in-End.is) (ends c.args.number x c.args.self.now c.requires)
+    subst (λ (z : Step). Moves c.args.needs.now c.args.number (Some x) (Some (with_step z x)) c.args.self.now c.args.self.now) (sym c.in-End.is) (ends c.args.needs.now c.args.number x c.args.self.now c.requires)

@@ -3,13 +3,14 @@ use Rattle.ctl_meaning.specs.World as W
 use Rattle.ctl_meaning.specs.World.{Object}
 use Rattle.ctl_meaning.specs.Changes.{new_object, opened_changes}
 use Rattle.ctl_objects.specs.Order.{AreBelow, AreSplit, both}
+use Rattle.ctl_objects.specs.Stock.{Stock}
 use Rattle.ctl_objects.proofs.Both.{all_both, allocated_both, on_ok, on_either, split_allocated}
 use Rattle.ctl_objects.proofs.object_list.Objects.allocate.Goals as goal
 
 pub allocate-requires : goal.allocate-requires
 allocate-requires c =
     let s = c.self.inside in
-    (all_both (λ o. o.number < c.args.number) s.allocated s.declared (subst (λ (l : List Object). AreBelow c.args.number l) (sym c.self.view_is) c.requires)).0
+    (all_both (λ o. o.number < c.args.number) s.allocated.objects s.declared (subst (λ (v : Stock). AreBelow c.args.number v.objects) (sym c.self.view_is) c.requires)).0
 
 pub invariant_of-self : goal.invariant_of-self
 unfolding opened_changes
@@ -17,9 +18,9 @@ invariant_of-self c =
     let s = c.self.inside in
     let a = c.args in
     let x = new_object a.number a.ty (replicate a.cells 0) (W.Allocated a.collection W.Standard) in
-    let below = subst (λ (l : List Object). AreBelow a.number l) (sym c.self.view_is) c.requires in
-    on_either c.allocate.result _ _ (AreSplit c.allocate.new.self s.declared) c.allocate.ensures.ok c.allocate.ensures.err
-    (λ e. subst (λ (l : List Object). AreSplit l s.declared) (sym e) (split_allocated x s.allocated s.declared below c.self.invariant))
+    let below = subst (λ (v : Stock). AreBelow a.number v.objects) (sym c.self.view_is) c.requires in
+    on_either c.allocate.result _ _ (AreSplit c.allocate.new.self.objects s.declared) c.allocate.ensures.ok c.allocate.ensures.err
+    (λ e. subst (λ (l : List Object). AreSplit l s.declared) (sym e) (split_allocated x s.allocated.objects s.declared below c.self.invariant))
     (λ e. subst (λ (l : List Object). AreSplit l s.declared) (sym e) c.self.invariant)
 
 pub returns-clause-ok : goal.returns-clause-ok
@@ -28,6 +29,6 @@ returns-clause-ok c =
     let s = c.self.inside in
     let a = c.args in
     let x = new_object a.number a.ty (replicate a.cells 0) (W.Allocated a.collection W.Standard) in
-    let below = subst (λ (l : List Object). AreBelow a.number l) (sym c.self.view_is) c.requires in
+    let below = subst (λ (v : Stock). AreBelow a.number v.objects) (sym c.self.view_is) c.requires in
     on_ok c.allocate.result _ _ c.allocate.ensures.ok
-    (λ e. ap (λ (l : List Object). both l s.declared) e ∙ (allocated_both x s.allocated s.declared below c.self.invariant ∙ ap (λ (l : List Object). l ++ x ∷ []) c.self.view_is))
+    (λ e. ap (λ (l : List Object). both l s.declared) e ∙ (allocated_both x s.allocated.objects s.declared below c.self.invariant ∙ ap (λ (v : Stock). v.objects ++ x ∷ []) c.self.view_is))

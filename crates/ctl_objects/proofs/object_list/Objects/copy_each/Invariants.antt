@@ -4,4 +4,7 @@ use Rattle.ctl_objects.specs.Copies.{copied}
 use Rattle.ctl_objects.proofs.object_list.Objects.copy_each.Given as goal
 
 abbrev pub invariant-loop-at : goal.invariant-loop-at
-invariant-loop-at l = l.self ≡ copied l.fn.start l.fn.to l.fn.target l.at (object_in l.fn.from l.fn.self) l.fn.self
+invariant-loop-at l = record {
+  objects : l.self.objects ≡ copied l.fn.start l.fn.to l.fn.target l.at (object_in l.fn.from l.fn.self.objects) l.fn.self.objects;
+  needs : l.self.needs ≡ l.fn.self.needs;
+}

@@ -4,18 +4,19 @@ use Rattle.ctl_meaning.specs.World as W
 use Rattle.ctl_meaning.specs.World.{Object}
 use Rattle.ctl_meaning.specs.Changes.{new_object, opened_changes}
 use Rattle.ctl_objects.specs.Order.{AreBelow, AreSplit, AreUpTo, IsUpTo, both}
+use Rattle.ctl_objects.specs.Stock.{Stock}
 use Rattle.ctl_objects.proofs.Both.{all_both, declared_both, on_ok, on_either, split_declared}
 use Rattle.ctl_objects.proofs.object_list.Objects.declare.Goals as goal
 
 pub declare-requires-clause-numbers : goal.declare-requires-clause-numbers
 declare-requires-clause-numbers c =
     let s = c.self.inside in
-    (all_both (λ o. o.number < c.args.number) s.allocated s.declared (subst (λ (l : List Object). AreBelow c.args.number l) (sym c.self.view_is) c.requires.numbers)).1
+    (all_both (λ o. o.number < c.args.number) s.allocated.objects s.declared (subst (λ (v : Stock). AreBelow c.args.number v.objects) (sym c.self.view_is) c.requires.numbers)).1
 
 pub declare-requires-clause-masters : goal.declare-requires-clause-masters
 declare-requires-clause-masters c =
     let s = c.self.inside in
-    (all_both (λ o. IsUpTo c.args.master o.origin) s.allocated s.declared (subst (λ (l : List Object). AreUpTo c.args.master l) (sym c.self.view_is) c.requires.masters)).1
+    (all_both (λ o. IsUpTo c.args.master o.origin) s.allocated.objects s.declared (subst (λ (v : Stock). AreUpTo c.args.master v.objects) (sym c.self.view_is) c.requires.masters)).1
 
 pub invariant_of-self : goal.invariant_of-self
 unfolding opened_changes
@@ -23,10 +24,10 @@ invariant_of-self c =
     let s = c.self.inside in
     let a = c.args in
     let x = new_object a.number (Record a.record) (replicate a.cells 0) (W.Declared a.master) in
-    let below = subst (λ (l : List Object). AreBelow a.number l) (sym c.self.view_is) c.requires.numbers in
-    on_either c.declare.result _ _ (AreSplit s.allocated c.declare.new.self) c.declare.ensures.ok c.declare.ensures.err
-    (λ e. subst (λ (l : List Object). AreSplit s.allocated l) (sym e) (split_declared x s.allocated s.declared below c.self.invariant))
-    (λ e. subst (λ (l : List Object). AreSplit s.allocated l) (sym e) c.self.invariant)
+    let below = subst (λ (v : Stock). AreBelow a.number v.objects) (sym c.self.view_is) c.requires.numbers in
+    on_either c.declare.result _ _ (AreSplit s.allocated.objects c.declare.new.self) c.declare.ensures.ok c.declare.ensures.err
+    (λ e. subst (λ (l : List Object). AreSplit s.allocated.objects l) (sym e) (split_declared x s.allocated.objects s.declared below c.self.invariant))
+    (λ e. subst (λ (l : List Object). AreSplit s.allocated.objects l) (sym e) c.self.invariant)
 
 pub returns-clause-ok : goal.returns-clause-ok
 unfolding opened_changes
@@ -34,6 +35,6 @@ returns-clause-ok c =
     let s = c.self.inside in
     let a = c.args in
     let x = new_object a.number (Record a.record) (replicate a.cells 0) (W.Declared a.master) in
-    let below = subst (λ (l : List Object). AreBelow a.number l) (sym c.self.view_is) c.requires.numbers in
+    let below = subst (λ (v : Stock). AreBelow a.number v.objects) (sym c.self.view_is) c.requires.numbers in
     on_ok c.declare.result _ _ c.declare.ensures.ok
-    (λ e. ap (both s.allocated) e ∙ (declared_both x s.allocated s.declared below c.self.invariant ∙ ap (λ (l : List Object). l ++ x ∷ []) c.self.view_is))
+    (λ e. ap (both s.allocated.objects) e ∙ (declared_both x s.allocated.objects s.declared below c.self.invariant ∙ ap (λ (v : Stock). v.objects ++ x ∷ []) c.self.view_is))

@@ -1,8 +1,8 @@
-use Rattle.std.proofs.Common.{List, subst}
-use Rattle.ctl_meaning.specs.World.{Object}
+use Rattle.std.proofs.Common.{subst}
 use Rattle.ctl_objects.specs.Order.{Rise}
+use Rattle.ctl_objects.specs.Stock.{Stock}
 use Rattle.ctl_objects.proofs.Both.{rise_both}
 use Rattle.ctl_objects.proofs.object_list.Objects.rises.Goals as goal
 
 pub returns : goal.returns
-returns c = subst (λ (l : List Object). Rise 0 l) c.self.view_is (rise_both c.self.inside.allocated c.self.inside.declared c.self.invariant)
+returns c = subst (λ (v : Stock). Rise 0 v.objects) c.self.view_is (rise_both c.self.inside.allocated.objects c.self.inside.declared c.self.invariant)

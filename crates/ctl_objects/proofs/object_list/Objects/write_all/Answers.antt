@@ -1,6 +1,7 @@
 use Rattle.std.proofs.Common.{◌∙◌, ap, sym}
 use Rattle.ctl_meaning.specs.Objects.{change_in}
 use Rattle.ctl_meaning.specs.Objects.{with_cells}
+use Rattle.ctl_objects.specs.Stock.{Stock}
 use Rattle.ctl_objects.proofs.Both.{changed_first, changed_second}
 use Rattle.ctl_objects.proofs.InStore.{cells_keep}
 use Rattle.ctl_objects.proofs.object_list.Objects.write_all.Goals as goal
@@ -8,21 +9,21 @@ use Rattle.ctl_objects.proofs.object_list.Objects.write_all.Goals as goal
 pub invariant_of-self : goal.invariant_of-self
 invariant_of-self c =
     let s = c.self.inside in
-    (changed_first c.args.number (with_cells c.args.start c.args.values.now) s.allocated s.declared c.write_all-then-not-write_all.new.self c.write_all.new.self (cells_keep c.args.start c.args.values.now) c.self.invariant c.write_all-then-not-write_all.ensures.written c.write_all.ensures.written).0
+    (changed_first c.args.number (with_cells c.args.start c.args.values.now) s.allocated.objects s.declared c.write_all-then-not-write_all.new.self.objects c.write_all.new.self (cells_keep c.args.start c.args.values.now) c.self.invariant c.write_all-then-not-write_all.ensures.written c.write_all.ensures.written).0
 
 pub invariant_of-self-else-not-write_all : goal.invariant_of-self-else-not-write_all
 invariant_of-self-else-not-write_all c =
     let s = c.self.inside in
-    (changed_second c.args.number (with_cells c.args.start c.args.values.now) s.allocated s.declared c.write_all.new.self (cells_keep c.args.start c.args.values.now) c.self.invariant c.write_all.ensures.written (sym c.if-not-write_all.false ∙ c.write_all.ensures.exists)).0
+    (changed_second c.args.number (with_cells c.args.start c.args.values.now) s.allocated.objects s.declared c.write_all.new.self (cells_keep c.args.start c.args.values.now) c.self.invariant c.write_all.ensures.written (sym c.if-not-write_all.false ∙ c.write_all.ensures.exists)).0
 
-pub returns-then-not-write_all : goal.returns-then-not-write_all
-returns-then-not-write_all c =
+pub returns-then-not-write_all-clause-objects : goal.returns-then-not-write_all-clause-objects
+returns-then-not-write_all-clause-objects c =
     let s = c.self.inside in
-    (changed_first c.args.number (with_cells c.args.start c.args.values.now) s.allocated s.declared c.write_all-then-not-write_all.new.self c.write_all.new.self (cells_keep c.args.start c.args.values.now) c.self.invariant c.write_all-then-not-write_all.ensures.written c.write_all.ensures.written).1
-    ∙ ap (change_in c.args.number (with_cells c.args.start c.args.values.now)) c.self.view_is
+    (changed_first c.args.number (with_cells c.args.start c.args.values.now) s.allocated.objects s.declared c.write_all-then-not-write_all.new.self.objects c.write_all.new.self (cells_keep c.args.start c.args.values.now) c.self.invariant c.write_all-then-not-write_all.ensures.written c.write_all.ensures.written).1
+    ∙ ap (λ (v : Stock). change_in c.args.number (with_cells c.args.start c.args.values.now) v.objects) c.self.view_is
 
-pub returns-else-not-write_all : goal.returns-else-not-write_all
-returns-else-not-write_all c =
+pub returns-else-not-write_all-clause-objects : goal.returns-else-not-write_all-clause-objects
+returns-else-not-write_all-clause-objects c =
     let s = c.self.inside in
-    (changed_second c.args.number (with_cells c.args.start c.args.values.now) s.allocated s.declared c.write_all.new.self (cells_keep c.args.start c.args.values.now) c.self.invariant c.write_all.ensures.written (sym c.if-not-write_all.false ∙ c.write_all.ensures.exists)).1
-    ∙ ap (change_in c.args.number (with_cells c.args.start c.args.values.now)) c.self.view_is
+    (changed_second c.args.number (with_cells c.args.start c.args.values.now) s.allocated.objects s.declared c.write_all.new.self (cells_keep c.args.start c.args.values.now) c.self.invariant c.write_all.ensures.written (sym c.if-not-write_all.false ∙ c.write_all.ensures.exists)).1
+    ∙ ap (λ (v : Stock). change_in c.args.number (with_cells c.args.start c.args.values.now) v.objects) c.self.view_is

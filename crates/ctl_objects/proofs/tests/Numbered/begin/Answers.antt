@@ -8,4 +8,4 @@ pub invariant_of-self : goal.invariant_of-self
 unfolding opened_objects
 invariant_of-self c =
     let s = c.self.inside in
-    subst (λ (l : List Object). AreNumbered s.next s.master l) (sym c.begin_finalization.ensures) (numbered_changed s.next s.master c.args.number with_begun s.objects (λ o. refl) (λ o. refl) c.self.invariant)
+    subst (λ (l : List Object). AreNumbered s.next s.master l) (sym c.begin_finalization.ensures.objects) (numbered_changed s.next s.master c.args.number with_begun s.objects.objects (λ o. refl) (λ o. refl) c.self.invariant)

@@ -7,4 +7,4 @@ use Rattle.ctl_objects.proofs.tests.Numbered.forget.Goals as goal
 pub invariant_of-self : goal.invariant_of-self
 invariant_of-self c =
     let s = c.self.inside in
-    subst (λ (l : List Object). AreNumbered s.next s.master l) (sym c.forget.ensures) (numbered_kept s.next s.master (λ o. not (nat_eq o.number c.args.number)) s.objects c.self.invariant)
+    subst (λ (l : List Object). AreNumbered s.next s.master l) (sym c.forget.ensures.objects) (numbered_kept s.next s.master (λ o. not (nat_eq o.number c.args.number)) s.objects.objects c.self.invariant)

@@ -9,4 +9,4 @@ pub invariant_of-self : goal.invariant_of-self
 unfolding opened_objects
 invariant_of-self c =
     let s = c.self.inside in
-    subst (λ (l : List Object). AreNumbered s.next s.master l) (sym c.join.ensures) (numbered_first s.next s.master (λ o. nat_eq o.number c.args.number) with_joined s.objects (λ o. refl) (λ o. refl) c.self.invariant)
+    subst (λ (l : List Object). AreNumbered s.next s.master l) (sym c.join.ensures.objects) (numbered_first s.next s.master (λ o. nat_eq o.number c.args.number) with_joined s.objects.objects (λ o. refl) (λ o. refl) c.self.invariant)

@@ -8,5 +8,5 @@ use Rattle.ctl_objects.proofs.tests.Numbered.leave.Goals as goal
 pub invariant_of-self : goal.invariant_of-self
 invariant_of-self c =
     let s = c.self.inside in
-    subst (λ (l : List Object). AreNumbered s.next s.master l) (sym c.close_master.ensures)
-    (numbered_kept s.next s.master (λ o. not (ends_with_master s.master c.args.sets.now o.origin)) s.objects c.self.invariant)
+    subst (λ (l : List Object). AreNumbered s.next s.master l) (sym c.close_master.ensures.objects)
+    (numbered_kept s.next s.master (λ o. not (ends_with_master s.master c.args.sets.now o.origin)) s.objects.objects c.self.invariant)

@@ -8,5 +8,5 @@ use Rattle.ctl_objects.proofs.tests.Numbered.write.Goals as goal
 pub invariant_of-self : goal.invariant_of-self
 invariant_of-self c =
     let s = c.self.inside in
-    subst (λ (l : List Object). AreNumbered s.next s.master l) (sym c.write.ensures)
-    (numbered_changed s.next s.master c.args.number (with_cells c.args.offset (c.args.value ∷ [])) s.objects (cells_keep c.args.offset (c.args.value ∷ [])) (cells_stay c.args.offset (c.args.value ∷ [])) c.self.invariant)
+    subst (λ (l : List Object). AreNumbered s.next s.master l) (sym c.write.ensures.objects)
+    (numbered_changed s.next s.master c.args.number (with_cells c.args.offset (c.args.value ∷ [])) s.objects.objects (cells_keep c.args.offset (c.args.value ∷ [])) (cells_stay c.args.offset (c.args.value ∷ [])) c.self.invariant)

@@ -8,5 +8,5 @@ use Rattle.ctl_objects.proofs.tests.Numbered.write_all.Goals as goal
 pub invariant_of-self : goal.invariant_of-self
 invariant_of-self c =
     let s = c.self.inside in
-    subst (λ (l : List Object). AreNumbered s.next s.master l) (sym c.write_all.ensures)
-    (numbered_changed s.next s.master c.args.number (with_cells c.args.start c.args.values.now) s.objects (cells_keep c.args.start c.args.values.now) (cells_stay c.args.start c.args.values.now) c.self.invariant)
+    subst (λ (l : List Object). AreNumbered s.next s.master l) (sym c.write_all.ensures.objects)
+    (numbered_changed s.next s.master c.args.number (with_cells c.args.start c.args.values.now) s.objects.objects (cells_keep c.args.start c.args.values.now) (cells_stay c.args.start c.args.values.now) c.self.invariant)

@@ -8,5 +8,5 @@ invariant_of-self g c =
     let p = c.self.inside in
     let b = c.args.block in
     let top = c.requires.1 ∙ ap (λ (v : Stack). v.used) (sym c.self.view_is) in
-    subst (λ n. Keeps c.home.new.self p.size n) (sym c.start-start.ensures)
+    subst (λ n. Keeps c.home.new.self p.size n) (sym c.start-self-inside.ensures)
     (keeps_back p.region c.home.new.self p.size p.used b.start b.words c.self.invariant top c.home.ensures.places)

@@ -1,16 +1,11 @@
--- A `&` to an allocation holds nothing. Assumes `Logic`.
-use base.Fraction.{full_share}
+-- An allocation is opaque: its words are in the region or in Blocks, so a `&` to it has none to show. Assumes `Logic`.
+use mathlib.Core.Path.{refl}
 use denote.RattleType.{RattleType}
-use denote.Memory.{part_at}
 use denote.Param.Laws.{Laws}
-use denote.SharingLaws.{nothing_shr_laws}
-use denote.Struct.Lending.{Lends-nothing}
 use Rattle.std.specs.declared.alloc.Allocator.{Ghosts}
-use Rattle.raw_region.specs.contracts.allocation.Allocation as C
+use Rattle.raw_region.specs.contracts.allocation.Allocation.{the_written}
+use Rattle.raw_region.proofs.Opaque.{opaque_law}
 use Rattle.raw_region.proofs.allocation.Allocation.TheLaw.Statement.{statement}
 
 pub shares : (A : RattleType) (g : Ghosts A.Denot) (L : Laws A) → statement A g L
-shares A g L = record {
-  shr_laws = λ e b o. nothing_shr_laws;
-  shares = λ M 𝓤 𝓛 e κ ts b o. Lends-nothing 𝓛 (part_at (C.the_written A g) full_share e b o) (C.the_written A g).lives κ ts;
-}
+shares A g L = opaque_law (the_written A g) (λ home block offset. refl)

@@ -1,0 +1,161 @@
+-- From what a name begins with to a part (4.1): a variable, or an access value that is evaluated first. What follows is said of each world that
+-- the value may leave.
+use Rattle.std.proofs.Common.{◌≡◌, ℕ, ◌+◌, ◌≤◌, List, [], ◌∷◌, ◌++◌, length, Bool, true, refl, sym, ap, ◌∙◌, subst, arith, length-append}
+use Rattle.ctl_program.specs.declared.types.Ty.TheVariants.{Record}
+use Rattle.ctl_program.specs.declared.types.RecordType.{RecordType}
+use Rattle.ctl_program.specs.declared.expression.Step.{Step}
+use Rattle.ctl_program.specs.declared.expression.Step.TheVariants.{Component, Dereference, Narrow}
+use Rattle.ctl_meaning.specs.World.{Log, World}
+use Rattle.ctl_meaning.specs.Activations.{master_of}
+use Rattle.ctl_meaning.specs.Choice.{Ask}
+use Rattle.ctl_meaning.specs.Outcome.{constraint_error, ByRaise, Result, Goes, Leaves, Out, Act, add, bind, on_goes, done, opened_outcome}
+use Rattle.ctl_meaning.specs.Types.{Tables, offset_in, placed}
+use Rattle.ctl_meaning.specs.Names.{Found, Alone, Call, Default, Tools, dereferenced, moved as found_behind, walk}
+use Rattle.ctl_code.specs.declared.code.Instr.TheVariants as InstrOf
+use Rattle.ctl_code.specs.declared.code.Named.TheVariants as NamedOf
+use Rattle.ctl_code.specs.declared.code.Code.{Code}
+use Rattle.ctl_code.specs.declared.kinds.Kind.{Kind}
+use Rattle.ctl_code.specs.declared.kinds.Kind.TheVariants.{Operand}
+use Rattle.ctl_code.specs.States.{Word, Scalar, Located, Frame, State, whole_spot}
+use Rattle.ctl_code.specs.Table.{component_of}
+use Rattle.ctl_code.specs.Windows.{height}
+use Rattle.ctl_layout.specs.Around.{Line, new_operand}
+use Rattle.ctl_layout.specs.Parts.{Start, OfVariable, OfValue, Reached, Variable, Part, Object, access_value, are_followed, are_walked, first_type, located_code, part_code, selects_code}
+use Rattle.ctl_layout.specs.Values.{ValueCode, given}
+use Rattle.ctl_gen.proofs.Walked.{start_of, steps_before, steps_of}
+use Rattle.ctl_gen.proofs.Place.{Laid, laid_front, laid_back}
+use Rattle.ctl_gen.proofs.Worlds.{Since, no_copy_at}
+use Rattle.ctl_gen.proofs.Setting.{IsSeen, tools_with}
+use Rattle.ctl_gen.proofs.Cells.{Any, by_code, landed}
+use Rattle.ctl_gen.proofs.Worth.{both_cell}
+use Rattle.ctl_gen.proofs.Expressions.{Begins, Value}
+use Rattle.ctl_gen.proofs.Parts.{Agree, AgreePart, Puts, component_found, dereferences_value, designates, find_by, found_at, on_top, selects, stepping, variable_from}
+use Rattle.ctl_gen.proofs.Follow.{RunsTo, added_to, at, bind_add, bind_bind, one_step_to, transferred}
+
+-- what was taken from the clock before: at most one before a variable, whose first step pays for it, and nothing before a value
+abbrev pub OnTime : Start → ℕ → ℕ → Type 0
+OnTime (OfVariable v) c0 c = (c ≤ c0) × (c0 ≤ c + 1)
+OnTime (OfValue runs lines) c0 c = c0 ≡ c
+
+pub on_time : (b : Start) (c : ℕ) → OnTime b c c
+on_time (OfVariable v) c = (omega arith, omega arith)
+on_time (OfValue runs lines) c = refl
+
+-- a value that is dereferenced, of which the tick of the dereference is left
+paid_once : {A : Type 0} (o : Out Found) (f : Result Found → Act Found) (g : Result Found → Act A) → bind (add 0 (bind (add 1 (add 0 o)) f)) g ≡ add 0 (add 1 (add 0 (bind (bind o f) g)))
+paid_once o f g =
+    ap (λ z. bind (add 0 z) g) (bind_add 1 (add 0 o) f ∙ ap (add 1) (bind_add 0 o f))
+    ∙ bind_add 0 (add 1 (add 0 (bind o f))) g
+    ∙ ap (add 0) (bind_add 1 (add 0 (bind o f)) g ∙ ap (add 1) (bind_add 0 (bind o f) g))
+
+-- in the worlds since an earlier one, while no more than the bound is on the clock
+module _ (ask : Ask) (k : Tables) (code : Code) (bound : ℕ) (w0 : World) where
+  -- the lines of an access value put as a new operand what this act gives
+  abbrev pub Starts : Start → (List ℕ → Act (List ℕ)) → Type 0
+  Starts (OfVariable v) act = Unit {0}
+  Starts (OfValue runs lines) act = (s : List Kind) (d : List ℕ) (place : ℕ) (ks : List Frame) (ops : List Word) (c : ℕ) (l : Log) (w : World) → c ≤ bound → Since k code w0 w → IsSeen w0 d s → Laid code place (lines s) → Begins ask k code bound w0 Any (at d place ks ops l w) c (landed NamedOf.Operand d (place + length (lines s)) ks ops) (act d c l w)
+
+  -- as those of a value do
+  pub value_starts : (x : ValueCode) (act : List ℕ → Act (List ℕ)) → Value ask k code bound w0 x act → Starts (given x) act
+  value_starts x act value s d place ks ops c l w le fits long has = value.begins (new_operand s) access_value s d place ks ops c l w le fits long has
+
+  module _ (call : Call) (default : Default) {A : Type 0} (Ends : Result A → World → Type 0) (next : Result A → Log → World → State) where
+    abbrev K : Tools
+    K = tools_with ask k call default
+
+    module _ (g : Result Found → Act A) (d : List ℕ) (ks : List Frame) (ops : List Word) where
+      -- what follows a name, in each world since then: the part is on top, or an exception is under way
+      abbrev pub Follows : ℕ → ℕ → ℕ → ℕ → Type 0
+      Follows c b h place = (c1 : ℕ) (l1 : Log) (w1 : World) → c1 ≤ c → Since k code w0 w1 → Puts ask code K Ends next g d ks ops c1 l1 w1 b h place
+
+      abbrev pub Left : ℕ → ℕ → ℕ → Type 0
+      Left c b h = (y c1 : ℕ) (l1 : Log) (w1 : World) → c1 ≤ c → Since k code w0 w1 → RunsTo ask code Ends b h (transferred (ByRaise y) ks l1 w1) c1 next (g (Leaves (ByRaise y)) c1 l1 w1)
+
+      -- what follows the value of a name
+      abbrev behind_value : List Step → Result (List ℕ) → Act A
+      behind_value steps r c l w = bind (bind (on_goes (λ v. done (Alone v)) r c l w) (on_goes (walk K steps))) g
+
+      -- its dereference, and the steps behind that
+      dereferences : (b h n : ℕ) (steps : List Step) (t : ℕ) (s : List Kind) (place c : ℕ) (l : Log) (w : World) → Since k code w0 w → are_walked true steps ≡ true → Agree k code steps → Laid code place (selects_code (Dereference ∷ steps) t s) → Follows c b h (place + length (selects_code (Dereference ∷ steps) t s)) → Left c b h → RunsTo ask code Ends b h (at d place ks (Scalar n ∷ ops) l w) c next (behind_value (Dereference ∷ steps) (Goes (n ∷ [])) c l w)
+      unfolding opened_outcome
+      dereferences b h n steps t s place c l w fits walked agree has then left =
+          let s0 = at d place ks (Scalar n ∷ ops) l w in
+          let o = dereferenced n c l w in
+          let raises = left constraint_error c l w (omega arith) fits in
+          let e : place + length (selects_code (Dereference ∷ steps) t s) ≡ place + 1 + length (selects_code steps t s) = omega arith in
+          let puts = subst (Puts ask code K Ends next g d ks ops c l w b h) e (then c l w (omega arith) fits) in
+          subst (RunsTo ask code Ends b h s0 c next) (sym (ap (λ z. bind (add 0 z) g) (dereferences_value K n steps c l w) ∙ paid_once o (on_goes (walk K steps)) g))
+          (added_to ask code Ends 0 b h b h s0 c next _ (omega arith) (omega arith)
+          (added_to ask code Ends 1 (b + 3) (h + 3) b h s0 c next _ (omega arith) (omega arith)
+          (added_to ask code Ends 0 (b + 3) (h + 3) (b + 3) (h + 3) s0 c next _ (omega arith) (omega arith)
+          (designates ask code K Ends next g d ks ops c l w b h n (first_type steps t) (height s) place (walk K steps) has.0
+          (λ m. selects ask code K Ends next g d ks ops c l w b h steps t s (whole_spot m) (place + 1) walked agree has.2 puts raises) raises))))
+
+      -- the value, whose first tick pays for its steps, and then that
+      value_from : (b h : ℕ) (runs : List RecordType → Bool) (lines : List Kind → List Line) (act : List ℕ → Act (List ℕ)) → Starts (OfValue runs lines) act → (steps : List Step) (t : ℕ) (s : List Kind) (place c : ℕ) (l : Log) (w : World) → are_walked true steps ≡ true → Agree k code steps → c ≤ bound → Since k code w0 w → IsSeen w0 d s → Laid code place (lines s ++ selects_code (Dereference ∷ steps) t s) → Follows c b h (place + length (lines s ++ selects_code (Dereference ∷ steps) t s)) → Left c b h → RunsTo ask code Ends b h (at d place ks ops l w) c next (bind (act d c l w) (behind_value (Dereference ∷ steps)))
+      unfolding opened_outcome
+      value_from b h runs lines act begun steps t s place c l w walked agree le fits long has then left =
+          let front = lines s in
+          let back = selects_code (Dereference ∷ steps) t s in
+          let x = begun s d place ks ops c l w le fits long (laid_front code place front back has) in
+          let there = place + length front in
+          let rest = laid_back code place front back has in
+          let f = behind_value (Dereference ∷ steps) in
+          let s0 = at d place ks ops l w in
+          let e : place + length (front ++ back) ≡ there + length back = omega (arith, length-append front back) in
+          subst (RunsTo ask code Ends b h s0 c next) (sym (ap (λ o. bind o f) x.is ∙ bind_add 1 x.out f))
+          (added_to ask code Ends 1 (b + 8) (h + 8) b h s0 c next (bind x.out f) (omega arith) (omega arith)
+          (both_cell ask code (Since k code w0) Ends Any 8 8 b h (b + 8) (h + 8) s0 c (landed NamedOf.Operand d there ks ops) next x.out f (omega arith) (omega arith) (omega arith) x.runs
+          (λ n c1 l1 w1 lo fits1 p.
+          subst (λ z. RunsTo ask code Ends b h z c1 next (f (Goes (n ∷ [])) c1 l1 w1)) (sym (on_top n d there ks ops l1 w1))
+          (dereferences b h n steps t s there c1 l1 w1 fits1 walked agree rest
+          (λ c2 l2 w2 lo2 fits2. subst (Puts ask code K Ends next g d ks ops c2 l2 w2 b h) e (then c2 l2 w2 (omega (arith, lo, lo2)) fits2))
+          (λ y c2 l2 w2 lo2 fits2. left y c2 l2 w2 (omega (arith, lo, lo2)) fits2)))
+          (λ y c1 l1 w1 lo fits1. added_to ask code Ends 0 b h b h _ c1 next (g (Leaves (ByRaise y)) c1 l1 w1) (omega arith) (omega arith) (left y c1 l1 w1 lo fits1))))
+
+      -- what a name begins with, and the steps behind it
+      pub located_from : (b h : ℕ) (first : Start) (act : List ℕ → Act (List ℕ)) → Starts first act → (steps : List Step) (t : ℕ) (s : List Kind) (place c0 c : ℕ) (l : Log) (w : World) → OnTime first c0 c → are_followed first steps ≡ true → Agree k code steps → c ≤ bound → Since k code w0 w → IsSeen w0 d s → Laid code place (located_code first steps t s) → Follows c b h (place + length (located_code first steps t s)) → Left c b h → RunsTo ask code Ends b h (at d place ks ops l w) c0 next (bind (find_by K act steps first d c l w) g)
+      unfolding opened_outcome
+      located_from b h (OfVariable v) act begun steps t s place c0 c l w time followed agree le fits long has then left = variable_from ask code K Ends next g d ks ops c l w c0 b h v steps t s place time.0 time.1 followed agree (no_copy_at k code (master_of d v) v.slot w fits.0) long.2 has (then c l w (omega arith) fits) (left constraint_error c l w (omega arith) fits)
+      located_from b h (OfValue runs lines) act begun (Dereference ∷ steps) t s place c0 c l w time followed agree le fits long has then left =
+          let s0 = at d place ks ops l w in
+          let find = find_by K act (Dereference ∷ steps) (OfValue runs lines) d c l w in
+          let alone : Result (List ℕ) → Act Found = on_goes (λ v. done (Alone v)) in
+          let walks : Result Found → Act Found = on_goes (walk K (Dereference ∷ steps)) in
+          subst (λ n. RunsTo ask code Ends b h s0 n next (bind find g)) (sym time)
+          (subst (RunsTo ask code Ends b h s0 c next) (sym (ap (λ z. bind z g) (bind_bind (act d c l w) alone walks) ∙ bind_bind (act d c l w) (λ r c1 l1 w1. bind (alone r c1 l1 w1) walks) g))
+          (value_from b h runs lines act begun steps t s place c l w followed agree le fits long has then left))
+      located_from b h (OfValue runs lines) act begun [] t s place c0 c l w time followed agree le fits long has then left = absurd (cc followed)
+      located_from b h (OfValue runs lines) act begun (Component u i ∷ steps) t s place c0 c l w time followed agree le fits long has then left = absurd (cc followed)
+      located_from b h (OfValue runs lines) act begun (Narrow u ∷ steps) t s place c0 c l w time followed agree le fits long has then left = absurd (cc followed)
+
+      -- where nothing was taken from the clock before
+      pub located_then : (b h : ℕ) (first : Start) (act : List ℕ → Act (List ℕ)) → Starts first act → (steps : List Step) (t : ℕ) (s : List Kind) (place c : ℕ) (l : Log) (w : World) → are_followed first steps ≡ true → Agree k code steps → c ≤ bound → Since k code w0 w → IsSeen w0 d s → Laid code place (located_code first steps t s) → Follows c b h (place + length (located_code first steps t s)) → Left c b h → RunsTo ask code Ends b h (at d place ks ops l w) c next (bind (find_by K act steps first d c l w) g)
+      located_then b h first act begun steps t s place c l w = located_from b h first act begun steps t s place c c l w (on_time first c)
+
+    -- the same of the part that a name denotes
+    module _ (g : Result Found → Act A) (d : List ℕ) (ks : List Frame) (ops : List Word) where
+      pub part_from : (b h : ℕ) (x : Reached) (act : List ℕ → Act (List ℕ)) → Starts (start_of x) act → (t : ℕ) (s : List Kind) (place c0 c : ℕ) (l : Log) (w : World) → OnTime (start_of x) c0 c → are_followed (start_of x) (steps_before x) ≡ true → AgreePart k code x → c ≤ bound → Since k code w0 w → IsSeen w0 d s → Laid code place (part_code x t s) → Follows g d ks ops c b h (place + length (part_code x t s)) → Left g d ks ops c b h → RunsTo ask code Ends b h (at d place ks ops l w) c0 next (bind (find_by K act (steps_of x) (start_of x) d c l w) g)
+      unfolding opened_outcome found_behind
+      part_from b h (Variable v) act begun t s place c0 c l w time followed agree le fits long has then left = located_from g d ks ops b h (OfVariable v) act begun [] t s place c0 c l w time followed tt le fits long has then left
+      part_from b h (Object first steps) act begun t s place c0 c l w time followed agree le fits long has then left = located_from g d ks ops b h first act begun steps t s place c0 c l w time followed agree le fits long has then left
+      part_from b h (Part first steps u position) act begun t s place c0 c l w time followed agree le fits long has then left =
+          let front = located_code first steps u s in
+          let last : List Line = (InstrOf.Select u position t, Operand (Record u) ∷ s) ∷ [] in
+          let end : place + length (part_code (Part first steps u position) t s) ≡ place + length front + 1 = omega (arith, length-append front last) in
+          let offset = offset_in position (placed k u) in
+          let selected : Result Found → Act A = λ r c1 l1 w1. bind (on_goes (stepping k u position) r c1 l1 w1) g in
+          subst (RunsTo ask code Ends b h (at d place ks ops l w) c0 next) (sym (ap (λ o. bind o g) (component_found K act first steps u position d c l w) ∙ bind_bind (find_by K act steps first d c l w) (on_goes (stepping k u position)) g))
+          (located_from selected d ks ops b h first act begun steps u s place c0 c l w time followed agree.0 le fits long (laid_front code place front last has)
+          (λ c1 l1 w1 lo fits1 p.
+          let q = component_of p offset position in
+          let s0 = at d (place + length front) ks (Located p ∷ ops) l1 w1 in
+          added_to ask code Ends 1 (b + 1) (h + 1) b h s0 c1 next _ (omega arith) (omega arith)
+          (one_step_to ask code Ends b h (b + 1) (h + 1) s0 (at d (place + length front + 1) ks (Located q ∷ ops) l1 w1) c1 c1 next _ (omega arith) (omega arith) (omega arith) (omega arith)
+          (by_code ask code d (place + length front) ks (Located p ∷ ops) l1 w1 (InstrOf.Select u position t) (laid_back code place front last has).0 ∙ ap (λ j. at d (place + length front + 1) ks (Located (component_of p j position) ∷ ops) l1 w1) agree.1)
+          (subst (λ z. RunsTo ask code Ends b h (at d z ks (Located q ∷ ops) l1 w1) c1 next (g (Goes (found_at q)) c1 l1 w1)) end (then c1 l1 w1 lo fits1 q))))
+          (λ y c1 l1 w1 lo fits1. added_to ask code Ends 0 b h b h _ c1 next (g (Leaves (ByRaise y)) c1 l1 w1) (omega arith) (omega arith) (left y c1 l1 w1 lo fits1)))
+
+      -- where nothing was taken from the clock before
+      pub part_then : (b h : ℕ) (x : Reached) (act : List ℕ → Act (List ℕ)) → Starts (start_of x) act → (t : ℕ) (s : List Kind) (place c : ℕ) (l : Log) (w : World) → are_followed (start_of x) (steps_before x) ≡ true → AgreePart k code x → c ≤ bound → Since k code w0 w → IsSeen w0 d s → Laid code place (part_code x t s) → Follows g d ks ops c b h (place + length (part_code x t s)) → Left g d ks ops c b h → RunsTo ask code Ends b h (at d place ks ops l w) c next (bind (find_by K act (steps_of x) (start_of x) d c l w) g)
+      part_then b h x act begun t s place c l w = part_from b h x act begun t s place c c l w (on_time (start_of x) c)

@@ -1,0 +1,11 @@
+pub mod Rising
+pub mod Cells
+pub mod Seen
+pub mod InStore
+pub mod Listed
+pub mod Items
+pub mod Shown
+pub mod Kept
+pub mod Calls
+pub mod Conditions
+pub mod Beside

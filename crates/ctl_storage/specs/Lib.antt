@@ -1,0 +1,8 @@
+pub mod Stages
+pub mod Order
+pub mod Allocated
+pub mod Storage
+pub mod Codes
+pub mod Calls
+pub mod Located
+pub mod Inside
