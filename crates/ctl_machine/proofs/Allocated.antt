@@ -11,7 +11,7 @@ use Rattle.ctl_meaning.specs.Objects.{change_in, with_joined, opened_objects}
 use Rattle.ctl_meaning.specs.Outcome.{Fine, Raised, Tried}
 use Rattle.ctl_meaning.specs.World as W
 use Rattle.ctl_meaning.specs.World.{World}
-use Rattle.ctl_objects.specs.Order as Order
+use Rattle.ctl_storage.specs.Order as Order
 use Rattle.ctl_objects.proofs.Both.{first_is_each}
 use Rattle.ctl_code.specs.declared.kinds.Kind.{Kind}
 use Rattle.ctl_code.specs.declared.kinds.Kind.TheVariants.{Operand}
@@ -38,7 +38,7 @@ use Rattle.ctl_machine.specs.Filling.{AllLeaveSame}
 use Rattle.ctl_machine.specs.Finishing.{with_objects}
 use Rattle.ctl_machine.specs.Masters.{Head, heads_of, first_display, first_window}
 use Rattle.ctl_machine.specs.Moves.{BeforeResuming, Inside, Makes}
-use Rattle.ctl_machine.specs.Shows.{Wait, allocating_copy_waits, allocating_waits, Kept, Holds, Sized, SizedBelow, ShowsMode, kept, tried_of, with_cells}
+use Rattle.ctl_machine.specs.Shows.{Wait, allocating_copy_waits, allocating_waits, Kept, Holds, Sized, SizedBelow, ShowsMode, kept, tried_of, with_cells, stock_of}
 use Rattle.ctl_machine.specs.Copying.{IsMember, point_at}
 use Rattle.ctl_machine.specs.Spots.{KeepsSpots, spots_in}
 use Rattle.ctl_machine.specs.Under.{laid}
@@ -51,6 +51,11 @@ use Rattle.ctl_machine.proofs.Plain.{comes_makes, leaves_makes, no_operands}
 use Rattle.ctl_machine.proofs.Stages.{Copies, Creates, Stage, allocator_in, allocator_marks, cells_in, noted_before, noted_behind, saved_behind, sized_in, spots_waiting, stands_in, waiting_in}
 use Rattle.ctl_machine.proofs.StillLeft.{left_below}
 use Rattle.ctl_machine.proofs.Values.{operand_stands}
+use Rattle.ctl_objects.specs.Pools.{KeepsShown}
+use Rattle.ctl_machine.proofs.Stocked.{with_forgotten}
+use Rattle.std.specs.Ordering.{nat_cmp}
+use Rattle.std.specs.FinMap.{FinMap}
+use Rattle.pool_store.specs.Entries.{BlockPool}
 
 -- The frame waits --------------------------------------------------------------------------------------
 
@@ -103,6 +108,7 @@ allocating_ends g code e object t place fs k ops w h top u =
       waits = u.waits;
       objects = h.objects;
       needs = h.needs;
+      pools = h.pools;
       owns = h.owns;
       held = h.held;
       rise = h.rise;
@@ -194,9 +200,10 @@ value_at code place type stack leads = ap (λ (l : List Kind). height (drop 1 l)
 -- An exception goes on ---------------------------------------------------------------------------------
 
 -- the object is gone
-pub forgets : (code : Code) (e : Kept) (n : ℕ) (stack : List Kind) (k : List T.Frame) (ops : List Word) (w : World) → OwnsNone n e.owned → Inside code e stack k ops w → Inside code (with_objects (forgotten n e.objects) e) stack k ops (forget n w)
+pub forgets : (code : Code) (e : Kept) (n : ℕ) (blocks : FinMap nat_cmp BlockPool) (stack : List Kind) (k : List T.Frame) (ops : List Word) (w : World) → OwnsNone n e.owned → KeepsShown (stock_of e) (stock_of (with_forgotten n blocks e)) → Inside code e stack k ops w
+    → Inside code (with_forgotten n blocks e) stack k ops (forget n w)
 unfolding opened_changes
-forgets code e n stack k ops w none i =
+forgets code e n blocks stack k ops w none shown i =
     let h = i.holds in
     record {
       stands = i.stands;
@@ -209,6 +216,7 @@ forgets code e n stack k ops w none i =
         waits = h.waits;
         objects = ap (λ (l : List W.Object). forgotten n l) h.objects;
         needs = h.needs;
+        pools = shown e.next_object w.pools h.pools;
         owns = owns_without n e.next_object e.objects e.owned none h.owns;
         held = h.held;
         rise = h.rise;
@@ -224,11 +232,12 @@ forgets code e n stack k ops w none i =
     }
 
 pub allocator_raises : (code : Code) (old new : Engine) (object place : ℕ) (s : State) (exception : ℕ) → IsMember code old object place s
-    → new.mode ≡ ModeOf.Transfers (WayOf.Raise exception) → kept new ≡ with_objects (forgotten object old.stock.objects) (kept old) → new.events.items ≡ old.events.items → new.picks.items ≡ old.picks.items
+    → new.mode ≡ ModeOf.Transfers (WayOf.Raise exception) → kept new ≡ with_forgotten object new.stock.blocks (kept old) → KeepsShown old.stock new.stock → new.events.items ≡ old.events.items → new.picks.items ≡ old.picks.items
     → Makes code old new (by_creating (Raised exception) T.ByAllocator object (point_at place s) s.control s.world)
-allocator_raises code old new object place s exception m mode kept_is events picks =
-    let i = forgets code (kept old) object m.stack s.control s.operands s.world m.foreign m.inside in
-    leaves_makes code old new (with_objects (forgotten object old.stock.objects) (kept old)) (WayOf.Raise exception) m.stack s.control s.operands (forget object s.world) i
+allocator_raises code old new object place s exception m mode kept_is shown events picks =
+    let still = subst (λ (e : Kept). KeepsShown old.stock (stock_of e)) kept_is shown in
+    let i = forgets code (kept old) object new.stock.blocks m.stack s.control s.operands s.world m.foreign still m.inside in
+    leaves_makes code old new (with_forgotten object new.stock.blocks (kept old)) (WayOf.Raise exception) m.stack s.control s.operands (forget object s.world) i
     (record { mode = mode; kept = kept_is; events = events; picks = picks })
 
 -- It may not join --------------------------------------------------------------------------------------

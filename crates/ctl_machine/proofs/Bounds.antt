@@ -69,6 +69,7 @@ operand_set code e k above ops w x y at before after are become h is =
       waits = h.waits;
       objects = h.objects;
       needs = h.needs;
+      pools = h.pools;
       owns = h.owns;
       held = h.held;
       rise = h.rise;

@@ -87,6 +87,7 @@ in_place code e k x ops w h = record {
   waits = h.waits;
   objects = h.objects;
   needs = h.needs;
+  pools = h.pools;
   owns = h.owns;
   held = h.held;
   rise = h.rise;

@@ -118,6 +118,7 @@ member_over code e first last failed fails fs sets k w h top =
           (emptying_stays fails (subst (λ (l : List Frame). Wait l e.masters (heads_of w.activations) e.owned (T.Emptying sets failed ∷ k)) top h.waits));
       objects = h.objects;
       needs = h.needs;
+      pools = h.pools;
       owns = h.owns;
       held = h.held;
       rise = h.rise;
@@ -156,6 +157,7 @@ emptied code e first last failed fs sets k w h top = record {
   waits = below_emptying (subst (λ (l : List Frame). Wait l e.masters (heads_of w.activations) e.owned (T.Emptying sets failed ∷ k)) top h.waits);
   objects = h.objects;
   needs = h.needs;
+  pools = h.pools;
   owns = h.owns;
   held = h.held;
   rise = h.rise;

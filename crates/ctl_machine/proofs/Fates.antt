@@ -1,7 +1,6 @@
 -- What becomes of an object that is to be freed, by what is known of it.
-use Rattle.std.proofs.Common.{◌≡◌, ◌≢◌, ℕ, ◌+◌, List, [], ◌∷◌, Option, Some, None, Bool, true, false, refl, sym, ap, ◌∙◌, subst}
+use Rattle.std.proofs.Common.{◌≡◌, ◌≢◌, ℕ, ◌+◌, List, ◌∷◌, Option, Some, None, Bool, true, false, refl, sym, ap, ◌∙◌, subst}
 use Rattle.std.specs.Prelude.{◌&&◌, if◌then◌else◌, nat_eq, not}
-use Rattle.std.specs.Option.{option_map}
 use Rattle.ctl_program.specs.declared.types.Ty.{Ty}
 use Rattle.ctl_program.specs.declared.types.Ty.TheVariants.{Integer, Count, Boolean, Address, Handle, Access, Record}
 use Rattle.ctl_program.specs.declared.types.Var.{Var}
@@ -10,19 +9,18 @@ use Rattle.ctl_tree.specs.declared.event.Cause.TheVariants as CauseOf
 use Rattle.ctl_meaning.specs.Activations.{master_of}
 use Rattle.ctl_meaning.specs.Allocation.{set_in}
 use Rattle.ctl_meaning.specs.Changes.{object_at, slot_at}
-use Rattle.ctl_meaning.specs.Objects.{is_finalizing, is_of_set, is_untouched, object_in, opened_objects}
+use Rattle.ctl_meaning.specs.Objects.{is_finalizing, is_of_set, is_untouched, opened_objects}
 use Rattle.ctl_meaning.specs.Outcome.{Fine}
 use Rattle.ctl_meaning.specs.World as W
 use Rattle.ctl_meaning.specs.World.{Object, World}
 use Rattle.ctl_objects.specs.declared.existing.Existing.{Existing}
-use Rattle.ctl_objects.specs.declared.existing.Life.{Life}
-use Rattle.ctl_objects.specs.declared.existing.Life.TheVariants as LifeOf
+use Rattle.ctl_storage.specs.declared.existing.Life.{Life}
+use Rattle.ctl_storage.specs.declared.existing.Life.TheVariants as LifeOf
 use Rattle.ctl_objects.specs.declared.existing.Origin.{Origin}
 use Rattle.ctl_objects.specs.declared.existing.Origin.TheVariants as OriginOf
-use Rattle.ctl_objects.specs.declared.existing.Stage.{Stage}
 use Rattle.ctl_objects.specs.Existing.{IsKnown, bare, known, origin_of}
 use Rattle.ctl_objects.specs.Order as Order
-use Rattle.ctl_objects.specs.Stages.{state_of}
+use Rattle.ctl_storage.specs.Stages.{state_of}
 use Rattle.ctl_code.specs.declared.code.Code.{Code}
 use Rattle.ctl_code.specs.declared.code.Parts.{Parts}
 use Rattle.ctl_code.specs.declared.code.Parts.TheVariants as PartsOf
@@ -31,7 +29,6 @@ use Rattle.ctl_code.specs.States.{State, Word}
 use Rattle.ctl_code.specs.Table.{behind_declaration, finalize_freed, finalize_object, free_member, free_object, gives, has_part, parts_of, stopped}
 use Rattle.ctl_machine.specs.declared.engine.Engine.{Engine}
 use Rattle.ctl_machine.specs.declared.frame.Owned.{Owned}
-use Rattle.ctl_machine.specs.declared.freeing.Fate.{Fate}
 use Rattle.ctl_machine.specs.declared.freeing.Fate.TheVariants as FateOf
 use Rattle.ctl_machine.specs.Allocating.{OwnsNone}
 use Rattle.ctl_machine.specs.Freeing.{IsFate, MayBe, by_fate, fate_by_life, fate_by_origin, fate_of, fate_of_member, if_unfinished}
@@ -41,6 +38,7 @@ use Rattle.ctl_machine.specs.Shows.{Holds, kept}
 use Rattle.ctl_machine.proofs.Foreign.{allocated_foreign}
 use Rattle.ctl_machine.proofs.MayJoin.{known_there, none_known}
 use Rattle.ctl_machine.proofs.Owned.{object_shown}
+use Rattle.ctl_storage.specs.declared.existing.Place.{Place}
 
 -- The table's move -------------------------------------------------------------------------------------
 
@@ -102,7 +100,7 @@ freed_moves code set n x cells nulled p k w = by x.origin (member_moves code n x
         → (if not (is_of_set set (origin_of z)) then stopped StopOf.ForeignFree k w else if is_finalizing (state_of x.stage.life) then stopped StopOf.FreeWhileFinalizing k w else finalize_freed code (known_object n x cells) (T.Freeing nulled n p ∷ k) w)
         ≡ by_fate code (fate_by_origin code set z x) n (T.Freeing nulled n p) k w
     by (OriginOf.Declared m) e = refl
-    by (OriginOf.Allocated c) e = by_set (nat_eq c set) e
+    by (OriginOf.Allocated c place) e = by_set (nat_eq c set) e
 
 -- Who owns it ------------------------------------------------------------------------------------------
 
@@ -137,7 +135,7 @@ member_may code n x owned none = by_life x.stage.life
     by_life LifeOf.Finalizing = tt
     by_life LifeOf.Finalized = by x.ty
 
-freed_may : (code : Code) (set n : ℕ) (x : Existing) (owned : List Owned) → ((c : ℕ) → x.origin ≡ OriginOf.Allocated c → OwnsNone n owned) → MayBe code (fate_of code set x) n owned
+freed_may : (code : Code) (set n : ℕ) (x : Existing) (owned : List Owned) → ((c : ℕ) (place : Place) → x.origin ≡ OriginOf.Allocated c place → OwnsNone n owned) → MayBe code (fate_of code set x) n owned
 freed_may code set n x owned none = by x.origin refl
   where
     by_set : (b : Bool) → OwnsNone n owned → MayBe code (if b then fate_of_member code x else FateOf.Stops StopOf.ForeignFree) n owned
@@ -146,7 +144,7 @@ freed_may code set n x owned none = by x.origin refl
 
     by : (z : Origin) → x.origin ≡ z → MayBe code (fate_by_origin code set z x) n owned
     by (OriginOf.Declared m) is = tt
-    by (OriginOf.Allocated c) is = by_set (nat_eq c set) (none c is)
+    by (OriginOf.Allocated c place) is = by_set (nat_eq c set) (none c place is)
 
 -- Both -------------------------------------------------------------------------------------------------
 
@@ -164,7 +162,7 @@ fate_known code e v n set x s h knows is =
     let same = is_known_object n x o there.2 in
     let origin : o.origin ≡ origin_of x.origin = ap (λ (z : Object). z.origin) there.2 in
     record {
-      may = freed_may code set n x e.owned.items (λ c from.
+      may = freed_may code set n x e.owned.items (λ c place from.
           allocated_foreign n (e.numbered.objects + 1) e.stock.objects e.owned.items o h.owns there.1 (subst (λ (z : W.Origin). Order.IsAllocated z) (sym (origin ∙ ap origin_of from)) tt));
       moves = λ place nulled ops.
           let p = behind_declaration ops (here_of place s) in

@@ -7,8 +7,8 @@ use Rattle.ctl_meaning.specs.World.{Origin, Declared, Allocated, Object}
 use Rattle.ctl_meaning.specs.Lists.{keep, opened_lists}
 use Rattle.ctl_meaning.specs.Objects.{object_in, opened_objects}
 use Rattle.ctl_objects.specs.Order as Order
-use Rattle.ctl_objects.proofs.Conditions.{all_kept}
-use Rattle.ctl_objects.proofs.Rising.{rise_keep}
+use Rattle.ctl_storage.proofs.Conditions.{all_kept}
+use Rattle.ctl_storage.proofs.Rising.{rise_keep}
 use Rattle.ctl_machine.specs.declared.frame.Owned.{Owned}
 use Rattle.ctl_machine.specs.Allocating.{HaveNot, OwnsNone}
 use Rattle.ctl_machine.specs.Owned.{AreOwned, Identity, objects_owned, identity_of, identity_owned, is_declared}

@@ -5,7 +5,7 @@ use Rattle.std.proofs.lemmas.Option.{slice_get_within}
 use Rattle.ctl_meaning.specs.World.{Collection, Object}
 use Rattle.ctl_meaning.specs.Objects.{ends_with_master}
 use Rattle.ctl_objects.specs.Order.{AreUpTo, IsUpTo}
-use Rattle.ctl_objects.proofs.Conditions.{all_kept}
+use Rattle.ctl_storage.proofs.Conditions.{all_kept}
 use Rattle.ctl_machine.specs.declared.frame.Owned.{Owned}
 use Rattle.ctl_machine.specs.declared.frame.Role.{Role}
 use Rattle.ctl_machine.specs.declared.frame.Role.TheVariants as RoleOf

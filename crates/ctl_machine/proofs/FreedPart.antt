@@ -1,14 +1,12 @@
 -- An object is freed by a component, which becomes null.
-use Rattle.std.proofs.Common.{◌≡◌, ℕ, zero, suc, ◌+◌, List, [], ◌∷◌, ◌++◌, Option, Some, None, Bool, drop, length, refl, sym, ap, ◌∙◌, subst, reverse}
+use Rattle.std.proofs.Common.{◌≡◌, ℕ, zero, suc, ◌+◌, List, [], ◌∷◌, ◌++◌, Option, Some, None, Bool, drop, refl, sym, ap, ◌∙◌, subst, reverse}
 use Rattle.std.specs.Prelude.{slice_get}
 use Rattle.ctl_program.specs.declared.types.Var.{Var}
 use Rattle.ctl_tree.specs.declared.ending.Stop.TheVariants.{UseAfterFree}
 use Rattle.ctl_meaning.specs.Changes.{object_at, opened_changes, write_cells}
 use Rattle.ctl_meaning.specs.Finalization.{Spot}
-use Rattle.ctl_meaning.specs.Names.{scalar_of}
 use Rattle.ctl_meaning.specs.Objects.{cells_at, change_in, object_in}
 use Rattle.ctl_meaning.specs.Objects as O
-use Rattle.ctl_meaning.specs.Outcome.{Tried}
 use Rattle.ctl_meaning.specs.World as W
 use Rattle.ctl_meaning.specs.World.{World}
 use Rattle.ctl_code.specs.declared.kinds.Kind.{Kind}
@@ -17,7 +15,6 @@ use Rattle.ctl_code.specs.declared.code.Instr.TheVariants.{Free, FreePart}
 use Rattle.ctl_code.specs.States as T
 use Rattle.ctl_code.specs.States.{Giving, Move, State, Word}
 use Rattle.ctl_code.specs.Table.{Here, act, by_free, by_free_part, by_instr, cell_at, component_of, freed_part, free_object, gone, offset_of, on, says_failed}
-use Rattle.ctl_code.specs.Valid.{Leads}
 use Rattle.ctl_machine.specs.declared.engine.Engine.{Engine}
 use Rattle.ctl_machine.specs.declared.frame.Ended.{Ended}
 use Rattle.ctl_machine.specs.declared.frame.Frame.{Frame}
@@ -30,18 +27,19 @@ use Rattle.ctl_machine.specs.Freeing.{Freed, Frees, mode_freed}
 use Rattle.ctl_machine.specs.Masters.{first_display, heads_of}
 use Rattle.ctl_machine.specs.Moves.{Before, BeforeResuming, GoesOn, Inside, Makes, here_of}
 use Rattle.ctl_machine.specs.Parts.{part_in}
-use Rattle.ctl_machine.specs.Shows.{Holds, Kept, kept, nulled_of, tried_of, with_cells, with_spots}
+use Rattle.ctl_machine.specs.Shows.{Holds, Kept, kept, nulled_of, tried_of, with_cells, with_spots, stock_of}
 use Rattle.ctl_machine.specs.Spots.{first_spot, spots_in, standing}
 use Rattle.ctl_machine.proofs.Assignments.{stops_makes}
 use Rattle.ctl_machine.proofs.Bodies.{more_cells}
-use Rattle.ctl_machine.proofs.Foreign.{forgotten}
-use Rattle.ctl_machine.proofs.Freed.{IsFreeingIn, behind_frame, freed_makes, freeing, stands_behind}
+use Rattle.ctl_machine.proofs.Freed.{IsFreeingIn, behind_frame, freed_makes, stands_behind}
 use Rattle.ctl_machine.proofs.Located.{goes_keeping, part_on_top, read_is}
-use Rattle.ctl_machine.proofs.Operands.{HasPart, other_spots}
+use Rattle.ctl_machine.proofs.Operands.{other_spots}
 use Rattle.ctl_machine.proofs.Owned.{cells_keep, holds_changed, object_shown}
 use Rattle.ctl_machine.proofs.Plain.{goes_makes}
 use Rattle.ctl_machine.proofs.Touched.{gone_makes}
 use Rattle.ctl_machine.proofs.Words.{same_front}
+use Rattle.ctl_objects.specs.Pools.{KeepsShown}
+use Rattle.ctl_machine.proofs.Stocked.{with_forgotten}
 
 -- The frame goes ---------------------------------------------------------------------------------------
 
@@ -119,7 +117,7 @@ there_so part object failed y o p k w is = ap (λ z. freed_part part object fail
 
 pub part_ends : (code : Code) (old new : Engine) (ended : Ended) (object place : ℕ) (fs : List Frame) (s : State) (o : W.Object) → BeforeResuming code old s → reverse old.control.items ≡ FrameOf.Freeing object NulledOf.Part place ∷ fs
     → (u : IsFreeingIn old object NulledOf.Part place fs s) → (x : IsNulled old object u.point u.waiting s) → object_in x.part.object old.stock.objects ≡ Some o
-    → new.mode ≡ mode_freed ended place → (let e = with_null x.part (behind_frame fs (standing u.waiting u.point.operands) (kept old)) in kept new ≡ with_objects (forgotten object e.objects) e) → new.events.items ≡ old.events.items → new.picks.items ≡ old.picks.items
+    → new.mode ≡ mode_freed ended place → (let e = with_null x.part (behind_frame fs (standing u.waiting u.point.operands) (kept old)) in (kept new ≡ with_forgotten object new.stock.blocks e) × KeepsShown (stock_of e) new.stock) → new.events.items ≡ old.events.items → new.picks.items ≡ old.picks.items
     → Makes code old new (act code (Giving (tried_of ended)) s.control s.operands s.world 0)
 part_ends code old new ended object place fs s o b top u x found mode are events picks =
     let v = stands_behind code old object NulledOf.Part place fs s b top u in
@@ -131,7 +129,7 @@ part_ends code old new ended object place fs s o b top u x found mode are events
     let w = write_cells x.part.object x.part.offset (0 ∷ []) s.world in
     let i = null_inside code (behind_frame fs (standing k p.operands) (kept old)) v.stack k p.operands s.world x.part v.inside in
     let seen : p.display ≡ first_display (heads_of w.activations) = same_display x.part s.world (λ acts. p.display ≡ first_display (heads_of acts)) u.seen in
-    let made = freed_makes code old new e ended object place v.stack p k w v.leads i u.foreign u.place_is seen mode are events picks in
+    let made = freed_makes code old new e ended object place v.stack p k w v.leads i u.foreign u.place_is seen mode are.0 are.1 events picks in
     subst (λ (l : List T.Frame). Makes code old new (act code (Giving (tried_of ended)) l s.operands s.world 0)) (sym x.is)
     (subst (λ (m : Move). Makes code old new m) (sym (there_so x.part object failed (object_at x.part.object s.world) o p k s.world there)) made)
 

@@ -14,11 +14,12 @@ use Rattle.ctl_machine.specs.declared.frame.Mode.{Mode}
 use Rattle.ctl_machine.specs.declared.frame.Mode.TheVariants as ModeOf
 use Rattle.ctl_machine.specs.declared.frame.Owned.{Owned}
 use Rattle.ctl_machine.specs.Masters.{heads_of, first_display}
-use Rattle.ctl_objects.proofs.Conditions.{below_more}
+use Rattle.ctl_storage.proofs.Conditions.{below_more}
 use Rattle.ctl_machine.specs.Owned.{AreOwned}
-use Rattle.ctl_machine.specs.Shows.{ShowsMode, Kept, Holds, kept}
+use Rattle.ctl_machine.specs.Shows.{ShowsMode, Kept, Holds, kept, stock_of}
 use Rattle.ctl_machine.specs.Moves.{Before, Makes, here_of}
 use Rattle.ctl_machine.specs.Spots.{KeepsSpots}
+use Rattle.ctl_objects.proofs.Unchanged.{later_pools}
 
 owns_further : (owned : List Owned) (next : ℕ) (objects : List Object) → AreOwned owned next objects → AreOwned owned (next + 1) objects
 owns_further owned next objects a = record { declared = a.declared; numbers = below_more next (next + 1) objects (omega arith) a.numbers; apart = a.apart; some = omega arith }
@@ -36,6 +37,7 @@ numbered code e k ops w h = record {
   waits = h.waits;
   objects = h.objects;
   needs = h.needs;
+  pools = later_pools e.next_object (e.next_object + 1) w.pools (stock_of e) (omega arith) h.pools;
   owns = owns_further e.owned e.next_object e.objects h.owns;
   held = h.held;
   rise = h.rise;

@@ -125,3 +125,4 @@ pub mod Freed
 pub mod FreedPart
 pub mod CopyAllocated
 pub mod Stocked
+pub mod PoolsDropped

@@ -121,6 +121,7 @@ changed_part code e spots t part below k (y ∷ ops) w x are i same is =
         waits = h.waits;
         objects = h.objects;
         needs = h.needs;
+        pools = h.pools;
         owns = h.owns;
         held = h.held;
         rise = h.rise;

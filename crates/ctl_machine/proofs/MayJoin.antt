@@ -3,14 +3,14 @@ use Rattle.std.proofs.Common.{◌≡◌, ℕ, List, Option, Some, None, true, fa
 use Rattle.std.specs.Prelude.{◌&&◌, is_some, not}
 use Rattle.std.specs.Option.{option_map}
 use Rattle.ctl_meaning.specs.Allocation.{is_new, set_of}
-use Rattle.ctl_meaning.specs.Changes.{object_at}
 use Rattle.ctl_meaning.specs.Ledger.{opened_ledger}
 use Rattle.ctl_meaning.specs.Objects.{is_untouched, object_in}
 use Rattle.ctl_meaning.specs.World.{Collection, Declared, Object, Origin, World}
+use Rattle.ctl_storage.specs.declared.existing.Place.{Place}
 use Rattle.ctl_objects.specs.declared.existing.Existing.{Existing}
 use Rattle.ctl_objects.specs.declared.existing.Origin.TheVariants as OriginOf
 use Rattle.ctl_objects.specs.Existing.{IsKnown, bare, known, origin_of}
-use Rattle.ctl_objects.specs.Stages.{state_of}
+use Rattle.ctl_storage.specs.Stages.{state_of}
 use Rattle.ctl_code.specs.declared.code.Code.{Code}
 use Rattle.ctl_code.specs.States as T
 use Rattle.ctl_code.specs.States.{Word}
@@ -68,21 +68,21 @@ unfolding is_new
 known_new n x = refl
 
 -- its collection, among what is owned
-collection_there : (code : Code) (e : Kept) (c : ℕ) (z : Origin) (k : List T.Frame) (ops : List Word) (w : World) → Holds code e k ops w → z ≡ origin_of (OriginOf.Allocated c) → set_of z w ≡ set_in c (sets_owned e.owned)
+collection_there : (code : Code) (e : Kept) (c : ℕ) (place : Place) (z : Origin) (k : List T.Frame) (ops : List Word) (w : World) → Holds code e k ops w → z ≡ origin_of (OriginOf.Allocated c place) → set_of z w ≡ set_in c (sets_owned e.owned)
 unfolding set_of opened_ledger
-collection_there code e c z k ops w h is = ap (λ (y : Origin). set_of y w) is ∙ ap (set_in c) h.collections
+collection_there code e c place z k ops w h is = ap (λ (y : Origin). set_of y w) is ∙ ap (set_in c) h.collections
 
 -- it is a new one, and its collection stands
-pub allocated_joins : (code : Code) (e : Kept) (n c : ℕ) (x : Existing) (set : Option Owned) (k : List T.Frame) (ops : List Word) (w : World) → Holds code e k ops w → IsKnown n (Some x) e.objects → x.origin ≡ OriginOf.Allocated c
+pub allocated_joins : (code : Code) (e : Kept) (n c : ℕ) (place : Place) (x : Existing) (set : Option Owned) (k : List T.Frame) (ops : List Word) (w : World) → Holds code e k ops w → IsKnown n (Some x) e.objects → x.origin ≡ OriginOf.Allocated c place
     → (is_untouched (state_of x.stage.life) && not x.stage.has_joined) ≡ true → option_map collection_of set ≡ set_in c (sets_owned e.owned) → is_some set ≡ true → MayJoin n w
-allocated_joins code e n c x None k ops w h knows is new found some = absurd (cc)
-allocated_joins code e n c x (Some o) k ops w h knows is new found some =
+allocated_joins code e n c place x None k ops w h knows is new found some = absurd (cc)
+allocated_joins code e n c place x (Some o) k ops w h knows is new found some =
     let there = known_there n x e.objects knows in
     record {
       object = there.0;
       collection = collection_of o;
       found = object_shown code e k ops w n h ∙ there.1;
-      stands = collection_there code e c there.0.origin k ops w h (ap (λ (z : Object). z.origin) there.2 ∙ ap origin_of is) ∙ sym found;
+      stands = collection_there code e c place there.0.origin k ops w h (ap (λ (z : Object). z.origin) there.2 ∙ ap origin_of is) ∙ sym found;
       new = sym (bare_new there.0) ∙ (ap is_new there.2 ∙ (known_new n x ∙ new));
     }
 
@@ -93,10 +93,10 @@ old_joins code e n x k ops w h knows old may =
     absurd (cc)
 
 -- its collection is gone
-pub without_set_joins : (code : Code) (e : Kept) (n c : ℕ) (x : Existing) (set : Option Owned) (k : List T.Frame) (ops : List Word) (w : World) → Holds code e k ops w → IsKnown n (Some x) e.objects → x.origin ≡ OriginOf.Allocated c
+pub without_set_joins : (code : Code) (e : Kept) (n c : ℕ) (place : Place) (x : Existing) (set : Option Owned) (k : List T.Frame) (ops : List Word) (w : World) → Holds code e k ops w → IsKnown n (Some x) e.objects → x.origin ≡ OriginOf.Allocated c place
     → option_map collection_of set ≡ set_in c (sets_owned e.owned) → is_some set ≡ false → MayJoin n w → ⊥
-without_set_joins code e n c x (Some o) k ops w h knows is found none may = absurd (cc)
-without_set_joins code e n c x None k ops w h knows is found none may =
-    let gone : set_of may.object.origin w ≡ None = collection_there code e c may.object.origin k ops w h (ap (λ (o : Object). o.origin) (as_known code e n x k ops w h knows may) ∙ ap origin_of is) ∙ sym found in
+without_set_joins code e n c place x (Some o) k ops w h knows is found none may = absurd (cc)
+without_set_joins code e n c place x None k ops w h knows is found none may =
+    let gone : set_of may.object.origin w ≡ None = collection_there code e c place may.object.origin k ops w h (ap (λ (o : Object). o.origin) (as_known code e n x k ops w h knows may) ∙ ap origin_of is) ∙ sym found in
     let both : Some may.collection ≡ None = sym may.stands ∙ gone in
     absurd (cc)

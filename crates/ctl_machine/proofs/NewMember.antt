@@ -25,12 +25,13 @@ use Rattle.ctl_machine.specs.Gathering.{member_at, member_begins, with_new_membe
 use Rattle.ctl_machine.specs.Initializing.{Awaits}
 use Rattle.ctl_machine.specs.Masters.{Head, heads_of, first_display}
 use Rattle.ctl_machine.specs.Moves.{Before, GoesOn, Inside, Makes, here_of}
-use Rattle.ctl_machine.specs.Shows.{Kept, Holds, Sized, kept}
+use Rattle.ctl_machine.specs.Shows.{Kept, Holds, Sized, kept, stock_of}
 use Rattle.ctl_machine.proofs.Foreign.{owns_no_next}
 use Rattle.ctl_machine.proofs.Owned.{owns_member}
 use Rattle.ctl_machine.proofs.Plain.{transfers_makes}
 use Rattle.ctl_machine.proofs.Stages.{Creates, allocator_begins, with_frame}
 use Rattle.ctl_machine.proofs.Touched.{gone_makes}
+use Rattle.ctl_objects.proofs.Unchanged.{allocated_pools}
 
 -- the collection that owns an object; 0 where a master does
 abbrev pub set_of_owner : Owner → ℕ
@@ -55,6 +56,7 @@ member_added code e set t k ops w h =
       objects = ap (λ (l : List W.Object). l ++ new_object w.ledger.next_object (Record t) (replicate size 0) (Allocated set Standard) ∷ []) h.objects
           ∙ same_object e.objects w.ledger.next_object e.next_object set t size h.next_object;
       needs = h.needs;
+      pools = allocated_pools e.next_object set (Record t) (replicate size 0) w.pools (stock_of e) h.owns.numbers h.pools;
       owns = owns_member e.owned e.next_object e.objects set (Record t) (replicate size 0) h.owns;
       held = h.held;
       rise = h.rise;

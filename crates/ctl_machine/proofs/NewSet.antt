@@ -1,6 +1,6 @@
 -- A collection is made.
-use Rattle.std.proofs.Common.{◌≡◌, ℕ, zero, suc, ◌+◌, ◌<◌, ◌≤◌, ◌-◌, List, [], ◌∷◌, ◌++◌, Some, Bool, true, false, length, refl, sym, ap, ◌∙◌, subst, arith, reverse, drop, take, inl}
-use Rattle.std.specs.Prelude.{nat_eq, nat_lt, slice_get, slice_set}
+use Rattle.std.proofs.Common.{◌≡◌, ℕ, zero, suc, ◌+◌, ◌<◌, ◌≤◌, ◌-◌, List, [], ◌∷◌, ◌++◌, Some, Bool, true, false, length, refl, sym, ap, ◌∙◌, subst, arith, reverse, drop, inl}
+use Rattle.std.specs.Prelude.{nat_eq, nat_lt, slice_get}
 use Rattle.std.proofs.lemmas.Bool.Decides.{nat_tests}
 use Rattle.std.proofs.lemmas.List.{append-nil, length-append, reverse-append}
 use Rattle.ctl_program.specs.declared.types.Var.{Var}
@@ -15,7 +15,7 @@ use Rattle.ctl_code.specs.declared.code.Code.{Code}
 use Rattle.ctl_code.specs.declared.code.Instr.TheVariants.{Gather}
 use Rattle.ctl_code.specs.States as T
 use Rattle.ctl_code.specs.States.{Move, State, Word}
-use Rattle.ctl_code.specs.Table.{by_gather, by_instr, numbers_to, on, quiet, with_sets}
+use Rattle.ctl_code.specs.Table.{by_instr, numbers_to, quiet, with_sets}
 use Rattle.ctl_machine.specs.declared.engine.Engine.{Engine}
 use Rattle.ctl_machine.specs.declared.frame.After.{After}
 use Rattle.ctl_machine.specs.declared.frame.Frame.{Frame}
@@ -37,7 +37,7 @@ use Rattle.ctl_machine.proofs.Declared.{own_changed, own_stays}
 use Rattle.ctl_machine.proofs.Gathered.{set_comes, sets_more}
 use Rattle.ctl_machine.proofs.Leaves.{newest_item}
 use Rattle.ctl_machine.proofs.Newborn.{same_first}
-use Rattle.ctl_machine.proofs.Objects.{IsInnermost, cleared_beyond, cleared_within, innermost, length_slot_cleared, newest_held, no_such_slot, stands_in}
+use Rattle.ctl_machine.proofs.Objects.{cleared_beyond, cleared_within, innermost, length_slot_cleared, newest_held, no_such_slot, stands_in}
 use Rattle.ctl_machine.proofs.Owned.{owns_set}
 use Rattle.ctl_machine.proofs.Plain.{comes_makes}
 use Rattle.ctl_machine.proofs.Values.{slot_written}
@@ -127,6 +127,7 @@ gathered code e g after fs m ms n slot count j g' after' k ops w acts h top is o
           (subst (λ (l : List Frame). Wait l e.masters hs owned' k') (sym top) (subst (λ (l : List Master). Wait (FrameOf.InMaster g after ∷ fs) l hs owned' k') (sym is) waits'));
       objects = h.objects;
       needs = h.needs;
+      pools = h.pools;
       owns = owns_set e.owned e.next_object e.objects x false count refl h.owns;
       held = subst (λ (l : List Master). AreHeld l acts owned' e.formals) (sym is) held;
       rise = set_comes e.owned 0 e.given_collections x false count h.rise refl refl refl;

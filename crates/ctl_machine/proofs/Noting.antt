@@ -90,6 +90,7 @@ notes code e s k k' w d h = record {
   waits = waits_same d h.waits;
   objects = h.objects;
   needs = h.needs;
+  pools = h.pools;
   owns = h.owns;
   held = h.held;
   rise = h.rise;

@@ -1,7 +1,6 @@
 -- The collection that an access type has where it is seen.
-use Rattle.std.proofs.Common.{◌≡◌, ℕ, zero, suc, ◌+◌, ◌-◌, ◌<◌, ◌≤◌, List, [], ◌∷◌, ◌++◌, Option, Some, None, Bool, true, false, length, refl, sym, ap, ◌∙◌, subst, arith, reverse, drop, take, inl, inr}
+use Rattle.std.proofs.Common.{◌≡◌, ℕ, zero, suc, ◌+◌, ◌-◌, ◌<◌, ◌≤◌, List, [], ◌∷◌, Option, Some, None, Bool, true, false, length, refl, sym, ap, ◌∙◌, arith, drop, take}
 use Rattle.std.specs.Prelude.{slice_get}
-use Rattle.std.specs.Option.{option_map}
 use Rattle.std.proofs.lemmas.List.{length-append}
 use Rattle.ctl_program.specs.declared.types.Var.{Var}
 use Rattle.ctl_meaning.specs.World as W
@@ -21,13 +20,11 @@ use Rattle.ctl_machine.specs.declared.frame.Master.{Master}
 use Rattle.ctl_machine.specs.declared.frame.Owned.{Owned}
 use Rattle.ctl_machine.specs.Holders.{bound_in, content_of, formal_in, holder_in, own_end, own_formals}
 use Rattle.ctl_machine.specs.Links.{AreLinked}
-use Rattle.ctl_machine.specs.Masters.{Head, heads_of, first_display, display_from}
+use Rattle.ctl_machine.specs.Masters.{Head, display_from}
 use Rattle.ctl_machine.specs.Owned.{set_in, sets_owned}
 use Rattle.ctl_machine.specs.Shows.{Holds, kept}
 use Rattle.ctl_machine.proofs.HeldThere.{content_is}
-use Rattle.ctl_machine.proofs.Links.{got}
 use Rattle.ctl_machine.proofs.Lists.{get_right}
-use Rattle.ctl_machine.proofs.Reached.{no_master_slot}
 use Rattle.std.specs.Prelude.{nat_eq, if◌then◌else◌}
 
 -- Its master -------------------------------------------------------------------------------------------

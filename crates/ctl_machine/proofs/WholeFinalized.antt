@@ -26,6 +26,7 @@ whole_comes code e n k w h = record {
   waits = finalizing_waits refl h.waits;
   objects = h.objects;
   needs = h.needs;
+  pools = h.pools;
   owns = h.owns;
   held = h.held;
   rise = h.rise;

@@ -10,12 +10,12 @@ use Rattle.ctl_meaning.specs.Objects.{is_untouched}
 use Rattle.ctl_meaning.specs.Outcome.{Fine}
 use Rattle.ctl_meaning.specs.World.{World}
 use Rattle.ctl_objects.specs.declared.existing.Existing.{Existing}
-use Rattle.ctl_objects.specs.declared.existing.Life.{Life}
-use Rattle.ctl_objects.specs.declared.existing.Life.TheVariants as LifeOf
+use Rattle.ctl_storage.specs.declared.existing.Life.{Life}
+use Rattle.ctl_storage.specs.declared.existing.Life.TheVariants as LifeOf
 use Rattle.ctl_objects.specs.declared.existing.Origin.{Origin}
 use Rattle.ctl_objects.specs.declared.existing.Origin.TheVariants as OriginOf
-use Rattle.ctl_objects.specs.declared.existing.Stage.{Stage}
-use Rattle.ctl_objects.specs.Stages.{state_of}
+use Rattle.ctl_storage.specs.declared.existing.Stage.{Stage}
+use Rattle.ctl_storage.specs.Stages.{state_of}
 use Rattle.ctl_code.specs.declared.kinds.Kind.{Kind}
 use Rattle.ctl_code.specs.declared.code.Code.{Code}
 use Rattle.ctl_code.specs.declared.code.Parts.TheVariants as PartsOf
@@ -34,7 +34,6 @@ use Rattle.ctl_machine.specs.declared.frame.Owned.{Owned}
 use Rattle.ctl_machine.specs.declared.freeing.Fate.{Fate}
 use Rattle.ctl_machine.specs.declared.freeing.Fate.TheVariants as FateOf
 use Rattle.ctl_machine.specs.Allocating.{OwnsNone}
-use Rattle.ctl_machine.specs.Masters.{heads_of}
 use Rattle.ctl_machine.specs.Moves.{Inside, here_of}
 use Rattle.ctl_machine.specs.Shows.{Holds, kept, nulled_of, with_spots}
 use Rattle.ctl_machine.specs.Spots.{spots_in, standing}
@@ -86,7 +85,7 @@ fate_of_member code x = fate_by_life code x.stage.life x.stage x.ty
 -- and from this collection
 abbrev pub fate_by_origin : Code → ℕ → Origin → Existing → Fate
 fate_by_origin code set (OriginOf.Declared m) x = FateOf.Stops StopOf.ForeignFree
-fate_by_origin code set (OriginOf.Allocated c) x = if nat_eq c set then fate_of_member code x else FateOf.Stops StopOf.ForeignFree
+fate_by_origin code set (OriginOf.Allocated c place) x = if nat_eq c set then fate_of_member code x else FateOf.Stops StopOf.ForeignFree
 
 abbrev pub fate_of : Code → ℕ → Existing → Fate
 fate_of code set x = fate_by_origin code set x.origin x

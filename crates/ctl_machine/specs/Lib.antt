@@ -34,3 +34,4 @@ pub mod Owned
 pub mod Freeing
 pub mod Copying
 pub mod Needs
+pub mod LeftPools

@@ -6,8 +6,8 @@ ghost use Rattle.ctl_meaning.specs.Activations.{master_of};
 ghost use Rattle.ctl_meaning.specs.Allocation.{set_in};
 ghost use Rattle.ctl_meaning.specs.Changes.{slot_at};
 ghost use Rattle.ctl_meaning.specs.Objects.{is_untouched};
-ghost use Rattle.ctl_objects.specs.Stages.{state_of};
-ghost use Rattle.ctl_objects.specs.Order.{AreBelow};
+ghost use Rattle.ctl_storage.specs.Stages.{state_of};
+ghost use Rattle.ctl_storage.specs.Order.{AreBelow};
 ghost use Rattle.ctl_program.specs.declared.types.Ty.{Ty};
 ghost use Rattle.ctl_program.specs.declared.types.Var.{Var};
 ghost use Rattle.ctl_code.specs.declared.code.Instr.TheVariants as InstrOf;
@@ -264,7 +264,7 @@ impl Engine {
         };
         match existing.origin {
             Origin::Declared(_) => false,
-            Origin::Allocated(collection) => {
+            Origin::Allocated { collection, .. } => {
                 is_new(existing.stage) && find_set(self.owned.as_slice(), collection).is_some()
             }
         }

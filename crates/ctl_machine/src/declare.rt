@@ -9,7 +9,8 @@ ghost use Rattle.ctl_tree.specs.declared.event.Owner.TheVariants as OwnerOf;
 ghost use Rattle.ctl_machine.specs.Moves.{Before, GoesOn, Makes, here_of};
 ghost use Rattle.ctl_machine.specs.Shows.{kept};
 ghost use Rattle.ctl_machine.specs.Declaring.{Copied, IsCopied, with_object};
-ghost use Rattle.ctl_objects.specs.Order.{AreBelow, AreUpTo};
+ghost use Rattle.ctl_storage.specs.Order.{AreBelow};
+ghost use Rattle.ctl_objects.specs.Order.{AreUpTo};
 
 use crate::engine::Engine;
 use crate::frame::{Frame, Master, Mode, Owned, Role};

@@ -4,7 +4,7 @@ ghost use Rattle.std.specs.Prelude.{◌≡◌, ◌+◌, ◌-◌, ◌^◌, ◌<�
 ghost use Rattle.ctl_tree.specs.declared.event.Cause.TheVariants as CauseOf;
 ghost use Rattle.ctl_meaning.specs.Lists.{keep};
 ghost use Rattle.ctl_objects.specs.Groups.{is_waiting};
-ghost use Rattle.ctl_objects.specs.Order.{Rise};
+ghost use Rattle.ctl_storage.specs.Order.{Rise};
 ghost use Rattle.ctl_code.specs.declared.code.Parts.TheVariants as PartsOf;
 ghost use Rattle.ctl_code.specs.States as T;
 ghost use Rattle.ctl_code.specs.States.{State};

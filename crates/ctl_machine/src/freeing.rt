@@ -4,7 +4,7 @@ ghost use Rattle.std.specs.Prelude.{◌≡◌, ◌+◌, ◌-◌, ◌^◌, ◌<�
 ghost use Rattle.ctl_meaning.specs.Changes.{object_at};
 ghost use Rattle.ctl_meaning.specs.Finalization as S;
 ghost use Rattle.ctl_meaning.specs.Objects.{is_untouched};
-ghost use Rattle.ctl_objects.specs.Stages.{state_of};
+ghost use Rattle.ctl_storage.specs.Stages.{state_of};
 ghost use Rattle.ctl_program.specs.declared.types.Var.{Var};
 ghost use Rattle.ctl_code.specs.declared.code.Instr.TheVariants as InstrOf;
 ghost use Rattle.ctl_code.specs.Table as Table;
@@ -78,7 +78,9 @@ fn fate_of(code: &Code, set: u64, existing: &Existing) -> Fate
     ensures { result ≡ Freeing.fate_of code.now set existing.now }
 {
     match existing.origin {
-        Origin::Allocated(collection) if collection == set => fate_of_member(code, existing),
+        Origin::Allocated { collection, .. } if collection == set => {
+            fate_of_member(code, existing)
+        }
         _ => Fate::Stops(Stop::ForeignFree),
     }
 }

@@ -12,7 +12,9 @@ ghost use Rattle.ctl_machine.specs.declared.frame.Frame.{Frame};
 ghost use Rattle.ctl_machine.specs.declared.frame.Frame.TheVariants as FrameOf;
 ghost use Rattle.ctl_machine.specs.declared.frame.Owned.{Owned};
 ghost use Rattle.ctl_machine.specs.Departing.{IsFinalizeOf, IsNewestLayer, TakesOut, out};
+ghost use Rattle.ctl_machine.specs.LeftPools.{LeavesPools};
 ghost use Rattle.ctl_machine.specs.Masters.{layers_from, rising_layers};
+ghost use Rattle.ctl_objects.specs.Stock.{Stock};
 ghost use Rattle.ctl_machine.specs.Owned.{HaveCome, remaining, set_numbers, sets_owned};
 ghost use Rattle.ctl_objects.specs.Order.{AreUpTo};
 ghost use Rattle.ctl_machine.specs.Moves.{BeforeResuming, Makes};
@@ -100,6 +102,7 @@ fn forget_gathered(owned: &[Owned], start: usize, stock: &mut Objects, master: u
     requires masters { AreUpTo master stock.old.objects }
     ensures objects { (all : List Object) → stock.old.objects ≡ remaining master [] all → stock.new.objects ≡ remaining master (set_numbers (drop start owned.now)) all }
     ensures needs { stock.new.needs ≡ stock.old.needs }
+    ensures pools { (first : Stock) → LeavesPools first stock.old → LeavesPools first stock.new }
 {
     for at in start..owned.len() {
         if let Role::Collection { .. } = owned[at].role {
@@ -117,6 +120,7 @@ pub(crate) fn forget_owned(owned: &mut Vec<Owned>, stock: &mut Objects, master: 
     ensures owned { owned.new.items ≡ take master.now.owned owned.old.items }
     ensures objects { stock.new.objects ≡ remaining master.now.number (set_numbers (drop master.now.owned owned.old.items)) stock.old.objects }
     ensures needs { stock.new.needs ≡ stock.old.needs }
+    ensures pools { LeavesPools stock.old stock.new }
 {
     stock.close_master(master.number, &[]);
     if may_gather(owned.as_slice(), master.owned) {
@@ -170,7 +174,7 @@ impl Engine {
         ensures masters { self.new.masters ≡ self.old.masters }
         ensures cells { self.new.cells ≡ self.old.cells }
         ensures objects { self.new.stock.objects ≡ change_in o.number with_begun self.old.stock.objects }
-        ensures needs { self.new.stock.needs ≡ self.old.stock.needs }
+        ensures same { self.new.stock ≡ record self.old.stock { objects = self.new.stock.objects } }
         ensures saved { self.new.saved ≡ self.old.saved }
         ensures noted { self.new.noted ≡ self.old.noted }
         ensures formals { self.new.formals ≡ self.old.formals }

@@ -1,6 +1,6 @@
 -- Two lists of objects as one: what a number finds in it, and how it changes.
 use Rattle.std.proofs.Common.{◌≡◌, ◌≢◌, ◌∙◌, ℕ, ◌+◌, ◌<◌, ◌≤◌, List, [], ◌∷◌, ◌++◌, Option, Some, None, Bool, true, false, cond, refl, sym, ap, arith, subst}
-use Rattle.std.specs.Prelude.{nat_eq, nat_lt, not, is_some, IfSome, OnErr, OnOk, Result, Ok, Err}
+use Rattle.std.specs.Prelude.{nat_eq, nat_lt, not, is_some, IfOk, IfSome, OnErr, OnOk, Result, Ok, Err}
 use Rattle.std.specs.Option.{option_map, option_or}
 use Rattle.std.specs.List.{AllByRecursion}
 use Rattle.std.proofs.lemmas.Bool.Decides.{nat_tests}
@@ -9,9 +9,11 @@ use Rattle.ctl_meaning.specs.World.{Origin, Declared, Allocated, Object}
 use Rattle.ctl_meaning.specs.Lists.{change_first, keep, opened_lists}
 use Rattle.ctl_meaning.specs.Objects.{cells_at, change_in, object_in, opened_objects, with_cells}
 use Rattle.ctl_objects.specs.Copies.{copied}
-use Rattle.ctl_objects.proofs.InStore.{cells_keep}
-use Rattle.ctl_objects.specs.Order.{AreApart, AreBelow, AreSplit, IsAllocated, IsDeclared, Rise, both, placed}
-use Rattle.ctl_objects.proofs.Rising.{KeepsNumbers, change_lacking, in_change, in_here, in_keep, in_more, in_newest, in_none, in_there, kept_one, none_above, none_below, number_found, rise_change, rise_keep, rise_newest, same_objects}
+use Rattle.ctl_storage.proofs.InStore.{cells_keep}
+use Rattle.ctl_objects.proofs.Origins.{KeepsOrigins, cells_stay, origins_changed, origins_kept, origins_newest}
+use Rattle.ctl_objects.specs.Order.{AreApart, AreSplit, IsAllocated, IsDeclared, both, placed}
+use Rattle.ctl_storage.specs.Order.{AreBelow, Rise}
+use Rattle.ctl_storage.proofs.Rising.{KeepsNumbers, change_lacking, in_change, in_here, in_keep, in_more, in_newest, in_none, in_there, kept_one, none_above, none_below, number_found, rise_change, rise_keep, rise_newest, same_objects}
 
 -- One object among others ----------------------------------------------------------------------------------
 
@@ -125,7 +127,13 @@ all_both P (x ∷ xs) ys h =
     ((i.0, r.0), r.1)
 
 pub no_objects : AreSplit [] []
-no_objects = record { first = tt; second = tt; apart = λ n o there. in_none n }
+no_objects = record {
+  first = tt;
+  second = tt;
+  apart = λ n o there. in_none n;
+  allocated = λ n. subst (λ o. IfSome o (λ z. IsAllocated z.origin)) (sym (in_none n)) tt;
+  declared = λ n. subst (λ o. IfSome o (λ z. IsDeclared z.origin)) (sym (in_none n)) tt;
+}
 
 -- Objects that change --------------------------------------------------------------------------------------
 
@@ -146,16 +154,18 @@ had_changed n k f keeps os o there = by (object_in k os) refl
     by None none = let no = lacks_changed n k f keeps os none in absurd (cc)
     by (Some x) e = (x, e)
 
-pub split_changed : (n : ℕ) (f : Object → Object) → KeepsNumbers f → (xs ys : List Object) → AreSplit xs ys → AreSplit (change_in n f xs) (change_in n f ys)
-split_changed n f keeps xs ys s = record {
+pub split_changed : (n : ℕ) (f : Object → Object) → KeepsNumbers f → KeepsOrigins f → (xs ys : List Object) → AreSplit xs ys → AreSplit (change_in n f xs) (change_in n f ys)
+split_changed n f keeps stays xs ys s = record {
   first = rise_change n f keeps 0 xs s.first;
   second = rise_change n f keeps 0 ys s.second;
   apart = λ k o there. let h = had_changed n k f keeps xs o there in lacks_changed n k f keeps ys (s.apart k h.0 h.1);
+  allocated = origins_changed IsAllocated n f keeps stays xs s.allocated;
+  declared = origins_changed IsDeclared n f keeps stays ys s.declared;
 }
 
-pub changed_both : (n : ℕ) (f : Object → Object) → KeepsNumbers f → (xs ys : List Object) → AreSplit xs ys → both (change_in n f xs) (change_in n f ys) ≡ change_in n f (both xs ys)
-changed_both n f keeps xs ys s =
-    let t = split_changed n f keeps xs ys s in
+pub changed_both : (n : ℕ) (f : Object → Object) → KeepsNumbers f → KeepsOrigins f → (xs ys : List Object) → AreSplit xs ys → both (change_in n f xs) (change_in n f ys) ≡ change_in n f (both xs ys)
+changed_both n f keeps stays xs ys s =
+    let t = split_changed n f keeps stays xs ys s in
     same_objects 0 (both (change_in n f xs) (change_in n f ys)) (change_in n f (both xs ys)) (rise_both (change_in n f xs) (change_in n f ys) t) (rise_change n f keeps 0 (both xs ys) (rise_both xs ys s)) (λ k.
     found_both k (change_in n f xs) (change_in n f ys) t
     ∙ (ap (λ o. option_or o (object_in k (change_in n f ys))) (in_change n f keeps k xs)
@@ -168,11 +178,11 @@ changed_both n f keeps xs ys s =
     by k true (Some x) = refl
     by k false o = refl
 
-some_is : (o : Option Object) → true ≡ is_some o → (x : Object) × (o ≡ Some x)
+pub some_is : (o : Option Object) → true ≡ is_some o → (x : Object) × (o ≡ Some x)
 some_is None e = absurd (cc)
 some_is (Some x) e = (x, refl)
 
-none_is : (o : Option Object) → false ≡ is_some o → o ≡ None
+pub none_is : (o : Option Object) → false ≡ is_some o → o ≡ None
 none_is None e = refl
 none_is (Some x) e = absurd (cc)
 
@@ -203,7 +213,7 @@ first_is_each n f low (o ∷ os) rise = by (first_is_each n f (o.number + 1) os 
 
 -- Objects that go ------------------------------------------------------------------------------------------
 
-lacks_kept : (p : Object → Bool) (k : ℕ) (os : List Object) → Rise 0 os → object_in k os ≡ None → object_in k (keep p os) ≡ None
+pub lacks_kept : (p : Object → Bool) (k : ℕ) (os : List Object) → Rise 0 os → object_in k os ≡ None → object_in k (keep p os) ≡ None
 lacks_kept p k os rise none = in_keep p 0 k os rise ∙ ap (kept_one p) none
 
 pub split_kept : (p : Object → Bool) (xs ys : List Object) → AreSplit xs ys → AreSplit (keep p xs) (keep p ys)
@@ -211,6 +221,8 @@ split_kept p xs ys s = record {
   first = rise_keep p 0 xs s.first;
   second = rise_keep p 0 ys s.second;
   apart = λ k o there. by k (object_in k xs) refl o there;
+  allocated = origins_kept IsAllocated p xs s.first s.allocated;
+  declared = origins_kept IsDeclared p ys s.second s.declared;
 }
   where
     by : (k : ℕ) (r : Option Object) → object_in k xs ≡ r → (o : Object) → object_in k (keep p xs) ≡ Some o → object_in k (keep p ys) ≡ None
@@ -275,21 +287,33 @@ new_at k x = cond (nat_eq x.number k) (Some x) None
 lacks_both : (n : ℕ) (xs ys : List Object) → AreBelow n (both xs ys) → (object_in n xs ≡ None) × (object_in n ys ≡ None)
 lacks_both n xs ys below = let all = all_both (λ o. o.number < n) xs ys below in (none_above n xs all.0, none_above n ys all.1)
 
-pub split_declared : (x : Object) (xs ys : List Object) → AreBelow x.number (both xs ys) → AreSplit xs ys → AreSplit xs (ys ++ x ∷ [])
-split_declared x xs ys below s =
+pub split_declared : (x : Object) (xs ys : List Object) → IsDeclared x.origin → AreBelow x.number (both xs ys) → AreSplit xs ys → AreSplit xs (ys ++ x ∷ [])
+split_declared x xs ys is below s =
     let all = all_both (λ o. o.number < x.number) xs ys below in
     let lacks = lacks_both x.number xs ys below in
-    record { first = s.first; second = rise_newest 0 ys x s.second all.1 (omega arith); apart = λ k o there. in_newest k ys x ∙ (ap (λ r. option_or r (new_at k x)) (s.apart k o there) ∙ by k o there (nat_eq x.number k) refl (lacks.0)) }
+    record {
+      first = s.first;
+      second = rise_newest 0 ys x s.second all.1 (omega arith);
+      apart = λ k o there. in_newest k ys x ∙ (ap (λ r. option_or r (new_at k x)) (s.apart k o there) ∙ by k o there (nat_eq x.number k) refl (lacks.0));
+      allocated = s.allocated;
+      declared = origins_newest IsDeclared ys x is s.declared;
+    }
   where
     by : (k : ℕ) (o : Object) → object_in k xs ≡ Some o → (b : Bool) → nat_eq x.number k ≡ b → object_in x.number xs ≡ None → cond b (Some x) None ≡ None
     by k o there true is none = let no : object_in k xs ≡ None = ap (λ m. object_in m xs) (sym (eqb-true x.number k is)) ∙ none in absurd (cc)
     by k o there false is none = refl
 
-pub split_allocated : (x : Object) (xs ys : List Object) → AreBelow x.number (both xs ys) → AreSplit xs ys → AreSplit (xs ++ x ∷ []) ys
-split_allocated x xs ys below s =
+pub split_allocated : (x : Object) (xs ys : List Object) → IsAllocated x.origin → AreBelow x.number (both xs ys) → AreSplit xs ys → AreSplit (xs ++ x ∷ []) ys
+split_allocated x xs ys is below s =
     let all = all_both (λ o. o.number < x.number) xs ys below in
     let lacks = lacks_both x.number xs ys below in
-    record { first = rise_newest 0 xs x s.first all.0 (omega arith); second = s.second; apart = λ k o there. by k o (object_in k xs) refl (nat_eq x.number k) refl lacks.1 (sym (in_newest k xs x) ∙ there) }
+    record {
+      first = rise_newest 0 xs x s.first all.0 (omega arith);
+      second = s.second;
+      apart = λ k o there. by k o (object_in k xs) refl (nat_eq x.number k) refl lacks.1 (sym (in_newest k xs x) ∙ there);
+      allocated = origins_newest IsAllocated xs x is s.allocated;
+      declared = s.declared;
+    }
   where
     by : (k : ℕ) (o : Object) (r : Option Object) → object_in k xs ≡ r → (b : Bool) → nat_eq x.number k ≡ b → object_in x.number ys ≡ None → option_or (object_in k xs) (cond (nat_eq x.number k) (Some x) None) ≡ Some o → object_in k ys ≡ None
     by k o (Some z) e b is none there = s.apart k z e
@@ -302,18 +326,18 @@ or_or : (a b c : Option Object) → option_or a (option_or b c) ≡ option_or (o
 or_or None b c = refl
 or_or (Some x) b c = refl
 
-pub declared_both : (x : Object) (xs ys : List Object) → AreBelow x.number (both xs ys) → AreSplit xs ys → both xs (ys ++ x ∷ []) ≡ both xs ys ++ x ∷ []
-declared_both x xs ys below s =
-    let t = split_declared x xs ys below s in
+pub declared_both : (x : Object) (xs ys : List Object) → IsDeclared x.origin → AreBelow x.number (both xs ys) → AreSplit xs ys → both xs (ys ++ x ∷ []) ≡ both xs ys ++ x ∷ []
+declared_both x xs ys is below s =
+    let t = split_declared x xs ys is below s in
     same_objects 0 (both xs (ys ++ x ∷ [])) (both xs ys ++ x ∷ []) (rise_both xs (ys ++ x ∷ []) t) (rise_newest 0 (both xs ys) x (rise_both xs ys s) below (omega arith)) (λ k.
     found_both k xs (ys ++ x ∷ []) t
     ∙ (ap (λ r. option_or (object_in k xs) r) (in_newest k ys x)
     ∙ (or_or (object_in k xs) (object_in k ys) (new_at k x)
     ∙ sym (in_newest k (both xs ys) x ∙ ap (λ r. option_or r (new_at k x)) (found_both k xs ys s)))))
 
-pub allocated_both : (x : Object) (xs ys : List Object) → AreBelow x.number (both xs ys) → AreSplit xs ys → both (xs ++ x ∷ []) ys ≡ both xs ys ++ x ∷ []
-allocated_both x xs ys below s =
-    let t = split_allocated x xs ys below s in
+pub allocated_both : (x : Object) (xs ys : List Object) → IsAllocated x.origin → AreBelow x.number (both xs ys) → AreSplit xs ys → both (xs ++ x ∷ []) ys ≡ both xs ys ++ x ∷ []
+allocated_both x xs ys is below s =
+    let t = split_allocated x xs ys is below s in
     same_objects 0 (both (xs ++ x ∷ []) ys) (both xs ys ++ x ∷ []) (rise_both (xs ++ x ∷ []) ys t) (rise_newest 0 (both xs ys) x (rise_both xs ys s) below (omega arith)) (λ k.
     found_both k (xs ++ x ∷ []) ys t
     ∙ (ap (λ r. option_or r (object_in k ys)) (in_newest k xs x)
@@ -355,17 +379,17 @@ read_first {X} g n xs ys r s none is = is ∙ (by (object_in n xs) (object_in n 
     by None None e = refl
     by None (Some y) e = absurd (cc)
 
-pub changed_second : (n : ℕ) (f : Object → Object) (xs ys zs : List Object) → KeepsNumbers f → AreSplit xs ys → zs ≡ change_in n f ys → true ≡ is_some (object_in n ys) → AreSplit xs zs × (both xs zs ≡ change_in n f (both xs ys))
-changed_second n f xs ys zs keeps s changed there =
+pub changed_second : (n : ℕ) (f : Object → Object) (xs ys zs : List Object) → KeepsNumbers f → KeepsOrigins f → AreSplit xs ys → zs ≡ change_in n f ys → true ≡ is_some (object_in n ys) → AreSplit xs zs × (both xs zs ≡ change_in n f (both xs ys))
+changed_second n f xs ys zs keeps origins s changed there =
     let stays = first_stays n f xs ys s there in (
-      subst (λ l. AreSplit xs l) (sym changed) (subst (λ l. AreSplit l (change_in n f ys)) stays (split_changed n f keeps xs ys s)),
-      ap (both xs) changed ∙ (ap (λ l. both l (change_in n f ys)) (sym stays) ∙ changed_both n f keeps xs ys s),
+      subst (λ l. AreSplit xs l) (sym changed) (subst (λ l. AreSplit l (change_in n f ys)) stays (split_changed n f keeps origins xs ys s)),
+      ap (both xs) changed ∙ (ap (λ l. both l (change_in n f ys)) (sym stays) ∙ changed_both n f keeps origins xs ys s),
     )
 
-pub changed_first : (n : ℕ) (f : Object → Object) (xs ys ws zs : List Object) → KeepsNumbers f → AreSplit xs ys → ws ≡ change_in n f xs → zs ≡ change_in n f ys → AreSplit ws zs × (both ws zs ≡ change_in n f (both xs ys))
-changed_first n f xs ys ws zs keeps s first second = (
-  subst (λ l. AreSplit l zs) (sym first) (subst (λ l. AreSplit (change_in n f xs) l) (sym second) (split_changed n f keeps xs ys s)),
-  ap (λ l. both l zs) first ∙ (ap (both (change_in n f xs)) second ∙ changed_both n f keeps xs ys s),
+pub changed_first : (n : ℕ) (f : Object → Object) (xs ys ws zs : List Object) → KeepsNumbers f → KeepsOrigins f → AreSplit xs ys → ws ≡ change_in n f xs → zs ≡ change_in n f ys → AreSplit ws zs × (both ws zs ≡ change_in n f (both xs ys))
+changed_first n f xs ys ws zs keeps origins s first second = (
+  subst (λ l. AreSplit l zs) (sym first) (subst (λ l. AreSplit (change_in n f xs) l) (sym second) (split_changed n f keeps origins xs ys s)),
+  ap (λ l. both l zs) first ∙ (ap (both (change_in n f xs)) second ∙ changed_both n f keeps origins xs ys s),
 )
 
 -- what a call says where it succeeds and where it is refused
@@ -376,6 +400,18 @@ on_either (Err e) P Q G p q f g = g q
 pub on_ok : {T E : Type 0} (r : Result T E) (P Q : Type 0) → OnOk r P → (P → Q) → OnOk r Q
 on_ok (Ok x) P Q p f = f p
 on_ok (Err e) P Q p f = p
+
+pub on_err : {T E : Type 0} (r : Result T E) (P Q : Type 0) → OnErr r P → (P → Q) → OnErr r Q
+on_err (Ok x) P Q p f = p
+on_err (Err e) P Q p f = f p
+
+pub if_ok : {T E : Type 0} (r : Result T E) (P Q : T → Type 0) → IfOk r P → ((x : T) → P x → Q x) → IfOk r Q
+if_ok (Ok x) P Q p f = f x p
+if_ok (Err e) P Q p f = p
+
+pub ok_both : {T E : Type 0} (r : Result T E) (P Q : Type 0) → OnOk r P → OnOk r Q → OnOk r (P × Q)
+ok_both (Ok x) P Q p q = (p, q)
+ok_both (Err e) P Q p q = tt
 
 -- what a number finds where it is that of an object of the second list, and where it is not
 pub found_second : (n : ℕ) (xs ys : List Object) → AreSplit xs ys → true ≡ is_some (object_in n ys) → object_in n (both xs ys) ≡ object_in n ys
@@ -399,5 +435,5 @@ copied_second start target count from to xs ys zs s there other is =
     let o = some_is (object_in from ys) there in
     let v = cells_at start count o.0 in
     let changed = is ∙ ap (λ r. copied start to target count r ys) o.1 in
-    let c = changed_second to (with_cells target v) xs ys zs (cells_keep target v) s changed other in
+    let c = changed_second to (with_cells target v) xs ys zs (cells_keep target v) (cells_stay target v) s changed other in
     (c.0, c.1 ∙ ap (λ r. copied start to target count r (both xs ys)) (sym (found_second from xs ys s there ∙ o.1)))

@@ -1,29 +1,17 @@
 -- What is true of each object stays true as objects come, change and go: so a caller shows the conditions of the calls.
-use Rattle.std.proofs.Common.{◌≡◌, ℕ, ◌+◌, ◌<◌, ◌≤◌, List, [], ◌∷◌, ◌++◌, Bool, true, false, cond, sym, arith, subst}
-use Rattle.std.specs.Prelude.{nat_eq}
+use Rattle.std.proofs.Common.{◌≡◌, ℕ, ◌+◌, ◌<◌, ◌≤◌, List, [], ◌∷◌, ◌++◌, Option, Some, None, Bool, true, false, cond, refl, sym, ap, arith, subst}
+use Rattle.std.specs.Option.{option_map}
 use Rattle.std.specs.List.{AllByRecursion}
 use Rattle.ctl_meaning.specs.World.{Origin, Declared, Allocated, Object}
 use Rattle.ctl_meaning.specs.Lists.{change_first, keep, opened_lists}
-use Rattle.ctl_meaning.specs.Objects.{change_in, opened_objects}
-use Rattle.ctl_objects.specs.Order.{AreBelow, AreUpTo, IsUpTo}
-use Rattle.ctl_objects.proofs.Rising.{KeepsNumbers}
-
-pub all_weaker : (P Q : Object → Type 0) → ((o : Object) → P o → Q o) → (os : List Object) → AllByRecursion P os → AllByRecursion Q os
-all_weaker P Q f [] h = tt
-all_weaker P Q f (o ∷ os) h = (f o h.0, all_weaker P Q f os h.1)
-
-pub all_newest : (P : Object → Type 0) (os : List Object) (x : Object) → AllByRecursion P os → P x → AllByRecursion P (os ++ x ∷ [])
-all_newest P [] x h is = (is, tt)
-all_newest P (o ∷ os) x h is = (h.0, all_newest P os x h.1 is)
-
-pub all_changed : (P : Object → Type 0) (n : ℕ) (f : Object → Object) → ((o : Object) → P o → P (f o)) → (os : List Object) → AllByRecursion P os → AllByRecursion P (change_in n f os)
-unfolding opened_lists opened_objects
-all_changed P n f keeps [] h = tt
-all_changed P n f keeps (o ∷ os) h = (by (nat_eq o.number n), all_changed P n f keeps os h.1)
-  where
-    by : (b : Bool) → P (cond b (f o) o)
-    by true = keeps o h.0
-    by false = h.0
+use Rattle.ctl_meaning.specs.Objects.{change_in, object_in}
+use Rattle.ctl_objects.specs.declared.existing.Existing.{Existing}
+use Rattle.ctl_objects.specs.Existing.{IsKnown, bare, known, origin_of}
+use Rattle.ctl_objects.specs.Order.{AreUpTo, IsDeclared, IsUpTo}
+use Rattle.ctl_objects.specs.Pools.{IsOwner}
+use Rattle.ctl_storage.specs.Order.{AreBelow}
+use Rattle.ctl_storage.proofs.Conditions.{all_changed, all_kept, all_newest, all_weaker, below_more}
+use Rattle.ctl_storage.proofs.Rising.{KeepsNumbers}
 
 pub all_first : (P : Object → Type 0) (p : Object → Bool) (f : Object → Object) → ((o : Object) → P o → P (f o)) → (os : List Object) → AllByRecursion P os → AllByRecursion P (change_first p f os)
 unfolding opened_lists
@@ -34,19 +22,7 @@ all_first P p f keeps (o ∷ os) h = by (all_first P p f keeps os h.1) (p o)
     by rest true = (keeps o h.0, h.1)
     by rest false = (h.0, rest)
 
-pub all_kept : (P : Object → Type 0) (p : Object → Bool) (os : List Object) → AllByRecursion P os → AllByRecursion P (keep p os)
-unfolding opened_lists
-all_kept P p [] h = tt
-all_kept P p (o ∷ os) h = by (all_kept P p os h.1) (p o)
-  where
-    by : AllByRecursion P (keep p os) → (b : Bool) → AllByRecursion P (cond b (o ∷ keep p os) (keep p os))
-    by rest true = (h.0, rest)
-    by rest false = rest
-
--- a greater number, and a greater master
-pub below_more : (n m : ℕ) (os : List Object) → n ≤ m → AreBelow n os → AreBelow m os
-below_more n m os less h = all_weaker (λ o. o.number < n) (λ o. o.number < m) (λ o below. omega (arith, below, less)) os h
-
+-- a greater master
 pub up_to_more : (n m : ℕ) (os : List Object) → n ≤ m → AreUpTo n os → AreUpTo m os
 up_to_more n m os less h = all_weaker (λ o. IsUpTo n o.origin) (λ o. IsUpTo m o.origin) (λ o up. by o.origin up) os h
   where
@@ -79,3 +55,16 @@ numbered_new next m x os number up h = (
   all_newest (λ o. o.number < next + 1) os x (below_more next (next + 1) os (omega arith) h.0) (omega (arith, number)),
   all_newest (λ o. IsUpTo m o.origin) os x h.1 up,
 )
+
+-- Pools ----------------------------------------------------------------------------------------------------
+
+-- what is found of a declared object says that a pool may be opened for it
+pub known_owner : (n : ℕ) (e : Existing) (os : List Object) → IsKnown n (Some e) os → IsDeclared (origin_of e.origin) → IsOwner n os
+known_owner n e os is declared = by (object_in n os) refl is
+  where
+    same : (a b : Object) → (let x : Option Object = Some a in x ≡ Some b) → a ≡ b
+    same a b e = cc
+
+    by : (o : Option Object) → object_in n os ≡ o → (let x : Option Object = Some (known n e) in x ≡ option_map bare o) → IsOwner n os
+    by None there i = absurd (cc)
+    by (Some z) there i = (z, there, subst IsDeclared (ap (λ (o : Object). o.origin) (same (known n e) (bare z) i)) declared)

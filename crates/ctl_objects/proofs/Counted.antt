@@ -8,10 +8,10 @@ use Rattle.ctl_meaning.specs.Lists.{keep, opened_lists, pull_item}
 use Rattle.ctl_meaning.specs.Objects.{object_in}
 use Rattle.ctl_objects.specs.Groups.{one, test}
 use Rattle.ctl_objects.specs.Members.{IsGreatest, IsLeast, passes}
-use Rattle.ctl_objects.specs.Order.{Rise}
+use Rattle.ctl_storage.specs.Order.{Rise}
 use Rattle.ctl_objects.proofs.Grouped.{is_false}
 use Rattle.ctl_objects.proofs.Moved.{length_more, length_none, none_kept, other, own_count}
-use Rattle.ctl_objects.proofs.Rising.{in_here, in_keep, in_more, in_none, in_there, keep_more, keep_none, kept_one, none_below, rise_keep}
+use Rattle.ctl_storage.proofs.Rising.{in_here, in_keep, in_more, in_none, in_there, keep_more, keep_none, kept_one, none_below, rise_keep}
 
 -- Each object ----------------------------------------------------------------------------------------------
 

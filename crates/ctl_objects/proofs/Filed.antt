@@ -6,30 +6,33 @@ use Rattle.std.specs.BTreeSet.{btree_set_len}
 use Rattle.std.proofs.lemmas.Bool.Decides.{nat_tests}
 use borrow.Author.Tests.{eq-eqb}
 use Rattle.ctl_program.specs.declared.types.Ty.{Ty}
-use Rattle.ctl_meaning.specs.World as W
-use Rattle.ctl_meaning.specs.World.{Allocated, Object, Place}
+use Rattle.ctl_meaning.specs.World.{Allocated, Object}
 use Rattle.ctl_meaning.specs.Lists.{keep}
 use Rattle.ctl_meaning.specs.Changes.{new_object, opened_changes}
 use Rattle.ctl_meaning.specs.Objects.{change_in, is_of_set, object_in, opened_objects, with_cells}
-use Rattle.ctl_objects.specs.declared.existing.Step.{Step}
+use Rattle.ctl_storage.specs.declared.existing.Step.{Step}
 use Rattle.ctl_objects.specs.declared.groups.Group.{Group}
 use Rattle.ctl_objects.specs.declared.groups.Groups.{Groups}
-use Rattle.ctl_objects.specs.declared.stored.Allocation.{Allocation}
+use Rattle.ctl_storage.specs.declared.existing.Allocation.{Allocation}
+use Rattle.ctl_storage.specs.declared.existing.Place.{Place}
 use Rattle.ctl_objects.specs.declared.needs.Need.{Need}
-use Rattle.ctl_objects.specs.Existing.{bare}
+use Rattle.ctl_objects.specs.Existing as Existing
+use Rattle.ctl_objects.specs.Existing.{bare, existing}
 use Rattle.ctl_objects.specs.Filed.{AreFiled}
 use Rattle.ctl_objects.specs.Groups.{AreAlike, AreGrouped, AreNumbers, Has, IsSame, Moves, is_in, is_open, test}
-use Rattle.ctl_objects.specs.InStore.{IsBare, bare_of}
+use Rattle.ctl_storage.specs.Allocated.{IsKnown, blank, known, place_of}
 use Rattle.ctl_objects.specs.Members.{passes}
-use Rattle.ctl_objects.specs.Order.{AreBelow, Rise}
-use Rattle.ctl_objects.specs.Sets.{AreListed, IsListedAs, Sets, is_listed, is_member}
-use Rattle.ctl_objects.specs.Stages.{start, with_step}
+use Rattle.ctl_storage.specs.Order.{AreBelow, Rise}
+use Rattle.ctl_objects.specs.Sets.{AreListed, IsListedAs, Sets, is_listed}
+use Rattle.ctl_storage.specs.Allocated.{is_member}
+use Rattle.ctl_storage.specs.Stages.{start, with_step}
 use Rattle.ctl_objects.proofs.Both.{keep_lacking}
-use Rattle.ctl_objects.proofs.Conditions.{all_changed, all_kept, all_newest, below_more}
-use Rattle.ctl_objects.proofs.InStore.{cells_keep, cells_stay, step_keeps, step_stays}
+use Rattle.ctl_storage.proofs.Conditions.{all_changed, all_kept, all_newest, below_more}
+use Rattle.ctl_storage.proofs.InStore.{cells_keep, step_keeps}
+use Rattle.ctl_objects.proofs.Origins.{cells_stay, step_stays}
 use Rattle.ctl_objects.proofs.Listed.{keep_all, listed_changed, listed_new, listed_undone, listed_without, none_listed}
 use Rattle.ctl_objects.proofs.Moved.{AreSameBut, alike_found, alike_stepped, grouped_alike, grouped_moved, grouped_same, has_object, own_count}
-use Rattle.ctl_objects.proofs.Rising.{KeepsNumbers, change_lacking, change_more, change_none, in_change, in_keep, in_newest, kept_one, none_above, number_found, rise_change, rise_keep, rise_newest}
+use Rattle.ctl_storage.proofs.Rising.{KeepsNumbers, change_lacking, change_more, change_none, in_change, in_keep, in_newest, kept_one, none_above, number_found, rise_change, rise_keep, rise_newest}
 
 abbrev one_of : Bool → ℕ
 one_of b = cond b 1 0
@@ -80,39 +83,51 @@ filed_written needs os s g n offset v h =
     by (Some x) g = (refl, refl)
 
 -- a step is taken
-pub filed_stepped : (needs : List Need) (os : List Object) (s : Sets) (g t : Groups) (n : ℕ) (z : Step) (a : Allocation) → IsBare n (Some a) os → Moves needs n (Some (bare_of n a)) (Some (with_step z (bare_of n a))) g t → AreFiled needs os s g → AreFiled needs (change_in n (with_step z) os) s t
+pub filed_stepped : (needs : List Need) (os : List Object) (s : Sets) (g t : Groups) (n : ℕ) (z : Step) (a : Allocation) → IsKnown n (Some a) os → Moves needs n (Some (known n a)) (Some (with_step z (known n a))) g t → AreFiled needs os s g → AreFiled needs (change_in n (with_step z) os) s t
 filed_stepped needs os s g t n z a is m h =
     let f = with_step z in
     let numbers = step_keeps z in
-    let grouped = grouped_moved needs os (change_in n f os) n (Some (bare_of n a)) (Some (f (bare_of n a))) g t h.listed.rise (rise_change n f numbers 0 os h.listed.rise) (same_changed n f os numbers) (alike_found needs n (Some a) os is)
-    (subst (λ (o : Option Object). AreAlike needs (Some (f (bare_of n a))) o) (sym (here_changed n f os numbers)) (alike_stepped needs n z a os is)) m h.grouped in
+    let grouped = grouped_moved needs os (change_in n f os) n (Some (known n a)) (Some (f (known n a))) g t h.listed.rise (rise_change n f numbers 0 os h.listed.rise) (same_changed n f os numbers) (alike_found needs n (Some a) os is)
+    (subst (λ (o : Option Object). AreAlike needs (Some (f (known n a))) o) (sym (here_changed n f os numbers)) (alike_stepped needs n z a os is)) m h.grouped in
     filed_changed needs os s t n f numbers (step_stays z) grouped h.listed h.many h.numbers
 
-bare_none : (n : ℕ) (os : List Object) → IsBare n None os → object_in n os ≡ None
+bare_none : (n : ℕ) (os : List Object) → IsKnown n None os → object_in n os ≡ None
 bare_none n os is = by (object_in n os) is
   where
-    by : (o : Option Object) → (let none : Option Object = None in none ≡ option_map bare o) → o ≡ None
+    by : (o : Option Object) → (let none : Option Object = None in none ≡ option_map blank o) → o ≡ None
     by None e = refl
     by (Some x) e = absurd (cc)
 
-pub filed_unstepped : (needs : List Need) (os : List Object) (s : Sets) (g : Groups) (n : ℕ) (z : Step) → IsBare n None os → AreFiled needs os s g → AreFiled needs (change_in n (with_step z) os) s g
+pub filed_unstepped : (needs : List Need) (os : List Object) (s : Sets) (g : Groups) (n : ℕ) (z : Step) → IsKnown n None os → AreFiled needs os s g → AreFiled needs (change_in n (with_step z) os) s g
 filed_unstepped needs os s g n z is h = subst (λ (l : List Object). AreFiled needs l s g) (sym (change_lacking n (with_step z) os (bare_none n os is))) h
 
 -- an object exists where it is found so
-pub exists_so : (n : ℕ) (a : Option Allocation) (os : List Object) → IsBare n a os → is_some a ≡ is_some (object_in n os)
-exists_so n a os is = by a ∙ (ap (λ (o : Option Object). is_some o) is ∙ bared (object_in n os))
+pub exists_so : (n : ℕ) (a : Option Allocation) (os : List Object) → IsKnown n a os → is_some a ≡ is_some (object_in n os)
+exists_so n a os is = by a ∙ (ap (λ (o : Option Object). is_some o) is ∙ blanked (object_in n os))
   where
-    by : (o : Option Allocation) → is_some o ≡ is_some (option_map (bare_of n) o)
+    by : (o : Option Allocation) → is_some o ≡ is_some (option_map (known n) o)
     by None = refl
     by (Some x) = refl
 
-    bared : (o : Option Object) → is_some (option_map bare o) ≡ is_some o
-    bared None = refl
-    bared (Some x) = refl
+    blanked : (o : Option Object) → is_some (option_map blank o) ≡ is_some o
+    blanked None = refl
+    blanked (Some x) = refl
+
+-- what is known of it beside its cells
+pub known_existing : (n : ℕ) (a : Option Allocation) (os : List Object) → IsKnown n a os → Existing.IsKnown n (option_map existing a) os
+known_existing n a os is = by a ∙ (ap (option_map bare) is ∙ blanked (object_in n os))
+  where
+    by : (o : Option Allocation) → option_map (Existing.known n) (option_map existing o) ≡ option_map bare (option_map (known n) o)
+    by None = refl
+    by (Some x) = refl
+
+    blanked : (o : Option Object) → option_map bare (option_map blank o) ≡ option_map bare o
+    blanked None = refl
+    blanked (Some x) = refl
 
 -- what the groups know of it
-pub has_found : (needs : List Need) (os : List Object) (s : Sets) (g : Groups) (n : ℕ) (a : Allocation) → length os < 2 ^ 63 → IsBare n (Some a) os → AreFiled needs os s g → Has needs n (bare_of n a) g
-has_found needs os s g n a few is h = has_object needs os n (bare_of n a) g h.listed.rise (omega (arith, few)) (alike_found needs n (Some a) os is) h.grouped
+pub has_found : (needs : List Need) (os : List Object) (s : Sets) (g : Groups) (n : ℕ) (a : Allocation) → length os < 2 ^ 63 → IsKnown n (Some a) os → AreFiled needs os s g → Has needs n (known n a) g
+has_found needs os s g n a few is h = has_object needs os n (known n a) g h.listed.rise (omega (arith, few)) (alike_found needs n (Some a) os is) h.grouped
 
 -- An object comes ------------------------------------------------------------------------------------------
 
@@ -147,27 +162,27 @@ grouped_new needs os g t x y rise below alike m h =
     (subst (λ (o : Option Object). AreAlike needs (Some y) o) (sym (here_newest os x below)) alike) m h
 
 -- as groups see a new object
-abbrev pub fresh : Ty → ℕ → ℕ → Allocation
-fresh ty set cells = record { ty = ty; collection = set; cells = cells; stage = start }
+abbrev pub fresh : Ty → ℕ → Place → ℕ → Allocation
+fresh ty set place cells = record { ty = ty; collection = set; place = place; cells = cells; stage = start }
 
-alike_fresh : (needs : List Need) (n : ℕ) (ty : Ty) (set cells : ℕ) (v : List ℕ) → AreAlike needs (Some (bare_of n (fresh ty set cells))) (Some (new_object n ty v (Allocated set W.Standard)))
+alike_fresh : (needs : List Need) (n : ℕ) (ty : Ty) (set : ℕ) (place : Place) (cells : ℕ) (v : List ℕ) → AreAlike needs (Some (known n (fresh ty set place cells))) (Some (new_object n ty v (Allocated set (place_of place))))
 unfolding opened_changes
-alike_fresh needs n ty set cells v g = (refl, refl)
+alike_fresh needs n ty set place cells v g = (refl, refl)
 
-pub filed_new : (needs : List Need) (os : List Object) (s t : Sets) (g u : Groups) (n : ℕ) (ty : Ty) (set cells : ℕ) (v : List ℕ) → n < 2 ^ 64 → AreBelow n os → IsListedAs true set n s t → btree_set_len t + one_of (is_listed set n s) ≡ btree_set_len s + 1
-    → Moves needs n None (Some (bare_of n (fresh ty set cells))) g u → AreFiled needs os s g → AreFiled needs (os ++ new_object n ty v (Allocated set W.Standard) ∷ []) t u
+pub filed_new : (needs : List Need) (os : List Object) (s t : Sets) (g u : Groups) (n : ℕ) (ty : Ty) (set : ℕ) (place : Place) (cells : ℕ) (v : List ℕ) → n < 2 ^ 64 → AreBelow n os → IsListedAs true set n s t → btree_set_len t + one_of (is_listed set n s) ≡ btree_set_len s + 1
+    → Moves needs n None (Some (known n (fresh ty set place cells))) g u → AreFiled needs os s g → AreFiled needs (os ++ new_object n ty v (Allocated set (place_of place)) ∷ []) t u
 unfolding opened_changes
-filed_new needs os s t g u n ty set cells v small below listed many m h =
-    let x = new_object n ty v (Allocated set W.Standard) in
+filed_new needs os s t g u n ty set place cells v small below listed many m h =
+    let x = new_object n ty v (Allocated set (place_of place)) in
     record {
-      listed = listed_new os s t x set W.Standard below refl listed h.listed;
+      listed = listed_new os s t x set (place_of place) below refl listed h.listed;
       many =
           let not_there : one_of (is_listed set n s) ≡ 0 = ap one_of (not_listed os s set n h.listed below) in
           let more = length_newest os x in
           let had = h.many in
           omega (arith, many, not_there, more, had);
       numbers = all_newest (λ o. o.number < 2 ^ 64) os x h.numbers small;
-      grouped = grouped_new needs os g u x (bare_of n (fresh ty set cells)) h.listed.rise below (alike_fresh needs n ty set cells v) m h.grouped;
+      grouped = grouped_new needs os g u x (known n (fresh ty set place cells)) h.listed.rise below (alike_fresh needs n ty set place cells v) m h.grouped;
     }
 
 -- What was listed is taken back ----------------------------------------------------------------------------
@@ -191,23 +206,23 @@ pub filed_refused : (needs : List Need) (os : List Object) (s t u : Sets) (g w :
 filed_refused needs os s t u g w set n below listed many undone fewer same h = taken_back needs os s t u g w set n below listed many undone fewer (grouped_same needs os g w same h.grouped) h
 
 -- where a group took it in
-pub has_new : (needs : List Need) (os : List Object) (s : Sets) (g t : Groups) (n : ℕ) (ty : Ty) (set cells : ℕ) → AreBelow n os → length os < 2 ^ 63 → Moves needs n None (Some (bare_of n (fresh ty set cells))) g t → AreFiled needs os s g → Has needs n (bare_of n (fresh ty set cells)) t
+pub has_new : (needs : List Need) (os : List Object) (s : Sets) (g t : Groups) (n : ℕ) (ty : Ty) (set : ℕ) (place : Place) (cells : ℕ) → AreBelow n os → length os < 2 ^ 63 → Moves needs n None (Some (known n (fresh ty set place cells))) g t → AreFiled needs os s g → Has needs n (known n (fresh ty set place cells)) t
 unfolding opened_changes
-has_new needs os s g t n ty set cells below few m h =
-    let x = new_object n ty [] (Allocated set W.Standard) in
-    let y = bare_of n (fresh ty set cells) in
+has_new needs os s g t n ty set place cells below few m h =
+    let x = new_object n ty [] (Allocated set (place_of place)) in
+    let y = known n (fresh ty set place cells) in
     let more = length_newest os x in
     has_object needs (os ++ x ∷ []) n y t (rise_newest 0 os x h.listed.rise below (omega arith)) (omega (arith, more, few))
-    (subst (λ (o : Option Object). AreAlike needs (Some y) o) (sym (here_newest os x below)) (alike_fresh needs n ty set cells []))
-    (grouped_new needs os g t x y h.listed.rise below (alike_fresh needs n ty set cells []) m h.grouped)
+    (subst (λ (o : Option Object). AreAlike needs (Some y) o) (sym (here_newest os x below)) (alike_fresh needs n ty set place cells []))
+    (grouped_new needs os g t x y h.listed.rise below (alike_fresh needs n ty set place cells []) m h.grouped)
 
-pub filed_undone : (needs : List Need) (os : List Object) (s t u : Sets) (g v w : Groups) (n : ℕ) (ty : Ty) (set cells : ℕ) → AreBelow n os → IsListedAs true set n s t → btree_set_len t + one_of (is_listed set n s) ≡ btree_set_len s + 1 → IsListedAs false set n t u
-    → btree_set_len u + one_of (is_listed set n t) ≡ btree_set_len t → Moves needs n None (Some (bare_of n (fresh ty set cells))) g v → Moves needs n (Some (bare_of n (fresh ty set cells))) None v w → AreFiled needs os s g → AreFiled needs os u w
+pub filed_undone : (needs : List Need) (os : List Object) (s t u : Sets) (g v w : Groups) (n : ℕ) (ty : Ty) (set : ℕ) (place : Place) (cells : ℕ) → AreBelow n os → IsListedAs true set n s t → btree_set_len t + one_of (is_listed set n s) ≡ btree_set_len s + 1 → IsListedAs false set n t u
+    → btree_set_len u + one_of (is_listed set n t) ≡ btree_set_len t → Moves needs n None (Some (known n (fresh ty set place cells))) g v → Moves needs n (Some (known n (fresh ty set place cells))) None v w → AreFiled needs os s g → AreFiled needs os u w
 unfolding opened_changes
-filed_undone needs os s t u g v w n ty set cells below listed many undone fewer came went h =
-    let x = new_object n ty [] (Allocated set W.Standard) in
-    let y = bare_of n (fresh ty set cells) in
-    let alike = alike_fresh needs n ty set cells [] in
+filed_undone needs os s t u g v w n ty set place cells below listed many undone fewer came went h =
+    let x = new_object n ty [] (Allocated set (place_of place)) in
+    let y = known n (fresh ty set place cells) in
+    let alike = alike_fresh needs n ty set place cells [] in
     let there = grouped_new needs os g v x y h.listed.rise below alike came h.grouped in
     taken_back needs os s t u g w set n below listed many undone fewer
     (grouped_moved needs (os ++ x ∷ []) os n (Some y) None v w (rise_newest 0 os x h.listed.rise below (omega arith)) h.listed.rise (λ k differs. sym (other_newest os x k differs))
@@ -227,8 +242,8 @@ length_without n low os rise =
     by None = refl
     by (Some x) = refl
 
-pub filed_gone : (needs : List Need) (os : List Object) (s t : Sets) (g u : Groups) (n : ℕ) (a : Allocation) → IsBare n (Some a) os → ((c : ℕ) → is_member c n os ≡ nat_eq a.collection c) → IsListedAs false a.collection n s t → btree_set_len t + one_of (is_listed a.collection n s) ≡ btree_set_len s
-    → Moves needs n (Some (bare_of n a)) None g u → AreFiled needs os s g → AreFiled needs (keep (λ o. not (nat_eq o.number n)) os) t u
+pub filed_gone : (needs : List Need) (os : List Object) (s t : Sets) (g u : Groups) (n : ℕ) (a : Allocation) → IsKnown n (Some a) os → ((c : ℕ) → is_member c n os ≡ nat_eq a.collection c) → IsListedAs false a.collection n s t → btree_set_len t + one_of (is_listed a.collection n s) ≡ btree_set_len s
+    → Moves needs n (Some (known n a)) None g u → AreFiled needs os s g → AreFiled needs (keep (λ o. not (nat_eq o.number n)) os) t u
 filed_gone needs os s t g u n a is own listed many m h = record {
   listed = listed_without os s t a.collection n own listed h.listed;
   many =
@@ -238,7 +253,7 @@ filed_gone needs os s t g u n a is own listed many m h = record {
       let had = h.many in
       omega (arith, many, there, found, less, had);
   numbers = all_kept (λ o. o.number < 2 ^ 64) other os h.numbers;
-  grouped = grouped_moved needs os (keep other os) n (Some (bare_of n a)) None g u h.listed.rise (rise_keep other 0 os h.listed.rise) same (alike_found needs n (Some a) os is)
+  grouped = grouped_moved needs os (keep other os) n (Some (known n a)) None g u h.listed.rise (rise_keep other 0 os h.listed.rise) same (alike_found needs n (Some a) os is)
       (subst (λ (o : Option Object). AreAlike needs None o) (sym gone) (λ g. (refl, refl))) m h.grouped;
 }
   where
@@ -263,7 +278,7 @@ filed_gone needs os s t g u n a is own listed many m h = record {
     gone : object_in n (keep other os) ≡ None
     gone = in_keep other 0 n os h.listed.rise ∙ kept n true (self_eq n) (object_in n os) refl
 
-pub filed_still : (needs : List Need) (os : List Object) (s : Sets) (g : Groups) (n : ℕ) → IsBare n None os → AreFiled needs os s g → AreFiled needs (keep (λ o. not (nat_eq o.number n)) os) s g
+pub filed_still : (needs : List Need) (os : List Object) (s : Sets) (g : Groups) (n : ℕ) → IsKnown n None os → AreFiled needs os s g → AreFiled needs (keep (λ o. not (nat_eq o.number n)) os) s g
 filed_still needs os s g n is h = subst (λ (l : List Object). AreFiled needs l s g) (sym (keep_lacking n os h.listed.rise (bare_none n os is))) h
 
 -- What is known of numbers ---------------------------------------------------------------------------------

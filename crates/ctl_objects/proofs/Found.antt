@@ -1,28 +1,17 @@
 -- Declared objects are found by their numbers, which rise, and changed one at a time.
-use Rattle.std.proofs.Common.{◌≡◌, ◌≢◌, ◌∙◌, ℕ, zero, suc, ◌+◌, ◌<◌, ◌≤◌, List, [], ◌∷◌, Option, Some, None, true, false, refl, sym, map, ap, arith, subst, length, drop, take}
-use Rattle.std.specs.Prelude.{nat_eq, slice_get, slice_index_or, slice_set}
-use Rattle.std.proofs.lemmas.Bool.Decides.{nat_tests}
+use Rattle.std.proofs.Common.{◌≡◌, ◌≢◌, ◌∙◌, ℕ, zero, suc, ◌+◌, ◌<◌, ◌≤◌, List, [], ◌∷◌, Option, Some, None, refl, sym, map, ap, arith, subst, length, drop, take}
+use Rattle.std.specs.Prelude.{slice_get, slice_index_or, slice_set}
 use Rattle.ctl_meaning.specs.World.{Object}
 use Rattle.ctl_meaning.specs.Lists.{opened_lists}
 use Rattle.ctl_meaning.specs.Objects.{object_in, change_in, opened_objects}
 use Rattle.ctl_objects.specs.declared.declarations.Declaration.{Declaration}
-use Rattle.ctl_objects.specs.Stages.{start}
+use Rattle.ctl_storage.specs.Stages.{start}
+use Rattle.ctl_storage.proofs.Cells.{eq_differs, eq_same}
 use Rattle.ctl_objects.specs.Declarations.{Lacks, NumbersRise, object_of}
 
 -- what is read where no object is
 abbrev pub any_declaration : Declaration
 any_declaration = record { number = 0; «record» = 0; master = 0; first = 0; cells = 0; stage = start }
-
-pub eq_same : (a b : ℕ) → a ≡ b → nat_eq a b ≡ true
-eq_same a b same = grind (arith, nat_tests)
-
-pub eq_differs : (a b : ℕ) → a ≢ b → nat_eq a b ≡ false
-eq_differs a b differs = grind (arith, nat_tests)
-
-pub length_set : {X : Type 0} (xs : List X) (i : ℕ) (v : X) → length (slice_set xs i v) ≡ length xs
-length_set [] i v = refl
-length_set (x ∷ xs) zero v = refl
-length_set (x ∷ xs) (suc i) v = ap (λ n. suc n) (length_set xs i v)
 
 pub get_index : {X : Type 0} (xs : List X) (i : ℕ) (d : X) → i < length xs → slice_get xs i ≡ Some (slice_index_or xs i d)
 get_index [] i d h = absurd (omega (arith, h))
@@ -116,7 +105,7 @@ pub none_over : (n : ℕ) (os : List Declaration) → AreOver n (drop (length os
 none_over n [] = tt
 none_over n (o ∷ os) = none_over n os
 
-over_all : (os : List Declaration) (low n : ℕ) → NumbersRise low os → n < low → AreOver n os
+pub over_all : (os : List Declaration) (low n : ℕ) → NumbersRise low os → n < low → AreOver n os
 over_all [] low n h less = tt
 over_all (o ∷ os) low n h less = let f = h.0 in (omega (arith, f, less), over_all os (o.number + 1) n h.1 (omega (arith, f, less)))
 
@@ -133,7 +122,7 @@ over_back (x ∷ os) zero low n o h e less =
     (omega (arith, same, less), over_all os (x.number + 1) n h.1 (omega (arith, same, less)))
 over_back (x ∷ os) (suc at) low n o h e less = over_back os at (x.number + 1) n o h.1 e less
 
-over_lacks : (n : ℕ) (os : List Declaration) → AreOver n os → Lacks n os
+pub over_lacks : (n : ℕ) (os : List Declaration) → AreOver n os → Lacks n os
 over_lacks n [] h = tt
 over_lacks n (o ∷ os) h = ((λ same. let f = h.0 in omega (arith, f, same)), over_lacks n os h.1)
 

@@ -25,7 +25,7 @@ use Rattle.ctl_objects.specs.declared.groups.Start.TheVariants.{Behind, Collecti
 use Rattle.ctl_objects.specs.declared.needs.Need.{Need}
 use Rattle.ctl_objects.specs.Groups.{AreEntered, AreGrouped, AreNumbers, Has, IsCounted, IsFirstMember, IsLastMember, IsNextBy, KeepsCounts, Moves, count, count_of, group_cmp, group_of, is_from, is_in, is_in_group, is_open, is_same, is_waiting, key_cmp, one, open_group, precedes, start_of, test}
 use Rattle.ctl_objects.specs.Members.{IsGreatest, IsLeast}
-use Rattle.ctl_objects.proofs.Rising.{in_none, keep_none}
+use Rattle.ctl_storage.proofs.Rising.{in_none, keep_none}
 
 -- Tests ----------------------------------------------------------------------------------------------------
 

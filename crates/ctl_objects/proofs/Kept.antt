@@ -1,8 +1,9 @@
 -- How declared objects are kept, as one takes a step, a new one comes, and the last ones go.
-use Rattle.std.proofs.Common.{◌≡◌, ◌≢◌, ◌∙◌, ℕ, zero, suc, ◌+◌, ◌<◌, ◌≤◌, List, [], ◌∷◌, ◌++◌, Option, Some, Bool, true, false, cond, refl, sym, map, ap, arith, subst, length, drop, take, replicate}
-use Rattle.std.specs.Prelude.{IfSome, nat_eq, not, slice_get, slice_index_or, slice_set}
+use Rattle.std.proofs.Common.{◌≡◌, ◌≢◌, ◌∙◌, ℕ, zero, suc, ◌+◌, ◌-◌, ◌<◌, ◌≤◌, List, [], ◌∷◌, ◌++◌, Option, Some, None, Bool, true, false, cond, refl, sym, map, ap, arith, subst, length, drop, take, replicate}
+use Rattle.std.specs.Prelude.{IfSome, nat_eq, not, ◌||◌, slice_get, slice_index_or, slice_set}
 use Rattle.std.specs.Option.{option_map, option_map_or}
-use Rattle.std.proofs.lemmas.List.{length-append, length-replicate, map-append}
+use Rattle.std.proofs.lemmas.List.{length-append, length-drop, length-replicate, map-append, take_all}
+use borrow.Author.Tests.{eqb-true}
 use Rattle.ctl_program.specs.declared.types.Ty.TheVariants.{Record}
 use Rattle.ctl_meaning.specs.World as W
 use Rattle.ctl_meaning.specs.World.{Object}
@@ -11,19 +12,22 @@ use Rattle.ctl_meaning.specs.Names.{scalar_of}
 use Rattle.ctl_meaning.specs.Objects.{cells_at, change_in, ends_with_master, object_in, with_cells, with_finalized, opened_objects}
 use Rattle.ctl_meaning.specs.Changes.{new_object, opened_changes}
 use Rattle.ctl_objects.specs.declared.declarations.Declaration.{Declaration}
-use Rattle.ctl_objects.specs.declared.existing.Life.{Life}
-use Rattle.ctl_objects.specs.declared.existing.Life.TheVariants as LifeOf
-use Rattle.ctl_objects.specs.declared.existing.Stage.{Stage}
-use Rattle.ctl_objects.specs.declared.existing.Step.{Step}
-use Rattle.ctl_objects.specs.declared.existing.Step.TheVariants as StepOf
-use Rattle.ctl_objects.specs.Stages.{start, state_of, ended, with_step}
-use Rattle.ctl_objects.specs.Order.{AreBelow, AreUpTo, IsDeclared}
-use Rattle.ctl_objects.specs.Declarations.{AreKept, AreLaid, AreOf, AreOlder, AreWithin, Lacks, MastersRise, NumbersRise, cell_written, cells_written, first_cell, object_of, stepped}
+use Rattle.ctl_storage.specs.declared.existing.Life.{Life}
+use Rattle.ctl_storage.specs.declared.existing.Life.TheVariants as LifeOf
+use Rattle.ctl_storage.specs.declared.existing.Stage.{Stage}
+use Rattle.ctl_storage.specs.declared.existing.Step.{Step}
+use Rattle.ctl_storage.specs.declared.existing.Step.TheVariants as StepOf
+use Rattle.ctl_storage.specs.Stages.{ended, start, state_of, with_step}
+use Rattle.ctl_objects.specs.Order.{AreUpTo, IsDeclared}
+use Rattle.ctl_storage.specs.Order.{AreBelow}
+use Rattle.ctl_objects.specs.Declarations.{AreKept, AreLaid, AreOf, AreOlder, AreWithin, Lacks, MastersRise, NumbersRise, cell_written, cells_written, first_cell, has_number, object_of, stepped}
 use Rattle.ctl_objects.specs.Existing.{bare}
-use Rattle.ctl_objects.proofs.Found.{any_declaration, changed_object, eq_differs, eq_same, found_object, get_index, lacking, rise_set, same_item}
+use Rattle.ctl_objects.specs.Members.{passes}
+use Rattle.ctl_objects.proofs.Found.{any_declaration, changed_object, found_object, get_index, lacking, over_all, over_lacks, rise_set, same_item}
+use Rattle.ctl_storage.proofs.Cells.{eq_differs, eq_same}
 use Rattle.ctl_objects.proofs.Laid.{cell_objects, cut_behind, laid_more, length_part, objects_more, objects_taken, parts_taken}
-use Rattle.ctl_objects.proofs.Rising.{change_lacking, in_more, in_none}
-use Rattle.ctl_objects.proofs.Runs.{written_more, written_nothing}
+use Rattle.ctl_storage.proofs.Rising.{change_lacking, in_more, in_none}
+use Rattle.ctl_storage.proofs.Cells.{written_more, written_nothing}
 
 -- What a search answers ------------------------------------------------------------------------------------
 
@@ -176,6 +180,47 @@ own_at os at m less is own = own_more os at m less is (subst (λ i. AreOf m (dro
 pub none_own : (os : List Declaration) (m : ℕ) → AreOf m (drop (length os) os)
 none_own [] m = tt
 none_own (o ∷ os) m = none_own os m
+
+-- the numbers of the objects of a master
+abbrev of_master : ℕ → Object → Bool
+of_master m o = ends_with_master m [] o.origin
+
+own_seen : (m : ℕ) (cells : List ℕ) (o : Declaration) → of_master m (object_of cells o) ≡ nat_eq o.master m
+unfolding opened_objects
+own_seen m cells o = refl
+
+passes_more : (m n : ℕ) (cells : List ℕ) (o : Declaration) (os : List Declaration)
+    → passes (of_master m) n (map (object_of cells) (o ∷ os)) ≡ option_map_or (of_master m) (cond (nat_eq o.number n) (Some (object_of cells o)) (object_in n (map (object_of cells) os))) false
+passes_more m n cells o os = ap (λ (r : Option Object). option_map_or (of_master m) r false) (in_more n (object_of cells o) (map (object_of cells) os))
+
+passes_none : (m n : ℕ) (os : List Object) → object_in n os ≡ None → passes (of_master m) n os ≡ false
+passes_none m n os none = ap (λ (r : Option Object). option_map_or (of_master m) r false) none
+
+own_numbers : (m n : ℕ) (os : List Declaration) (cells : List ℕ) → AreOf m os → has_number n os ≡ passes (of_master m) n (map (object_of cells) os)
+own_numbers m n [] cells own = sym (passes_none m n [] (in_none n))
+own_numbers m n (o ∷ os) cells own = by (own_numbers m n os cells own.1) (nat_eq o.number n) ∙ sym (passes_more m n cells o os)
+  where
+    by : has_number n os ≡ passes (of_master m) n (map (object_of cells) os) → (b : Bool) → (b || has_number n os) ≡ option_map_or (of_master m) (cond b (Some (object_of cells o)) (object_in n (map (object_of cells) os))) false
+    by ih true = sym (own_seen m cells o ∙ eq_same o.master m own.0)
+    by ih false = ih
+
+going_numbers : (i m n low : ℕ) (os : List Declaration) (cells : List ℕ) → NumbersRise low os → AreOlder m (take i os) → AreOf m (drop i os) → has_number n (drop i os) ≡ passes (of_master m) n (map (object_of cells) os)
+going_numbers zero m n low os cells rise older own = own_numbers m n os cells own
+going_numbers (suc i) m n low [] cells rise older own = sym (passes_none m n [] (in_none n))
+going_numbers (suc i) m n low (o ∷ os) cells rise older own = by (going_numbers i m n (o.number + 1) os cells rise.1 older.1 own) (nat_eq o.number n) refl ∙ sym (passes_more m n cells o os)
+  where
+    by : has_number n (drop i os) ≡ passes (of_master m) n (map (object_of cells) os) → (b : Bool) → nat_eq o.number n ≡ b
+        → has_number n (drop i os) ≡ option_map_or (of_master m) (cond b (Some (object_of cells o)) (object_in n (map (object_of cells) os))) false
+    by ih false is = ih
+    by ih true is =
+        let number : o.number ≡ n = eqb-true o.number n is in
+        let none = lacking cells os n (over_lacks n os (over_all os (o.number + 1) n rise.1 (omega (arith, number)))) in
+        let less = older.0 in
+        ih ∙ (passes_none m n (map (object_of cells) os) none ∙ sym (own_seen m cells o ∙ eq_differs o.master m (λ same. omega (arith, same, less))))
+
+pub going_are : (i m n : ℕ) (os : List Declaration) (cells : List ℕ) → AreKept os (length cells) → AreOlder m (take i os) → AreOf m (drop i os) → has_number n (take (length os - i) (drop i os)) ≡ passes (λ o. ends_with_master m [] o.origin) n (map (object_of cells) os)
+going_are i m n os cells k older own =
+    ap (has_number n) (take_all (length os - i) (drop i os) (let long = length-drop i os in omega (arith, long))) ∙ going_numbers i m n 0 os cells k.numbers older own
 
 -- What is read and written --------------------------------------------------------------------------------
 

@@ -1,9 +1,7 @@
-pub mod Rising
 pub mod Found
 pub mod Laid
 pub mod Kept
-pub mod Seen
-pub mod InStore
+pub mod Origins
 pub mod Listed
 pub mod Both
 pub mod Runs
@@ -14,3 +12,11 @@ pub mod Waits
 pub mod Grouped
 pub mod Moved
 pub mod Counted
+pub mod Pools
+pub mod Dropped
+pub mod Left
+pub mod PoolCalls
+pub mod Shown
+pub mod Unchanged
+pub mod NewPools
+pub mod Served

@@ -1,53 +1,25 @@
 -- Objects that are listed for their collections, and no others: what is listed first, and how the list changes.
 use Rattle.std.proofs.Common.{◌≡◌, ◌≢◌, ◌∙◌, ℕ, ◌<◌, ◌≤◌, List, [], ◌∷◌, ◌++◌, Option, Some, None, Bool, true, false, cond, refl, sym, ap, arith, subst, length}
-use Rattle.std.specs.Prelude.{nat_eq, not, IfSome, ◌&&◌, ◌||◌, slice_get}
+use Rattle.std.specs.Prelude.{nat_eq, not, IfSome, ◌&&◌, ◌||◌}
 use Rattle.std.specs.List.{list_any}
 use Rattle.std.specs.Option.{option_map, option_map_or, option_or}
-use Rattle.std.specs.Ordering.{is_eq, is_gt}
-use Rattle.std.specs.declared.ops.Bound.{Bound}
-use Rattle.std.specs.declared.ops.Bound.TheVariants.{Included, Unbounded}
-use Rattle.std.specs.BTreeSet.{IsKeyInRange, IsKeyRangeOf, Updates}
-use Rattle.std.specs.BTreeMap.Range.{IsLeBy}
+use Rattle.std.specs.Ordering.{is_eq}
+use Rattle.std.specs.declared.ops.Bound.TheVariants.{Included}
 use Rattle.std.proofs.lemmas.Bool.Decides.{nat_tests}
 use borrow.Author.Tests.{eqb-true}
 use Rattle.ctl_meaning.specs.World.{Origin, Declared, Allocated, Place, Object}
 use Rattle.ctl_meaning.specs.Lists.{contains, keep, opened_lists}
 use Rattle.ctl_meaning.specs.Objects.{change_in, ends_with_master, is_of_set, object_in, opened_objects}
-use Rattle.ctl_objects.specs.Order.{AreBelow, IsAllocated, Rise}
-use Rattle.ctl_objects.specs.Sets.{AreListed, IsFirstListed, IsListedAs, Sets, is_listed, is_member, is_of_sets, pair_cmp}
-use Rattle.ctl_objects.proofs.Rising.{KeepsNumbers, in_change, in_keep, in_more, in_newest, in_none, keep_more, keep_none, kept_one, none_above, number_found, rise_change, rise_keep, rise_newest, same_objects}
-
--- The order of what is listed ------------------------------------------------------------------------------
-
-same_pair : (a b c d : ℕ) → is_eq (pair_cmp (a, b) (c, d)) ≡ (nat_eq a c && nat_eq b d)
-same_pair a b c d = grind (arith, nat_tests)
-
-not_greater : (a b c d : ℕ) → is_gt (pair_cmp (a, b) (c, d)) ≡ false → (a ≤ c) × (c ≡ a → b ≤ d)
-not_greater a b c d is = (grind (arith, nat_tests, is), λ same. grind (arith, nat_tests, is, same))
-
-from_first : (a d : ℕ) → is_gt (pair_cmp (a, 0) (a, d)) ≡ false
-from_first a d = grind (arith, nat_tests)
-
--- What is listed -------------------------------------------------------------------------------------------
-
-pub listed_as : (b : Bool) (set n : ℕ) (old new : Sets) → Updates pair_cmp old new (set, n) b → IsListedAs b set n old new
-listed_as b set n old new updates c k = updates.0 (c, k) ∙ ap (λ t. cond t b (is_listed c k old)) (same_pair set n c k)
-
--- the first of those from a start on
-pub first_of_range : (start : Bound (ℕ × ℕ)) (s : Sets) (r t : List (ℕ × ℕ)) (f : ℕ × ℕ) → IsKeyRangeOf pair_cmp start Unbounded s r → r ≡ f ∷ t → IsFirstListed start (Some f) s
-first_of_range start s r t f range is =
-    let here : slice_get r 0 ≡ Some f = ap (λ l. slice_get l 0) is in
-    let it : IsKeyInRange pair_cmp start Unbounded s f = subst (λ o. IfSome o (IsKeyInRange pair_cmp start Unbounded s)) here range.1 in
-    (it.0.0, it.1, λ c k from listed. subst (λ o. IfSome o (λ e. IsLeBy pair_cmp e (c, k))) here (range.2 (c, k) (from, tt) listed))
-
-pub none_of_range : (start : Bound (ℕ × ℕ)) (s : Sets) (r : List (ℕ × ℕ)) → IsKeyRangeOf pair_cmp start Unbounded s r → r ≡ [] → IsFirstListed start None s
-none_of_range start s r range is = λ c k from. range.5 is (c, k) (from, tt)
+use Rattle.ctl_objects.specs.Order.{IsAllocated}
+use Rattle.ctl_storage.specs.Order.{AreBelow, Rise}
+use Rattle.ctl_objects.specs.Sets.{AreListed, IsFirstListed, IsListedAs, Sets, is_listed, is_of_sets}
+use Rattle.ctl_storage.specs.Allocated.{is_member}
+use Rattle.ctl_storage.specs.Located.{pair_cmp}
+use Rattle.ctl_storage.proofs.Kept.{no_more}
+use Rattle.ctl_storage.proofs.Listed.{from_first, is_false, not_greater}
+use Rattle.ctl_storage.proofs.Rising.{KeepsNumbers, in_change, in_keep, in_more, in_newest, in_none, keep_more, keep_none, kept_one, none_above, number_found, rise_change, rise_keep, rise_newest, same_objects}
 
 -- Objects that are listed ----------------------------------------------------------------------------------
-
-is_false : (b : Bool) → (b ≡ true → ⊥) → b ≡ false
-is_false true never = absurd (never refl)
-is_false false never = refl
 
 -- a collection has no object
 pub no_member : (os : List Object) (s : Sets) (set : ℕ) → AreListed os s → IsFirstListed (Included (set, 0)) None s → (n : ℕ) → is_member set n os ≡ false
@@ -214,14 +186,6 @@ all_outside os set rise none = same_objects 0 os (keep (outside set) os) rise (r
     by : (o : Option Object) → option_map_or (λ (z : Object). is_of_set set z.origin) o false ≡ false → o ≡ kept_one (outside set) o
     by None is = refl
     by (Some z) is = ap (λ b. cond (not b) (Some z) None) (sym is)
-
-pub no_more : (p : Object → Bool) (os : List Object) → length (keep p os) ≤ length os
-no_more p [] = subst (λ l. length l ≤ 0) (sym (keep_none p)) (omega arith)
-no_more p (o ∷ os) = subst (λ l. length l ≤ length (o ∷ os)) (sym (keep_more p o os)) (by (no_more p os) (p o))
-  where
-    by : length (keep p os) ≤ length os → (b : Bool) → length (cond b (o ∷ keep p os) (keep p os)) ≤ length (o ∷ os)
-    by ih true = omega (arith, ih)
-    by ih false = omega (arith, ih)
 
 -- each time there is one object less
 pub fewer : (os : List Object) (set n : ℕ) → is_member set n os ≡ true → length (keep (λ o. not (nat_eq o.number n)) os) < length os

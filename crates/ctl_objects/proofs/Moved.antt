@@ -9,18 +9,17 @@ use Rattle.ctl_meaning.specs.Lists.{keep}
 use Rattle.ctl_meaning.specs.Objects.{is_untouched, object_in, opened_objects}
 use Rattle.ctl_objects.specs.declared.groups.Group.{Group}
 use Rattle.ctl_objects.specs.declared.groups.Groups.{Groups}
-use Rattle.ctl_objects.specs.declared.existing.Step.{Step}
-use Rattle.ctl_objects.specs.declared.existing.Step.TheVariants as StepOf
-use Rattle.ctl_objects.specs.declared.stored.Allocation.{Allocation}
+use Rattle.ctl_storage.specs.declared.existing.Step.{Step}
+use Rattle.ctl_storage.specs.declared.existing.Step.TheVariants as StepOf
+use Rattle.ctl_storage.specs.declared.existing.Allocation.{Allocation}
 use Rattle.ctl_objects.specs.declared.needs.Need.{Need}
-use Rattle.ctl_objects.specs.Existing.{bare}
 use Rattle.ctl_objects.specs.Groups.{AreAlike, AreGrouped, Has, IsSame, Moves, count, is_in, is_open, is_waiting, one, test}
-use Rattle.ctl_objects.specs.InStore.{IsBare, bare_of}
+use Rattle.ctl_storage.specs.Allocated.{IsKnown, blank, known}
 use Rattle.ctl_objects.specs.Members.{passes}
-use Rattle.ctl_objects.specs.Order.{Rise}
-use Rattle.ctl_objects.specs.Stages.{with_step}
-use Rattle.ctl_objects.proofs.Listed.{no_more}
-use Rattle.ctl_objects.proofs.Rising.{in_keep, in_more, in_none, keep_more, keep_none, kept_one, none_below, number_found, rise_keep, same_objects}
+use Rattle.ctl_storage.specs.Order.{Rise}
+use Rattle.ctl_storage.specs.Stages.{with_step}
+use Rattle.ctl_storage.proofs.Kept.{no_more}
+use Rattle.ctl_storage.proofs.Rising.{in_keep, in_more, in_none, keep_more, keep_none, kept_one, none_below, number_found, rise_keep, same_objects}
 
 -- How many objects pass a test -----------------------------------------------------------------------------
 
@@ -111,39 +110,36 @@ none_kept p os rise none = same_objects 0 (keep p os) [] (rise_keep p 0 os rise)
 
 -- What groups see ------------------------------------------------------------------------------------------
 
-pub alike_bare : (needs : List Need) (x y : Option Object) → option_map bare x ≡ option_map bare y → AreAlike needs x y
-alike_bare needs x y is g = (by (is_open needs g) (λ o. refl), by (is_waiting needs g) (λ o. refl))
+-- groups see nothing of the values of cells
+pub alike_blank : (needs : List Need) (x y : Option Object) → x ≡ option_map blank y → AreAlike needs x y
+alike_blank needs x y is g = (by (is_open needs g) (λ o. refl), by (is_waiting needs g) (λ o. refl))
   where
-    seen : (p : Object → Bool) → ((o : Object) → p (bare o) ≡ p o) → (o : Option Object) → test p o ≡ test p (option_map bare o)
+    seen : (p : Object → Bool) → ((o : Object) → p (blank o) ≡ p o) → (o : Option Object) → test p (option_map blank o) ≡ test p o
     seen p same None = refl
-    seen p same (Some o) = sym (same o)
+    seen p same (Some o) = same o
 
-    by : (p : Object → Bool) → ((o : Object) → p (bare o) ≡ p o) → test p x ≡ test p y
-    by p same = seen p same x ∙ (ap (test p) is ∙ sym (seen p same y))
+    by : (p : Object → Bool) → ((o : Object) → p (blank o) ≡ p o) → test p x ≡ test p y
+    by p same = ap (test p) is ∙ seen p same y
 
-pub alike_found : (needs : List Need) (n : ℕ) (a : Option Allocation) (os : List Object) → IsBare n a os → AreAlike needs (option_map (bare_of n) a) (object_in n os)
-alike_found needs n a os is = alike_bare needs (option_map (bare_of n) a) (object_in n os) (by a ∙ is)
-  where
-    by : (o : Option Allocation) → option_map bare (option_map (bare_of n) o) ≡ option_map (bare_of n) o
-    by None = refl
-    by (Some x) = refl
+pub alike_found : (needs : List Need) (n : ℕ) (a : Option Allocation) (os : List Object) → IsKnown n a os → AreAlike needs (option_map (known n) a) (object_in n os)
+alike_found needs n a os is = alike_blank needs (option_map (known n) a) (object_in n os) is
 
-bare_step : (z : Step) (o : Object) → bare (with_step z o) ≡ with_step z (bare o)
+blank_step : (z : Step) (o : Object) → with_step z (blank o) ≡ blank (with_step z o)
 unfolding opened_objects
-bare_step StepOf.Begin o = refl
-bare_step StepOf.Join o = refl
-bare_step StepOf.End o = by (is_untouched o.state)
+blank_step StepOf.Begin o = refl
+blank_step StepOf.Join o = refl
+blank_step StepOf.End o = by (is_untouched o.state)
   where
-    by : (b : Bool) → bare (cond b o (record o { state = Finalized })) ≡ cond b (bare o) (record o { cells = []; state = Finalized })
+    by : (b : Bool) → cond b (blank o) (record (blank o) { state = Finalized }) ≡ blank (cond b o (record o { state = Finalized }))
     by true = refl
     by false = refl
 
-pub alike_stepped : (needs : List Need) (n : ℕ) (z : Step) (a : Allocation) (os : List Object) → IsBare n (Some a) os → AreAlike needs (Some (with_step z (bare_of n a))) (option_map (with_step z) (object_in n os))
-alike_stepped needs n z a os is = alike_bare needs (Some (with_step z (bare_of n a))) (option_map (with_step z) (object_in n os)) (ap (λ (o : Object). Some o) (bare_step z (bare_of n a)) ∙ (ap (option_map (with_step z)) is ∙ by (object_in n os)))
+pub alike_stepped : (needs : List Need) (n : ℕ) (z : Step) (a : Allocation) (os : List Object) → IsKnown n (Some a) os → AreAlike needs (Some (with_step z (known n a))) (option_map (with_step z) (object_in n os))
+alike_stepped needs n z a os is = alike_blank needs (Some (with_step z (known n a))) (option_map (with_step z) (object_in n os)) (ap (option_map (with_step z)) is ∙ by (object_in n os))
   where
-    by : (o : Option Object) → option_map (with_step z) (option_map bare o) ≡ option_map bare (option_map (with_step z) o)
+    by : (o : Option Object) → option_map (with_step z) (option_map blank o) ≡ option_map blank (option_map (with_step z) o)
     by None = refl
-    by (Some x) = ap (λ (o : Object). Some o) (sym (bare_step z x))
+    by (Some x) = ap (λ (o : Object). Some o) (blank_step z x)
 
 -- Groups follow --------------------------------------------------------------------------------------------
 

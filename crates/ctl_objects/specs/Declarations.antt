@@ -1,10 +1,10 @@
 -- Declared objects, which come and go in the order of their masters. Their cells lie one object behind another.
-use Rattle.std.specs.Prelude.{◌≡◌, ◌≢◌, ◌⊎◌, ℕ, ◌+◌, ◌<◌, ◌≤◌, List, [], ◌∷◌, drop, take, nat_lt, slice_set, if◌then◌else◌}
+use Rattle.std.specs.Prelude.{◌≡◌, ◌≢◌, ◌⊎◌, Bool, false, ◌||◌, nat_eq, ℕ, ◌+◌, ◌<◌, ◌≤◌, List, [], ◌∷◌, drop, take, nat_lt, slice_set, if◌then◌else◌}
 use Rattle.ctl_program.specs.declared.types.Ty.TheVariants.{Record}
 use Rattle.ctl_meaning.specs.World as W
 use Rattle.ctl_objects.specs.declared.declarations.Declaration.{Declaration}
-use Rattle.ctl_objects.specs.declared.existing.Step.{Step}
-use Rattle.ctl_objects.specs.Stages.{after, state_of}
+use Rattle.ctl_storage.specs.declared.existing.Step.{Step}
+use Rattle.ctl_storage.specs.Stages.{after, state_of}
 
 -- an object, whose cells stand among those of all declared ones
 abbrev pub object_of : List ℕ → Declaration → W.Object
@@ -35,6 +35,11 @@ pub record AreKept (os : List Declaration) (total : ℕ) : Type 0 where
 abbrev pub Lacks : ℕ → List Declaration → Type 0
 Lacks n [] = Unit {0}
 Lacks n (o ∷ os) = (o.number ≢ n) × Lacks n os
+
+-- one of these objects has this number
+abbrev pub has_number : ℕ → List Declaration → Bool
+has_number n [] = false
+has_number n (o ∷ os) = nat_eq o.number n || has_number n os
 
 -- the cells of one object end before those of the other begin
 abbrev pub LieApart : Declaration → Declaration → Type 0

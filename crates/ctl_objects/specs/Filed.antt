@@ -5,7 +5,7 @@ use Rattle.ctl_meaning.specs.World.{Object}
 use Rattle.ctl_objects.specs.declared.groups.Groups.{Groups}
 use Rattle.ctl_objects.specs.declared.needs.Need.{Need}
 use Rattle.ctl_objects.specs.Groups.{AreGrouped}
-use Rattle.ctl_objects.specs.Order.{AreBelow}
+use Rattle.ctl_storage.specs.Order.{AreBelow}
 use Rattle.ctl_objects.specs.Sets.{AreListed, Sets}
 
 pub record AreFiled (needs : List Need) (os : List Object) (sets : Sets) (groups : Groups) : Type 0 where

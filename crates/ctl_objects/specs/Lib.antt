@@ -2,11 +2,11 @@ pub mod Copies
 pub mod Declarations
 pub mod Existing
 pub mod Order
-pub mod Stages
-pub mod InStore
 pub mod Sets
 pub mod Members
 pub mod Needs
 pub mod Groups
 pub mod Filed
 pub mod Stock
+pub mod Codes
+pub mod Pools

@@ -1,17 +1,9 @@
 -- Objects in the order of their numbers.
-use Rattle.std.specs.Prelude.{◌≡◌, ℕ, ◌+◌, ◌<◌, ◌≤◌, List, [], ◌∷◌, None, Some, nat_lt, if◌then◌else◌}
+use Rattle.std.specs.Prelude.{◌≡◌, ℕ, ◌≤◌, List, [], ◌∷◌, None, Some, nat_lt, IfSome, if◌then◌else◌}
 use Rattle.std.specs.List.{AllByRecursion}
 use Rattle.ctl_meaning.specs.World.{Origin, Declared, Allocated, Object}
 use Rattle.ctl_meaning.specs.Objects.{object_in}
-
--- the numbers of these objects rise, from this one on
-abbrev pub Rise : ℕ → List Object → Type 0
-Rise low [] = Unit {0}
-Rise low (o ∷ os) = (low ≤ o.number) × Rise (o.number + 1) os
-
--- each of these objects has a lower number
-abbrev pub AreBelow : ℕ → List Object → Type 0
-AreBelow n os = AllByRecursion (λ o. o.number < n) os
+use Rattle.ctl_storage.specs.Order.{Rise}
 
 -- an origin that is not declared in a greater master
 abbrev pub IsUpTo : ℕ → Origin → Type 0
@@ -45,8 +37,17 @@ both (x ∷ xs) ys = placed x (both xs ys)
 abbrev pub AreApart : List Object → List Object → Type 0
 AreApart xs ys = (n : ℕ) (o : Object) → object_in n xs ≡ Some o → object_in n ys ≡ None
 
--- two lists of objects with different numbers, each of them in the order of its numbers
+-- each of these objects is allocated, or declared
+abbrev pub AreAllocated : List Object → Type 0
+AreAllocated os = (n : ℕ) → IfSome (object_in n os) (λ o. IsAllocated o.origin)
+
+abbrev pub AreDeclared : List Object → Type 0
+AreDeclared os = (n : ℕ) → IfSome (object_in n os) (λ o. IsDeclared o.origin)
+
+-- allocated objects and declared ones, with different numbers, and each in the order of its numbers
 pub record AreSplit (xs ys : List Object) : Type 0 where
   pub first : Rise 0 xs
   pub second : Rise 0 ys
   pub apart : AreApart xs ys
+  pub allocated : AreAllocated xs
+  pub declared : AreDeclared ys

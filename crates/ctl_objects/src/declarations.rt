@@ -1,25 +1,34 @@
 //! The objects that are declared: they come and go in the order of their masters, and their cells
 //! lie one object behind another (RM 3.8).
 
-ghost use Rattle.std.specs.Prelude.{◌≡◌, ◌≢◌, true, ◌+◌, ◌≤◌, ◌++◌, ◌∷◌, [], ℕ, List, drop, take, IfSome, IsNone, OnOk, OnErr, Some, replicate, slice_get, is_some, not, length, vec_capacity, vec_len};
+ghost use Rattle.std.specs.Prelude.{◌≡◌, ◌≢◌, true, ◌+◌, ◌<◌, ◌≤◌, ◌++◌, ◌∷◌, [], ℕ, List, None, drop, take, IfSome, IsNone, OnOk, OnErr, Some, replicate, slice_get, is_some, not, length, vec_capacity, vec_len};
 ghost use Rattle.std.specs.Bool.{OnFalse, OnTrue};
 ghost use Rattle.std.specs.Option.{option_map, option_map_or};
+ghost use Rattle.std.specs.FinMap.{get};
 ghost use Rattle.ctl_program.specs.declared.types.Ty.TheVariants.{Record};
 ghost use Rattle.ctl_meaning.specs.World as W;
 ghost use Rattle.ctl_meaning.specs.Lists.{keep};
 ghost use Rattle.ctl_meaning.specs.Names.{scalar_of};
 ghost use Rattle.ctl_meaning.specs.Objects.{cells_at, change_in, ends_with_master, object_in, with_cells};
+ghost use Rattle.ctl_meaning.specs.Pools.{push_block_pool};
 ghost use Rattle.ctl_meaning.specs.Changes.{new_object};
 ghost use Rattle.ctl_objects.specs.declared.declarations.Declaration.{Declaration};
-ghost use Rattle.ctl_objects.specs.Declarations.{AreOf, AreOlder, AreWithin, Lacks, MastersRise, NumbersRise, first_cell, stepped};
-ghost use Rattle.ctl_objects.specs.Stages.{with_step};
+ghost use Rattle.ctl_objects.specs.Declarations.{AreOf, AreOlder, AreWithin, Lacks, MastersRise, NumbersRise, first_cell, has_number, stepped};
+ghost use Rattle.ctl_storage.specs.Stages.{with_step};
 ghost use Rattle.ctl_objects.specs.Copies.{copied};
 ghost use Rattle.ctl_objects.specs.Existing.{IsKnown};
-ghost use Rattle.ctl_objects.specs.Order.{AreBelow, AreUpTo, IsDeclared};
+ghost use Rattle.ctl_objects.specs.Members.{passes};
+ghost use Rattle.ctl_objects.specs.Order.{AreUpTo, IsDeclared};
+ghost use Rattle.ctl_objects.specs.Stock.{storage_of};
+ghost use Rattle.ctl_storage.specs.Calls.{IsBlockPoolSize};
+ghost use Rattle.ctl_storage.specs.Order.{AreBelow};
+ghost use Rattle.ctl_storage.specs.Storage.{ArePools};
 
+use crate::allocations::Allocations;
 use crate::cells::{add_zeros, copy_cells, read_cell, save_cells, write_cell, write_cells};
-use crate::existing::{Existing, Origin, Stage, Step};
+use crate::existing::{Existing, Origin};
 use ctl_program::types::Ty;
+use ctl_storage::{PoolSize, Stage, Step};
 use std::alloc::{AllocError, Global};
 use std::marker::Model;
 
@@ -85,6 +94,48 @@ impl Declarations {
     {
         self.objects.reserve(1)?;
         self.cells.reserve(cells)?;
+        let first = self.cells.len();
+        self.objects.push_reserved(Declaration {
+            number,
+            record,
+            master,
+            first,
+            cells,
+            stage: Stage::start(),
+        });
+        add_zeros(&mut self.cells, cells);
+        Ok(())
+    }
+
+    /// Declares an object as `declare`, and opens a pool under its number among the allocated objects,
+    /// with these discriminants (RM 13.11).
+    ///
+    /// # Errors
+    ///
+    /// `AllocError` where the allocator refuses the memory. Nothing changes then.
+    pub fn declare_pool(
+        &mut self,
+        number: u64,
+        record: usize,
+        master: u64,
+        cells: usize,
+        size: PoolSize,
+        allocated: &mut Allocations,
+    ) -> Result<(), AllocError>
+        requires numbers { AreBelow number self.old }
+        requires masters { AreUpTo master self.old }
+        requires size { IsBlockPoolSize size.block_size size.block_count }
+        requires new { get allocated.old.sizes number ≡ None }
+        ensures ok { OnOk result (self.new ≡ self.old ++ new_object number (Record «record») (replicate cells 0) (W.Declared master) ∷ []) }
+        ensures objects { allocated.new.objects ≡ allocated.old.objects }
+        ensures needs { allocated.new.needs ≡ allocated.old.needs }
+        ensures pools { OnOk result ((next : ℕ) (x : W.Pools) → number < next → ArePools next x (storage_of allocated.old) → ArePools next (push_block_pool number size.block_size size.block_count x) (storage_of allocated.new)) }
+        ensures err { OnErr result ((self.new ≡ self.old) × (allocated.new ≡ allocated.old)) }
+    {
+        self.objects.reserve(1)?;
+        self.cells.reserve(cells)?;
+        // After this nothing can be refused.
+        allocated.open_pool(number, size)?;
         let first = self.cells.len();
         self.objects.push_reserved(Declaration {
             number,
@@ -227,6 +278,17 @@ impl Declarations {
         ensures { (n : ℕ) → IfSome (object_in n self.now) (λ o. IsDeclared o.origin) }
     {
         let _ = &self.objects;
+    }
+
+    /// Answers the objects of a master, which are the last ones: no object has a greater master. It
+    /// takes time in their number.
+    pub fn going(&self, master: u64) -> &[Declaration]
+        requires { AreUpTo master self.now }
+        ensures { (n : ℕ) → has_number n result.now ≡ passes (λ o. ends_with_master master [] o.origin) n self.now }
+    {
+        let objects = self.objects.as_slice();
+        let count = count_before(objects, master);
+        &objects[count..]
     }
 
     /// Forgets the objects of a master, which are the last ones: no object has a greater master (RM

@@ -6,14 +6,13 @@ ghost use Rattle.std.specs.Prelude.{◌≡◌, ◌+◌, ◌-◌, ◌<◌, ◌≤
 ghost use Rattle.ctl_meaning.specs.Objects.{with_joined};
 ghost use Rattle.ctl_objects.specs.declared.needs.Need.{Need};
 ghost use Rattle.ctl_objects.specs.Groups.{AreEntered, AreGrouped, AreNumbers, Has, IsCounted, IsFirstMember, IsLastMember, IsNextBy, IsSame, KeepsCounts, Moves, count, count_of, counted, group_of, is_in, open_group, start_of};
-ghost use Rattle.ctl_objects.specs.InStore.{bare_of};
+ghost use Rattle.ctl_storage.specs.Allocated.{known};
 ghost use Rattle.ctl_objects.specs.Members.{IsGreatest, IsLeast};
-ghost use Rattle.ctl_objects.specs.Stages.{with_step};
+ghost use Rattle.ctl_storage.specs.Stages.{with_step};
 
-use crate::existing::{Life, Step};
 use crate::needs::{Need, needs_finalization};
-use crate::stored::Allocation;
 use ctl_program::types::Ty;
+use ctl_storage::{Allocation, Life, Step};
 use std::alloc::{AllocError, Global};
 use std::collections::{BTreeMap, BTreeSet};
 use std::ops::Bound;
@@ -82,7 +81,7 @@ impl Groups {
         requires entered { AreEntered self.old }
         requires stage { object.now.stage.has_joined ≡ false }
         requires new { (g : Group) → is_in g number self.old ≡ false }
-        ensures ok { OnOk result (Moves needs.now number None (Some (bare_of number object.now)) self.old self.new) }
+        ensures ok { OnOk result (Moves needs.now number None (Some (known number object.now)) self.old self.new) }
         ensures err { OnErr result (IsSame self.old self.new) }
     {
         let Some(group) = open_group(needs, object) else {
@@ -95,8 +94,8 @@ impl Groups {
 
     /// Follows a step of an object, in the same time.
     pub(crate) fn follow(&mut self, needs: &[Need], number: u64, before: &Allocation, step: Step)
-        requires { Has needs.now number (bare_of number before.now) self.old }
-        ensures { Moves needs.now number (Some (bare_of number before.now)) (Some (with_step step (bare_of number before.now))) self.old self.new }
+        requires { Has needs.now number (known number before.now) self.old }
+        ensures { Moves needs.now number (Some (known number before.now)) (Some (with_step step (known number before.now))) self.old self.new }
     {
         match step {
             Step::Begin => self.leave(needs, number, before),
@@ -107,8 +106,8 @@ impl Groups {
 
     /// Takes an object out, in the same time.
     pub(crate) fn leave(&mut self, needs: &[Need], number: u64, object: &Allocation)
-        requires { Has needs.now number (bare_of number object.now) self.old }
-        ensures { Moves needs.now number (Some (bare_of number object.now)) None self.old self.new }
+        requires { Has needs.now number (known number object.now) self.old }
+        ensures { Moves needs.now number (Some (known number object.now)) None self.old self.new }
     {
         let Some(group) = open_group(needs, object) else {
             return;
@@ -128,8 +127,8 @@ impl Groups {
 
     /// Counts an object that joins its collection, if it has not joined it before.
     fn join(&mut self, needs: &[Need], number: u64, object: &Allocation)
-        requires { Has needs.now number (bare_of number object.now) self.old }
-        ensures { Moves needs.now number (Some (bare_of number object.now)) (Some (with_joined (bare_of number object.now))) self.old self.new }
+        requires { Has needs.now number (known number object.now) self.old }
+        ensures { Moves needs.now number (Some (known number object.now)) (Some (with_joined (known number object.now))) self.old self.new }
     {
         if object.stage.has_joined {
             return;
@@ -221,7 +220,7 @@ fn start_of(start: Start) -> Bound<Key>
 
 /// Answers the group of an object, if its record type needs finalization.
 fn group_of(needs: &[Need], object: &Allocation) -> Option<Group>
-    ensures { (number : ℕ) → result ≡ group_of needs.now (bare_of number object.now) }
+    ensures { (number : ℕ) → result ≡ group_of needs.now (known number object.now) }
 {
     let Ty::Record(record_type) = object.ty else {
         return None;
@@ -238,7 +237,7 @@ fn group_of(needs: &[Need], object: &Allocation) -> Option<Group>
 /// Answers the group of an object whose finalization has not begun.
 #[tactic(auto, unfolding(ctl_meaning::specs::Objects::is_untouched))]
 fn open_group(needs: &[Need], object: &Allocation) -> Option<Group>
-    ensures { (number : ℕ) → result ≡ open_group needs.now (bare_of number object.now) }
+    ensures { (number : ℕ) → result ≡ open_group needs.now (known number object.now) }
 {
     match object.stage.life {
         Life::Untouched => group_of(needs, object),

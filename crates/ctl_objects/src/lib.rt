@@ -1,5 +1,5 @@
 //! The objects that exist while a program runs: those that are declared, and those that are
-//! allocated, with their cells.
+//! allocated, with their cells, and the block pools.
 #![tactic(auto)]
 
 mod allocations;
@@ -10,12 +10,14 @@ mod groups;
 mod needs;
 mod object_list;
 mod sets;
-mod stored;
 
-pub use existing::{Existing, Life, Origin, Stage};
+pub use ctl_storage::{BlockReturn, Life, Place, Placing, Pool, PoolSize, PoolState, Spot, Stage};
+pub use existing::{Existing, Origin};
 pub use groups::{Group, Start, Waiting};
 pub use needs::Need;
 pub use object_list::Objects;
 
+#[cfg(test)]
+mod pool_tests;
 #[cfg(test)]
 mod tests;

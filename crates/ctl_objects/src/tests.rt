@@ -1,6 +1,7 @@
-//! Declared and allocated objects side by side, by a caller that numbers them as they come.
+//! Declared and allocated objects side by side, by a caller that numbers them as they come and has no
+//! pools.
 
-use crate::{Existing, Group, Life, Need, Objects, Origin, Stage, Start};
+use crate::{Existing, Group, Life, Need, Objects, Origin, Place, Stage, Start};
 use ctl_program::types::Ty;
 use std::alloc::{AllocError, Global};
 use std::marker::Model;
@@ -15,14 +16,17 @@ struct Numbered {
 
 impl Model for Numbered {
     ghost use Rattle.std.specs.Prelude.{List};
+    ghost use Rattle.ctl_meaning.specs.World as W;
     ghost use Rattle.ctl_meaning.specs.World.{Object};
-    ghost use Rattle.ctl_objects.specs.Order.{AreBelow, AreUpTo};
+    ghost use Rattle.ctl_storage.specs.Order.{AreBelow};
+    ghost use Rattle.ctl_objects.specs.Order.{AreUpTo};
+    ghost use Rattle.ctl_objects.specs.Pools.{ShowsPools};
 
     ghost Value = { List Object };
 
     ghost view = { λ n. n.objects.objects };
 
-    ghost invariant = { λ n. AreBelow n.next n.objects.objects × AreUpTo n.master n.objects.objects };
+    ghost invariant = { λ n. (AreBelow n.next n.objects.objects × AreUpTo n.master n.objects.objects) × ShowsPools n.next W.empty_pools n.objects };
 }
 
 /// Tells what record types 0 to 8 need: 7 and 8 need finalization, and so does no other.
@@ -124,7 +128,7 @@ impl Numbered {
         match self.objects.find(number) {
             Some(
                 Existing {
-                    origin: Origin::Allocated(_),
+                    origin: Origin::Allocated { .. },
                     ..
                 },
             ) => {
@@ -357,7 +361,10 @@ fn a_finalization_begins_and_ends(rt: HostRuntime) {
         Some(Existing {
             ty: Ty::Integer,
             stage: Stage { life, has_joined },
-            origin: Origin::Allocated(6),
+            origin: Origin::Allocated {
+                collection: 6,
+                place: Place::Standard,
+            },
         })
     };
     let declared = Existing {

@@ -2,6 +2,7 @@
 use Rattle.std.proofs.Common.{◌≡◌, ◌∙◌, ℕ, List, [], Option, Some, None, Bool, true, false, cond, refl, sym, ap, subst}
 use Rattle.std.specs.Prelude.{nat_eq, nat_lt, not, ◌&&◌, ◌||◌, IfSome, IsSome, option_and_then}
 use Rattle.std.specs.Option.{option_map, option_map_or}
+use Rattle.std.specs.FinMap.{get}
 use borrow.Author.Tests.{eq-eqb}
 use Rattle.ctl_meaning.specs.World as W
 use Rattle.ctl_meaning.specs.World.{Object, empty_world}
@@ -9,8 +10,9 @@ use Rattle.ctl_meaning.specs.Lists.{opened_lists}
 use Rattle.ctl_meaning.specs.Pools as P
 use Rattle.ctl_meaning.specs.Pools.{block_at, block_pool_at, opened_pools}
 use Rattle.ctl_meaning.specs.Changes.{is_held, is_vacant, opened_changes}
-use Rattle.ctl_storage.specs.Storage.{AreHolders, exists, holder_at, holder_in, holder_of}
-use Rattle.ctl_storage.specs.Calls.{is_exhausted_at, is_fit_at, is_vacant_among}
+use Rattle.pool_store.specs.Entries.{BlockPool}
+use Rattle.ctl_storage.specs.Storage.{AreHolders, ArePools, IsShown, Storage, among, exists, held_in, holder_at, holder_in, holder_of}
+use Rattle.ctl_storage.specs.Calls.{is_exhausted_at, is_fit_at, is_vacant_among, is_vacant_at}
 use Rattle.ctl_storage.proofs.Shown.{block_out, noted_back, noted_held, noted_out, pool_changed, pool_kept}
 
 -- What is true of each number that is noted ----------------------------------------------------------------
@@ -76,6 +78,47 @@ vacant_beside w os x n a p h there = by (block_at a p) (subst (λ o. IfSome (hol
     by : (o : Option W.Block) → IfSome (option_and_then holder_of o) (λ m. exists m w.objects ≡ exists m os) → is_vacant w o ≡ is_vacant_among os o
     by None i = refl
     by (Some b) i = own b.holder i
+
+-- the same pools are shown by other objects, where of those that are noted the same exist
+pub shown_beside : (next : ℕ) (x : W.Pools) (os : List Object) (s : Storage) → AreHolders (λ m. exists m os ≡ exists m s.objects) x → ArePools next x s → ArePools next x (record s { objects = os })
+shown_beside next x os s same h = record { address = h.address; sizes = h.sizes; blocks = λ k. by k (block_pool_at k x) (get s.blocks k) refl (h.blocks k); pools = h.pools; holders = h.holders }
+  where
+    own : (o : Option ℕ) → IfSome o (λ m. exists m os ≡ exists m s.objects) → among s.objects o ≡ among os o
+    own None i = refl
+    own (Some m) i = ap (λ e. cond e (Some m) None) (sym i)
+
+    held : (o : Option W.Block) → IfSome (option_and_then holder_of o) (λ m. exists m os ≡ exists m s.objects) → option_map (held_in s.objects) o ≡ option_map (held_in os) o
+    held None i = refl
+    held (Some b) i = ap (λ z. Some z) (own b.holder i)
+
+    by : (k : ℕ) (o : Option W.BlockPool) (c : Option BlockPool) → block_pool_at k x ≡ o → IsShown s.objects o c → IsShown os o c
+    by k None None e i = tt
+    by k None (Some c) e i = absurd i
+    by k (Some p) None e i = i
+    by k (Some p) (Some c) e i = (
+      i.0,
+      record {
+        size = i.1.size;
+        free = i.1.free;
+        out = λ a. i.1.out a ∙ held (block_at a p) (subst (λ o. IfSome (holder_in a o) (λ m. exists m os ≡ exists m s.objects)) e (same k a));
+      },
+    )
+
+-- and then a block is vacant among those as it is among these, and fit for a size
+pub vacant_alike : (os qs : List Object) (x : W.Pools) (n a : ℕ) → AreHolders (λ m. exists m os ≡ exists m qs) x → is_vacant_at n a os x ≡ is_vacant_at n a qs x
+vacant_alike os qs x n a h = by (block_pool_at n x) refl
+  where
+    by : (o : Option W.BlockPool) → block_pool_at n x ≡ o → option_map_or (λ p. is_vacant_among os (block_at a p)) o false ≡ option_map_or (λ p. is_vacant_among qs (block_at a p)) o false
+    by None there = refl
+    by (Some p) there = vacant_beside (record empty_world { objects = os }) qs x n a p h there
+
+pub fit_alike : (os qs : List Object) (x : W.Pools) (n a size : ℕ) → AreHolders (λ m. exists m os ≡ exists m qs) x → is_fit_at n a size os x ≡ is_fit_at n a size qs x
+fit_alike os qs x n a size h = by (block_pool_at n x) refl
+  where
+    by : (o : Option W.BlockPool) → block_pool_at n x ≡ o
+        → option_map_or (λ p. is_vacant_among os (block_at a p) && not (nat_lt p.block_size size)) o false ≡ option_map_or (λ p. is_vacant_among qs (block_at a p) && not (nat_lt p.block_size size)) o false
+    by None there = refl
+    by (Some p) there = ap (λ b. b && not (nat_lt p.block_size size)) (vacant_beside (record empty_world { objects = os }) qs x n a p h there)
 
 -- Calls that follow one another ----------------------------------------------------------------------------
 

@@ -14,7 +14,6 @@ use Rattle.pool_store.specs.declared.fault.StoreFault.{StoreFault}
 use Rattle.pool_store.specs.declared.fault.StoreFault.TheVariants.{BadAddress, Exhausted, Memory}
 use Rattle.pool_store.specs.Entries.{BlockPool}
 use Rattle.pool_store.specs.Store as S
-use Rattle.pool_store.specs.Store.{Store}
 use Rattle.ctl_storage.specs.declared.pools.Placing.{Placing}
 use Rattle.ctl_storage.specs.declared.pools.Placing.TheVariants.{Placed, Refused}
 use Rattle.ctl_storage.specs.declared.pools.Pool.{Pool}
@@ -120,8 +119,22 @@ refused_fit false e = refl
 abbrev pub opened_blocks : ℕ → PoolSize → Storage → FinMap nat_cmp BlockPool
 opened_blocks n z v = insert v.blocks n (record { size = z.block_size; free = z.block_count; out = empty })
 
-pub placed_then : (s t : Store) (r : Placing) → r ≡ Placed → OnPlaced r (s ≡ t) → s ≡ t
-placed_then s t r is h = subst (λ z. OnPlaced z (s ≡ t)) is h
+-- what is said of an object that was put into a block, and of one that was not
+pub placed_then : (P : Type 0) (r : Placing) → r ≡ Placed → OnPlaced r P → P
+placed_then P r is h = subst (λ z. OnPlaced z P) is h
 
-pub refused_then : (s t : Store) (r : Placing) → r ≡ Refused → OnRefused r (s ≡ t) → s ≡ t
-refused_then s t r is h = subst (λ z. OnRefused z (s ≡ t)) is h
+pub refused_then : (P : Type 0) (r : Placing) → r ≡ Refused → OnRefused r P → P
+refused_then P r is h = subst (λ z. OnRefused z P) is h
+
+-- Fields that stay ---------------------------------------------------------------------------------------
+
+made : List Object → FinMap nat_cmp PoolSize → FinMap nat_cmp BlockPool → ℕ → Storage
+made os sizes blocks given = record { objects = os; sizes = sizes; blocks = blocks; given = given }
+
+pub same_but_blocks : (s t : Storage) → t.sizes ≡ s.sizes → t.given ≡ s.given → t ≡ record s { objects = t.objects; blocks = t.blocks }
+unfolding made
+same_but_blocks s t sizes given = ap (λ z. made t.objects z t.blocks t.given) sizes ∙ ap (λ n. made t.objects s.sizes t.blocks n) given
+
+pub same_but_objects : (s t : Storage) → t.sizes ≡ s.sizes → t.blocks ≡ s.blocks → t.given ≡ s.given → t ≡ record s { objects = t.objects }
+unfolding made
+same_but_objects s t sizes blocks given = same_but_blocks s t sizes given ∙ ap (λ b. made t.objects s.sizes b s.given) blocks

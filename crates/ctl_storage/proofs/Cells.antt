@@ -48,7 +48,7 @@ unfolding opened_names opened_objects opened_lists
 scalar_first [] = refl
 scalar_first (x ∷ xs) = refl
 
-none_dropped : (n : ℕ) → drop {A = ℕ} n [] ≡ []
+pub none_dropped : (n : ℕ) → drop {A = ℕ} n [] ≡ []
 none_dropped zero = refl
 none_dropped (suc n) = refl
 
@@ -75,30 +75,30 @@ overwritten_is (suc offset) x [] = refl
 overwritten_is (suc offset) x (y ∷ ys) = ap (λ (l : List ℕ). y ∷ l) (overwritten_is offset x ys)
 
 -- one cell, and those behind it
-cells_more : (offset x : ℕ) (v cells : List ℕ) → overwritten (suc offset) v (overwritten offset (x ∷ []) cells) ≡ overwritten offset (x ∷ v) cells
+pub cells_more : (offset x : ℕ) (v cells : List ℕ) → overwritten (suc offset) v (overwritten offset (x ∷ []) cells) ≡ overwritten offset (x ∷ v) cells
 unfolding opened_objects
 cells_more zero x v [] = refl
 cells_more zero x v (y ∷ ys) = refl
 cells_more (suc offset) x v [] = refl
 cells_more (suc offset) x v (y ∷ ys) = ap (λ (l : List ℕ). y ∷ l) (cells_more offset x v ys)
 
-no_cells : (offset : ℕ) (cells : List ℕ) → overwritten offset [] cells ≡ cells
+pub no_cells : (offset : ℕ) (cells : List ℕ) → overwritten offset [] cells ≡ cells
 unfolding opened_objects
 no_cells zero cells = refl
 no_cells (suc offset) [] = refl
 no_cells (suc offset) (y ∷ ys) = ap (λ (l : List ℕ). y ∷ l) (no_cells offset ys)
 
-object_more : (offset x : ℕ) (v : List ℕ) (o : Object) → with_cells (offset + 1) v (with_cells offset (x ∷ []) o) ≡ with_cells offset (x ∷ v) o
+pub object_more : (offset x : ℕ) (v : List ℕ) (o : Object) → with_cells (offset + 1) v (with_cells offset (x ∷ []) o) ≡ with_cells offset (x ∷ v) o
 unfolding opened_objects
 object_more offset x v o =
     let next : offset + 1 ≡ suc offset = omega arith in
     ap (λ (l : List ℕ). record o { cells = l }) (ap (λ n. overwritten n v (overwritten offset (x ∷ []) o.cells)) next ∙ cells_more offset x v o.cells)
 
-same_object : (offset : ℕ) (o : Object) → with_cells offset [] o ≡ o
+pub same_object : (offset : ℕ) (o : Object) → with_cells offset [] o ≡ o
 unfolding opened_objects
 same_object offset o = ap (λ (l : List ℕ). record o { cells = l }) (no_cells offset o.cells)
 
-same_number : (offset : ℕ) (v : List ℕ) (o : Object) → (with_cells offset v o).number ≡ o.number
+pub same_number : (offset : ℕ) (v : List ℕ) (o : Object) → (with_cells offset v o).number ≡ o.number
 unfolding opened_objects
 same_number offset v o = refl
 
@@ -110,7 +110,7 @@ change_there : (f : Object → Object) (o : Object) (n : ℕ) (os : List Object)
 unfolding opened_lists opened_objects
 change_there f o n os e = rw (eq_differs o.number n e) refl
 
-change_twice : (n : ℕ) (f g h : Object → Object) → ((o : Object) → (g o).number ≡ o.number) → ((o : Object) → f (g o) ≡ h o) → (os : List Object) → change_in n f (change_in n g os) ≡ change_in n h os
+pub change_twice : (n : ℕ) (f g h : Object → Object) → ((o : Object) → (g o).number ≡ o.number) → ((o : Object) → f (g o) ≡ h o) → (os : List Object) → change_in n f (change_in n g os) ≡ change_in n h os
 change_twice n f g h same both [] = ap (λ (l : List Object). change_in n f l) (change_none n g) ∙ (change_none n f ∙ sym (change_none n h))
 change_twice n f g h same both (o ∷ os) = by (change_twice n f g h same both os) (nat_eq o.number n) refl
   where
@@ -129,7 +129,7 @@ change_twice n f g h same both (o ∷ os) = by (change_twice n f g h same both o
         ∙ (ap (λ (l : List Object). o ∷ l) others
         ∙ sym (change_there h o n os differs)))
 
-change_nothing : (n : ℕ) (f : Object → Object) → ((o : Object) → f o ≡ o) → (os : List Object) → change_in n f os ≡ os
+pub change_nothing : (n : ℕ) (f : Object → Object) → ((o : Object) → f o ≡ o) → (os : List Object) → change_in n f os ≡ os
 change_nothing n f same [] = change_none n f
 change_nothing n f same (o ∷ os) = by (change_nothing n f same os) (nat_eq o.number n) refl
   where

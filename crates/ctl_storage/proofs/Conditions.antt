@@ -1,13 +1,10 @@
 -- What is true of each object stays true as objects come, change and go: so a caller shows the conditions of the calls.
-use Rattle.std.proofs.Common.{◌≡◌, ℕ, ◌+◌, ◌<◌, ◌≤◌, List, [], ◌∷◌, ◌++◌, Bool, true, false, cond, arith, subst}
+use Rattle.std.proofs.Common.{◌≡◌, ℕ, ◌+◌, ◌<◌, ◌≤◌, List, [], ◌∷◌, ◌++◌, Bool, true, false, cond, arith}
 use Rattle.std.specs.Prelude.{nat_eq}
 use Rattle.std.specs.List.{AllByRecursion}
 use Rattle.ctl_meaning.specs.World.{Object}
 use Rattle.ctl_meaning.specs.Lists.{keep, opened_lists}
 use Rattle.ctl_meaning.specs.Objects.{change_in, opened_objects}
-use Rattle.ctl_storage.specs.declared.pools.Placing.{Placing}
-use Rattle.ctl_storage.specs.declared.pools.Placing.TheVariants.{Placed}
-use Rattle.ctl_storage.specs.Calls.{OnPlaced}
 use Rattle.ctl_storage.specs.Order.{AreBelow}
 use Rattle.ctl_storage.proofs.Rising.{KeepsNumbers}
 
@@ -49,7 +46,3 @@ below_changed next n f os numbers h = all_changed (λ o. o.number < next) n f (�
 
 pub below_kept : (next : ℕ) (p : Object → Bool) (os : List Object) → AreBelow next os → AreBelow next (keep p os)
 below_kept next p os h = all_kept (λ o. o.number < next) p os h
-
--- what is said of an object that was put into a block
-pub placed_objects : (os qs : List Object) (r : Placing) → r ≡ Placed → OnPlaced r (qs ≡ os) → qs ≡ os
-placed_objects os qs r is h = subst (λ z. OnPlaced z (qs ≡ os)) is h

@@ -660,6 +660,23 @@ seen_outside os n k none = by (object_in k os) (none k)
     by None e = refl
     by (Some x) e = e
 
+-- an object in a block lies in a pool that is open
+pub none_closed : (os : Objects) (zs : Sizes) (l : Located) (s : Store) (n : ℕ) → get s.blocks n ≡ None → AreStored os zs l s → AreOutside n (seen os s)
+none_closed os zs l s n closed h = outside_seen (seen os s) n (λ k. lies_seen os s n k ∙ by k (get os k) refl)
+  where
+    own : (k : ℕ) (a : Allocation) (z : Place) → get os k ≡ Some a → a.place ≡ z → (b : Bool) → is_in n z ≡ b → is_in n z ≡ false
+    own k a z there place false is = is
+    own k a Standard there place true is = refl
+    own k a (InBlock y) there place true is =
+        let held : holds k (lot_at n y.address s) ≡ true =
+        h.held k n y.address ∙ (ap (λ o. lies_at n y.address o) there ∙ (ap (λ z. is_at n y.address z) place ∙ (ap (λ b. b && nat_eq y.address y.address) is ∙ eq-eqb y.address y.address refl))) in
+        let none : holds k (lot_at n y.address s) ≡ false = ap (λ (o : Option BlockPool). holds k (option_and_then (λ b. get b.out y.address) o)) closed in
+        absurd (cc)
+
+    by : (k : ℕ) (o : Option Allocation) → get os k ≡ o → lies_in n o ≡ false
+    by k None there = refl
+    by k (Some a) there = own k a a.place there refl (is_in n a.place) refl
+
 abbrev outside : ℕ → Object → Bool
 outside n o = not (lies_in_pool n o.origin)
 

@@ -9,3 +9,4 @@ pub mod Kept
 pub mod Calls
 pub mod Conditions
 pub mod Beside
+pub mod Served

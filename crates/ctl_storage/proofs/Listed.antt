@@ -12,13 +12,13 @@ use Rattle.ctl_storage.specs.Located.{IsFirstLocated, IsLocatedAs, Located, is_l
 
 -- The order of what is listed ------------------------------------------------------------------------------
 
-same_pair : (a b c d : ℕ) → is_eq (pair_cmp (a, b) (c, d)) ≡ (nat_eq a c && nat_eq b d)
+pub same_pair : (a b c d : ℕ) → is_eq (pair_cmp (a, b) (c, d)) ≡ (nat_eq a c && nat_eq b d)
 same_pair a b c d = grind (arith, nat_tests)
 
-not_greater : (a b c d : ℕ) → is_gt (pair_cmp (a, b) (c, d)) ≡ false → (a ≤ c) × (c ≡ a → b ≤ d)
+pub not_greater : (a b c d : ℕ) → is_gt (pair_cmp (a, b) (c, d)) ≡ false → (a ≤ c) × (c ≡ a → b ≤ d)
 not_greater a b c d is = (grind (arith, nat_tests, is), λ same. grind (arith, nat_tests, is, same))
 
-from_first : (a d : ℕ) → is_gt (pair_cmp (a, 0) (a, d)) ≡ false
+pub from_first : (a d : ℕ) → is_gt (pair_cmp (a, 0) (a, d)) ≡ false
 from_first a d = grind (arith, nat_tests)
 
 -- What is listed -------------------------------------------------------------------------------------------
@@ -38,7 +38,7 @@ none_of_range start s r range is = λ c k from. range.5 is (c, k) (from, tt)
 
 -- A pool of which no object is listed ---------------------------------------------------------------------
 
-is_false : (b : Bool) → (b ≡ true → ⊥) → b ≡ false
+pub is_false : (b : Bool) → (b ≡ true → ⊥) → b ≡ false
 is_false true never = absurd (never refl)
 is_false false never = refl
 

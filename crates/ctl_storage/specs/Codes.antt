@@ -89,7 +89,7 @@ object_code =
     (λ o. (o.number, (o.ty, (o.cells, (o.state, (o.origin, o.joined))))))
     (λ t. record { number = t.0; ty = t.1.0; cells = t.1.1.0; state = t.1.1.1.0; origin = t.1.1.1.1.0; joined = t.1.1.1.1.1 }) (λ _. refl)
 
-abbrev size_code : Coded PoolSize
+abbrev pub size_code : Coded PoolSize
 size_code = code_by (ℕ × ℕ) (coded× coded_ℕ coded_ℕ) (λ s. (s.block_size, s.block_count)) (λ t. record { block_size = t.0; block_count = t.1 }) (λ _. refl)
 
 abbrev pub storage_code : Coded Storage

@@ -6,3 +6,4 @@ pub mod Codes
 pub mod Calls
 pub mod Located
 pub mod Inside
+pub mod Sizes

@@ -5,6 +5,7 @@
 mod existing;
 mod located;
 mod pools;
+mod sizes;
 mod storage;
 mod words;
 

@@ -1,6 +1,6 @@
 //! The allocated objects by number, with their cells and the block pools in the object store.
 
-ghost use Rattle.std.specs.Prelude.{◌≡◌, ◌+◌, ◌-◌, ◌*◌, ◌^◌, ◌<◌, ◌≤◌, ◌++◌, ◌∷◌, ◌↔◌, [], ℕ, OnOk, OnErr, IfOk, IfSome, IsNone, IsTrue, None, false, true, replicate, vec_capacity, vec_len, is_some, nat_eq, nat_le, not};
+ghost use Rattle.std.specs.Prelude.{◌≡◌, ◌+◌, ◌-◌, ◌*◌, ◌^◌, ◌<◌, ◌≤◌, ◌++◌, ◌∷◌, ◌↔◌, [], ℕ, OnOk, OnErr, IfNone, IfOk, IfSome, IsNone, IsTrue, MatchOption, None, false, true, replicate, vec_capacity, vec_len, is_some, nat_eq, nat_le, not};
 ghost use Rattle.std.specs.Option.{option_map, option_map_or};
 ghost use Rattle.std.specs.FinMap.{get};
 ghost use Rattle.ctl_meaning.specs.World as W;
@@ -9,7 +9,7 @@ ghost use Rattle.ctl_meaning.specs.Names.{scalar_of};
 ghost use Rattle.ctl_meaning.specs.Objects.{cells_at, change_in, lies_in_pool, object_in, with_cells};
 ghost use Rattle.ctl_meaning.specs.Pools.{block_pool_at, hold_block, keep_pools, push_block_pool, shut};
 ghost use Rattle.ctl_meaning.specs.Changes.{new_object};
-ghost use Rattle.pool_store.specs.Store.{hold_block as hold_block_in, is_fit_in};
+ghost use Rattle.pool_store.specs.Store.{IsBlockPool, hold_block as hold_block_in, is_exhausted_in, is_fit_in, take_block as take_block_in};
 ghost use Rattle.ctl_storage.specs.Allocated.{IsKnown, is_member};
 ghost use Rattle.ctl_storage.specs.Calls.{AreOutside, IsBlockPoolSize, IsOpen, IsPoolOf, OnPlaced, OnRefused, is_fit_at, is_vacant_at, number_lies_in, placing, pool_of, returned, state_of, taken_at, with_returned, with_taken};
 ghost use Rattle.ctl_storage.specs.Order.{AreBelow, Rise};
@@ -19,6 +19,7 @@ ghost use Rattle.ctl_storage.specs.Storage.{ArePools, KeepsPools};
 use crate::existing::{Allocation, Place, Stage, Step};
 use crate::located::{Located, first_located, list_object, unlist_gone, unlist_object};
 use crate::pools::{BlockReturn, Placing, Pool, PoolSize, PoolState};
+use crate::sizes::PoolSizes;
 use crate::words::{read_word, save_words, write_word, write_words};
 use ctl_program::types::Ty;
 use number_map::NumberMap;
@@ -31,7 +32,7 @@ use std::ops::Bound;
 /// The allocated objects and the block pools. It ends by `close`.
 pub struct ObjectStorage {
     objects: NumberMap<Allocation>,
-    sizes: NumberMap<PoolSize>,
+    sizes: PoolSizes,
     located: Located,
     store: PoolStore,
 }
@@ -58,7 +59,7 @@ impl ObjectStorage {
     {
         ObjectStorage {
             objects: NumberMap::new(alloc),
-            sizes: NumberMap::new(alloc),
+            sizes: PoolSizes::new(alloc),
             located: BTreeSet::new(alloc),
             store: PoolStore::new(alloc),
         }
@@ -79,6 +80,7 @@ impl ObjectStorage {
     ) -> Result<(), AllocError>
         requires { AreBelow number self.old.objects }
         ensures objects { OnOk result (self.new.objects ≡ self.old.objects ++ new_object number ty (replicate cells 0) (W.Allocated collection W.Standard) ∷ []) }
+        ensures same { OnOk result (self.new ≡ record self.old { objects = self.new.objects }) }
         ensures pools { OnOk result ((x : W.Pools) → ArePools number x self.old → ArePools (number + 1) x self.new) }
         ensures err { OnErr result (self.new ≡ self.old) }
     {
@@ -152,6 +154,61 @@ impl ObjectStorage {
         }
     }
 
+    /// Adds an object of a collection in a free block of an open pool, with so many cells, all of them
+    /// 0 (RM 13.11): the block goes out under an address that no block had before. It answers the
+    /// address: None exactly where no block is free or the size is larger than a block, and then
+    /// nothing changes.
+    ///
+    /// # Errors
+    ///
+    /// `AllocError` where the allocator refuses the memory. Nothing changes then.
+    pub fn add_in_pool(
+        &mut self,
+        number: u64,
+        ty: Ty,
+        collection: u64,
+        cells: usize,
+        pool: u64,
+        size: u64,
+    ) -> Result<Option<u64>, AllocError>
+        requires below { AreBelow number self.old.objects }
+        requires open { IsOpen pool self.old }
+        requires addresses { self.old.given < 2 ^ 64 - 1 }
+        requires size { 8 * cells ≤ size }
+        ensures answer { IfOk result (λ r. (next : ℕ) (x : W.Pools) → ArePools next x self.old → r ≡ taken_at pool size x) }
+        ensures objects { IfOk result (λ r. IfSome r (λ a. self.new.objects ≡ self.old.objects ++ new_object number ty (replicate cells 0) (W.Allocated collection (W.InBlock pool a)) ∷ [])) }
+        ensures pools { IfOk result (λ r. IfSome r (λ a. (x : W.Pools) → ArePools number x self.old → ArePools (number + 1) (hold_block pool a number (with_taken pool size x)) self.new)) }
+        ensures exhausted { IfOk result (λ r. IfNone r (self.new ≡ self.old)) }
+        ensures err { OnErr result (self.new ≡ self.old) }
+    {
+        if !self.has_blocks_of(pool, size) {
+            return Ok(None);
+        }
+        self.objects.reserve()?;
+        list_object(&mut self.located, pool, number)?;
+        match allocate_for(&mut self.store, pool, number, cells) {
+            Ok(Some(address)) => {
+                let object = Allocation {
+                    ty,
+                    collection,
+                    place: Place::InBlock(Spot { pool, address }),
+                    cells,
+                    stage: Stage::start(),
+                };
+                self.objects.put(number, object);
+                Ok(Some(address))
+            }
+            Ok(None) => {
+                unlist_object(&mut self.located, pool, number);
+                Ok(None)
+            }
+            Err(refused) => {
+                unlist_object(&mut self.located, pool, number);
+                Err(refused)
+            }
+        }
+    }
+
     /// Answers whether a pool has blocks that are not smaller than a size.
     fn has_blocks_of(&self, pool: u64, size: u64) -> bool
         ensures { result ≡ option_map_or (λ z. nat_le size z.block_size) (get self.now.sizes pool) false }
@@ -180,6 +237,7 @@ impl ObjectStorage {
     pub fn write(&mut self, number: u64, start: usize, offset: usize, value: u64) -> bool
         ensures exists { result ≡ is_some (object_in number self.old.objects) }
         ensures written { self.new.objects ≡ change_in number (with_cells (start + offset) (value ∷ [])) self.old.objects }
+        ensures same { self.new ≡ record self.old { objects = self.new.objects } }
         ensures pools { KeepsPools self.old self.new }
     {
         match self.objects.get(number) {
@@ -214,6 +272,7 @@ impl ObjectStorage {
     pub fn write_all(&mut self, number: u64, start: usize, values: &[u64]) -> bool
         ensures exists { result ≡ is_some (object_in number self.old.objects) }
         ensures written { self.new.objects ≡ change_in number (with_cells start values.now) self.old.objects }
+        ensures same { self.new ≡ record self.old { objects = self.new.objects } }
         ensures pools { KeepsPools self.old self.new }
     {
         match self.objects.get(number) {
@@ -240,6 +299,7 @@ impl ObjectStorage {
     pub fn step(&mut self, number: u64, step: Step) -> Option<Allocation>
         ensures before { IsKnown number result self.old.objects }
         ensures stepped { self.new.objects ≡ change_in number (with_step step) self.old.objects }
+        ensures same { self.new ≡ record self.old { objects = self.new.objects } }
         ensures pools { KeepsPools self.old self.new }
     {
         let Some(object) = self.objects.get_mut(number) else {
@@ -256,6 +316,7 @@ impl ObjectStorage {
         ensures before { IsKnown number result self.old.objects }
         ensures collection { (set : ℕ) → is_member set number self.old.objects ≡ option_map_or (λ a. nat_eq a.collection set) result false }
         ensures gone { self.new.objects ≡ keep (λ o. not (nat_eq o.number number)) self.old.objects }
+        ensures same { self.new ≡ record self.old { objects = self.new.objects; blocks = self.new.blocks } }
         ensures pools { KeepsPools self.old self.new }
     {
         let removed = self.objects.remove(number);
@@ -313,6 +374,22 @@ impl ObjectStorage {
         } else {
             PoolState::Closed
         }
+    }
+
+    /// Answers whether a pool was ever opened: where not, there is none. It takes constant time, and
+    /// no look-up.
+    #[inline(always)]
+    pub fn has_pools(&self) -> bool
+        ensures { result ≡ false → (n : ℕ) → get self.now.sizes n ≡ None }
+    {
+        self.sizes.are_used()
+    }
+
+    /// Says that an object in a block lies in a pool that is open.
+    pub fn are_in_pools(&self)
+        ensures { (n : ℕ) → get self.now.blocks n ≡ None → AreOutside n self.now.objects }
+    {
+        let _ = &self.located;
     }
 
     /// Answers whether another address can be given.
@@ -381,8 +458,9 @@ impl ObjectStorage {
         }
     }
 
-    /// Answers the first object in a block of a pool.
-    fn first_in(&self, number: u64) -> Option<u64>
+    /// Answers the first object in a block of a pool. It takes time in the logarithm of how many
+    /// objects lie in blocks.
+    pub fn first_in(&self, number: u64) -> Option<u64>
         ensures rise { Rise 0 self.now.objects }
         ensures some { IfSome result (λ k. number_lies_in number k self.now.objects ≡ true) }
         ensures none { IsNone result → AreOutside number self.now.objects }
@@ -393,8 +471,9 @@ impl ObjectStorage {
         }
     }
 
-    /// Closes a pool in whose blocks no object lies, where it is open, and frees it.
-    fn shut_pool(&mut self, number: u64)
+    /// Closes a pool in whose blocks no object lies, where it is open, and frees it. It takes time in
+    /// the blocks that are out.
+    pub fn shut_pool(&mut self, number: u64)
         requires { IsOpen number self.old → AreOutside number self.old.objects }
         ensures objects { self.new.objects ≡ self.old.objects }
         ensures closed { get self.new.blocks number ≡ None }
@@ -460,6 +539,34 @@ fn occupy(
     match store.occupy(spot.pool, Address(spot.address), number, 8 * cells as u64) {
         Ok(()) => Ok(Placing::Placed),
         Err(StoreFault::BadAddress) => Ok(Placing::Refused),
+        Err(_refused) => Err(AllocError),
+    }
+}
+
+/// Takes a free block of an open pool out for a new object of so many cells, which lies in it then. It
+/// answers the address: None exactly where no block is free or the object is larger than a block, and
+/// then nothing changes.
+///
+/// # Errors
+///
+/// `AllocError` where the allocator refuses the memory. Nothing changes then.
+fn allocate_for(
+    store: &mut PoolStore,
+    pool: u64,
+    number: u64,
+    cells: usize,
+) -> Result<Option<u64>, AllocError>
+    requires open { IsBlockPool pool store.old }
+    requires addresses { store.old.given < 2 ^ 64 - 1 }
+    requires new { get store.old.objects number ≡ None }
+    requires few { 8 * cells < 2 ^ 64 }
+    ensures answer { IfOk result (λ r. MatchOption r ((is_exhausted_in pool (8 * cells) store.old ≡ true) × (store.new ≡ store.old))
+        (λ a. (is_exhausted_in pool (8 * cells) store.old ≡ false) × (a ≡ store.old.given + 1) × (store.new ≡ hold_block_in pool a number cells (take_block_in pool store.old)))) }
+    ensures err { OnErr result (store.new ≡ store.old) }
+{
+    match store.allocate_for(pool, number, 8 * cells as u64) {
+        Ok(Address(address)) => Ok(Some(address)),
+        Err(StoreFault::Exhausted) => Ok(None),
         Err(_refused) => Err(AllocError),
     }
 }

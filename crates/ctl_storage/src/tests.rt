@@ -137,6 +137,34 @@ impl Numbered {
         }
     }
 
+    /// Adds an integer of collection 6 with one cell in a free block of a pool, and answers the block's
+    /// address, 0 where none is free or large enough, 100 where the pool is not open or that fails.
+    fn serve(&mut self, pool: u64, size: u64) -> u64 {
+        if self.next == u64::MAX || size < 8 {
+            return 100;
+        }
+        let number = self.next;
+        match self.storage.pool(pool) {
+            Some(
+                Pool {
+                    state: PoolState::Open,
+                    ..
+                },
+            ) if self.storage.has_addresses() => match self
+                .storage
+                .add_in_pool(number, Ty::Integer, 6, 1, pool, size)
+            {
+                Ok(Some(address)) => {
+                    self.next = number + 1;
+                    address
+                }
+                Ok(None) => 0,
+                Err(_refused) => 100,
+            },
+            _ => 100,
+        }
+    }
+
     fn write(&mut self, number: u64, offset: usize, value: u64) {
         let _ = self.storage.write(number, 0, offset, value);
     }
@@ -241,6 +269,34 @@ fn objects_lie_in_blocks(rt: HostRuntime) {
     assert_eq!(rt; left, [11, 100, 13]);
     assert!(rt; small == Some(Placing::Refused));
     assert!(rt; returned == Some(BlockReturn::Accepted));
+}
+
+#[test]
+fn objects_come_with_their_blocks(rt: HostRuntime) {
+    let mut storage = Numbered::new(rt.alloc());
+    let _ = storage.open(7);
+    let served = [
+        storage.serve(7, 17),
+        storage.serve(7, 16),
+        storage.serve(7, 8),
+        storage.serve(7, 8),
+        storage.serve(8, 8),
+    ];
+    storage.write(1, 0, 11);
+    storage.write(2, 0, 12);
+    let written = storage.first_cells();
+    let held = storage.give(7, 1);
+    let _ = storage.remove(1);
+    let returned = storage.give(7, 1);
+    let again = storage.serve(7, 8);
+    let left = storage.first_cells();
+    storage.finish().close();
+    assert_eq!(rt; served, [0, 1, 2, 0, 100]);
+    assert_eq!(rt; written, [11, 12, 100]);
+    assert!(rt; held == Some(BlockReturn::Refused));
+    assert!(rt; returned == Some(BlockReturn::Accepted));
+    assert_eq!(rt; again, 3);
+    assert_eq!(rt; left, [100, 12, 0]);
 }
 
 #[test]

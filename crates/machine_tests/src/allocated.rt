@@ -1,14 +1,12 @@
 //! Collections, allocators and dereferences (RM 4.1, 4.8, 7.6.1).
 
-use crate::codes::{code_of, validated};
+use crate::codes::{code_of, completed, is_well_formed, validated};
 use crate::lines::{CELL_2, CELL_3, Line, SECOND};
+use crate::runs::{outcome_of, traced};
 use ctl_code::code::{Code, Instr};
-use ctl_machine::machine::Machine;
-use ctl_machine::outcome::Outcome;
 use ctl_program::types::{Ty, Var};
-use ctl_text::trace_text;
 use ctl_tree::request::Order;
-use std::alloc::Global;
+use std::alloc::{AllocError, Global};
 use std::test::Fail;
 
 /// Allocates an object, whose access value is a new operand.
@@ -68,95 +66,86 @@ const GATHER: Instr = Instr::Gather {
 /// Where the Finalize stands.
 const BODY: usize = 15;
 
-/// Two objects are allocated, and a component of the second one takes a value; behind that stands a Finalize that does nothing. These make the
-/// collection, the first object, and the operand and the object whose component takes the value.
+/// Two objects are allocated, and a component of the second one takes a value; behind that stands a Finalize that does nothing.
+const LINES: [Line; 16] = [
+    (Instr::Start(0), ""),
+    (GATHER, "m"),
+    (NEW, "m"),
+    (KEEP, "mi"),
+    (NEW, "m"),
+    (KEEP, "mi"),
+    (VALUE, "m"),
+    (OBJECT, "mi"),
+    (SEVEN, "mr"),
+    (STORE, "mri"),
+    (VALUE, "m"),
+    (OBJECT, "mi"),
+    (TAKE, "mr"),
+    (PRINT, "mi"),
+    (Instr::Leave, "m"),
+    (Instr::Leave, "f"),
+];
+
+/// These lines, where others make the collection, the first object, and the operand and the object whose component takes the value.
 fn lines_with(gather: Instr, new: Instr, value: Instr, object: Instr) -> [Line; 16] {
-    [
-        (Instr::Start(0), ""),
-        (gather, "m"),
-        (new, "m"),
-        (KEEP, "mi"),
-        (NEW, "m"),
-        (KEEP, "mi"),
-        (value, "m"),
-        (object, "mi"),
-        (SEVEN, "mr"),
-        (STORE, "mri"),
-        (VALUE, "m"),
-        (OBJECT, "mi"),
-        (TAKE, "mr"),
-        (PRINT, "mi"),
-        (Instr::Leave, "m"),
-        (Instr::Leave, "f"),
-    ]
+    let mut lines = LINES;
+    lines[1] = (gather, "m");
+    lines[2] = (new, "m");
+    lines[6] = (value, "m");
+    lines[7] = (object, "mi");
+    lines
+}
+
+/// Adds an access type whose collection has this level.
+fn add_access_type(code: &mut Code, level: usize) -> Result<(), AllocError> {
+    code.accesses.push(Var { level, slot: 0 })?;
+    Ok(())
 }
 
 /// The code of these lines, where the collection of the access type has this level.
-fn code_with(alloc: Global, lines: &[Line], level: usize) -> Result<Code, Fail> {
+fn code_with(alloc: Global, lines: &[Line], level: usize) -> Result<Code, AllocError> {
     let mut code = code_of(alloc, lines, &[BODY])?;
-    code.accesses = vec![in alloc; Var { level, slot: 0 }]?;
-    Ok(code)
+    let added = add_access_type(&mut code, level);
+    completed(code, added)
 }
 
-/// What a run of these lines shows, and its picks.
-fn outcome_of(alloc: Global, lines: &[Line], order: Order) -> Result<Outcome, Fail> {
+/// The trace of a run of these lines, and its picks.
+fn traced_of(alloc: Global, lines: &[Line], order: Order) -> Result<String, Fail> {
     let code = validated(code_with(alloc, lines, 1)?)?;
-    let mut machine = Machine::new(alloc, &code, order)?;
-    let _ = machine.run(1000);
-    Ok(machine.finish())
-}
-
-/// The trace of a run.
-fn traced(alloc: Global, outcome: &Outcome) -> Result<String, Fail> {
-    let text = trace_text(alloc, &outcome.events, &outcome.end)?;
-    String::from_utf8(text).map_err(|_| Fail::new("the trace is no text"))
+    traced(alloc, outcome_of(alloc, code, order, 1000)?)
 }
 
 #[test]
 fn members_end_with_the_master(rt: HostRuntime) -> Result<(), Fail> {
-    let alloc = rt.alloc();
-    let newest = outcome_of(
-        alloc,
-        &lines_with(GATHER, NEW, VALUE, OBJECT),
-        Order::Newest,
-    )?;
-    let shown = traced(alloc, &newest)?;
-    assert_eq!(rt;
-        shown.as_str(),
-        "live 1 c1\nlive 2 c1\nprint  7\nnewline\nfinalize 2 collection\nfinalize 1 collection\nend done\n"
-    );
-    assert_eq!(rt; newest.picks.as_slice(), [1].as_slice());
-    let oldest = outcome_of(
-        alloc,
-        &lines_with(GATHER, NEW, VALUE, OBJECT),
-        Order::Oldest,
-    )?;
-    let shown = traced(alloc, &oldest)?;
-    assert_eq!(rt;
-        shown.as_str(),
-        "live 1 c1\nlive 2 c1\nprint  7\nnewline\nfinalize 1 collection\nfinalize 2 collection\nend done\n"
-    );
-    assert_eq!(rt; oldest.picks.as_slice(), [0].as_slice());
+    let lines = lines_with(GATHER, NEW, VALUE, OBJECT);
+    for (order, wanted) in [
+        (
+            Order::Newest,
+            "live 1 c1\nlive 2 c1\nprint  7\nnewline\nfinalize 2 collection\nfinalize 1 collection\nend done\npicks [1]\n",
+        ),
+        (
+            Order::Oldest,
+            "live 1 c1\nlive 2 c1\nprint  7\nnewline\nfinalize 1 collection\nfinalize 2 collection\nend done\npicks [0]\n",
+        ),
+    ] {
+        let traced = traced_of(rt.alloc(), &lines, order)?;
+        assert_eq!(rt; traced.as_str(), wanted);
+    }
     Ok(())
 }
 
 /// A collection that is no layer is not emptied, and goes with its master.
 #[test]
 fn collections_without_a_layer_are_not_emptied(rt: HostRuntime) -> Result<(), Fail> {
-    let alloc = rt.alloc();
     let gather = Instr::Gather {
         access: 0,
         count: 0,
     };
-    let outcome = outcome_of(
-        alloc,
-        &lines_with(gather, NEW, VALUE, OBJECT),
-        Order::Newest,
-    )?;
-    let shown = traced(alloc, &outcome)?;
+    let lines = lines_with(gather, NEW, VALUE, OBJECT);
+    let traced = traced_of(rt.alloc(), &lines, Order::Newest)?;
     assert_eq!(rt;
-        shown.as_str(),
-        "live 1 c1\nlive 2 c1\nprint  7\nnewline\nend done\n"
+        traced.as_str(),
+        "live 1 c1\nlive 2 c1\nprint  7\nnewline\nend done\npicks []\n"
     );
     Ok(())
 }
@@ -164,7 +153,6 @@ fn collections_without_a_layer_are_not_emptied(rt: HostRuntime) -> Result<(), Fa
 /// Null is Constraint_Error, and the number of no object ends the run.
 #[test]
 fn only_objects_are_designated(rt: HostRuntime) -> Result<(), Fail> {
-    let alloc = rt.alloc();
     for (value, end) in [
         (0, "raised CONSTRAINT_ERROR"),
         (9, "stopped USE_AFTER_FREE"),
@@ -174,9 +162,9 @@ fn only_objects_are_designated(rt: HostRuntime) -> Result<(), Fail> {
             ty: Ty::Integer,
             to: CELL_2,
         };
-        let outcome = outcome_of(alloc, &lines_with(GATHER, NEW, set, OBJECT), Order::Newest)?;
-        let shown = traced(alloc, &outcome)?;
-        assert!(rt; shown.as_str().contains(end));
+        let lines = lines_with(GATHER, NEW, set, OBJECT);
+        let traced = traced_of(rt.alloc(), &lines, Order::Newest)?;
+        assert!(rt; traced.as_str().contains(end));
     }
     Ok(())
 }
@@ -184,24 +172,24 @@ fn only_objects_are_designated(rt: HostRuntime) -> Result<(), Fail> {
 /// No collection was made: the allocator finds none in the slot.
 #[test]
 fn allocators_need_a_collection(rt: HostRuntime) -> Result<(), Fail> {
-    let alloc = rt.alloc();
-    let outcome = outcome_of(
-        alloc,
-        &lines_with(Instr::Skip(0), NEW, VALUE, OBJECT),
-        Order::Newest,
-    )?;
-    let shown = traced(alloc, &outcome)?;
-    assert_eq!(rt; shown.as_str(), "end stopped USE_AFTER_FREE\n");
+    let lines = lines_with(Instr::Skip(0), NEW, VALUE, OBJECT);
+    let traced = traced_of(rt.alloc(), &lines, Order::Newest)?;
+    assert_eq!(rt; traced.as_str(), "end stopped USE_AFTER_FREE\npicks []\n");
     Ok(())
+}
+
+/// Whether the code of these lines is well formed, where the collection has this level.
+fn is_accepted(alloc: Global, lines: &[Line], level: usize) -> Result<bool, AllocError> {
+    Ok(is_well_formed(code_with(alloc, lines, level)?))
 }
 
 /// Collections and allocators name access types of the table, at a level that is seen; what is dereferenced is the newest operand.
 #[test]
 fn access_types_are_in_the_table(rt: HostRuntime) -> Result<(), Fail> {
     let alloc = rt.alloc();
+    let lines = lines_with(GATHER, NEW, VALUE, OBJECT);
     for (level, is_valid) in [(0, false), (1, true), (2, false)] {
-        let code = code_with(alloc, &lines_with(GATHER, NEW, VALUE, OBJECT), level)?;
-        assert!(rt; code.validate().is_some() == is_valid);
+        assert!(rt; is_accepted(alloc, &lines, level)? == is_valid);
     }
     let gather = Instr::Gather {
         access: 1,
@@ -219,8 +207,7 @@ fn access_types_are_in_the_table(rt: HostRuntime) -> Result<(), Fail> {
         lines_with(GATHER, new, VALUE, OBJECT),
         lines_with(GATHER, NEW, VALUE, object),
     ] {
-        let code = code_with(alloc, &lines, 1)?;
-        assert!(rt; code.validate().is_none());
+        assert!(rt; !is_accepted(alloc, &lines, 1)?);
     }
     Ok(())
 }

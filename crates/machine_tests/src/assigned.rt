@@ -1,12 +1,11 @@
 //! Record objects are assigned to: the target is finalized, takes the value, and is adjusted.
 
-use crate::codes::{FAREWELL, outcome_shown, printed, valid_code_with_both};
+use crate::codes::{FAREWELL, valid_code_with_both};
 use crate::lines::{CELL_4, CELL_5, Line};
+use crate::runs::{outcome_of, shown_and_told, told};
 use ctl_code::code::{Instr, Way};
-use ctl_machine::machine::Machine;
 use ctl_machine::outcome::Outcome;
 use ctl_program::types::Ty;
-use ctl_tree::ending::End;
 use ctl_tree::request::Order;
 use std::alloc::Global;
 use std::test::Fail;
@@ -118,9 +117,7 @@ const ASSIGNED: &[Line] = &[
 /// Runs these lines with this Adjust.
 fn outcome_with(alloc: Global, adjust: usize) -> Result<Outcome, Fail> {
     let code = valid_code_with_both(alloc, ASSIGNED, FINALIZE, adjust)?;
-    let mut machine = Machine::new(alloc, &code, Order::Newest)?;
-    let _ = machine.run(1000);
-    Ok(machine.finish())
+    Ok(outcome_of(alloc, code, Order::Newest, 1000)?)
 }
 
 #[test]
@@ -128,25 +125,20 @@ fn an_object_stays_as_it_is_by_itself_and_else_is_finalized_and_adjusted(
     rt: HostRuntime,
 ) -> Result<(), Fail> {
     let alloc = rt.alloc();
-    let outcome = outcome_with(alloc, ADJUST)?;
-    let shown = outcome_shown(alloc, &outcome)?;
+    let (shown, told) = shown_and_told(alloc, outcome_with(alloc, ADJUST)?)?;
     assert!(rt;
         shown.as_str().starts_with(
             "live-1-m2 live-2-m2 finalize-1-assign print newline adjust-1 newline print newline finalize-2-scope "
         )
     );
-    let bytes = printed(alloc, &outcome)?;
-    assert_eq!(rt; bytes.as_slice(), b"bye\n\n 7\nbye\nbye\n".as_slice());
+    assert_eq!(rt; told.as_str(), "bye\n\n 7\nbye\nbye\ndone");
     Ok(())
 }
 
 #[test]
 fn an_exception_of_the_adjust_is_program_error(rt: HostRuntime) -> Result<(), Fail> {
     let alloc = rt.alloc();
-    let outcome = outcome_with(alloc, FAILING_ADJUST)?;
-    let End::Raised(name) = &outcome.end else {
-        return Err(Fail::new("the run does not end by an exception"));
-    };
-    assert_eq!(rt; name.as_bytes(), b"PROGRAM_ERROR".as_slice());
+    let told = told(alloc, outcome_with(alloc, FAILING_ADJUST)?)?;
+    assert!(rt; told.as_str().ends_with("raised PROGRAM_ERROR"), "{told}");
     Ok(())
 }

@@ -1,13 +1,11 @@
 //! Procedures are called in a loop: each call goes on behind it, or the exception of its body goes on.
 
-use crate::codes::{FAREWELL, printed, valid_code_with_both};
+use crate::codes::{FAREWELL, valid_code_with_both};
 use crate::lines::{CELL_2, CELL_3, CELL_4, FIRST, Line};
+use crate::runs::{outcome_of, told};
 use ctl_code::code::{Instr, Way};
-use ctl_machine::machine::Machine;
-use ctl_machine::outcome::Outcome;
 use ctl_program::operators::Direction;
 use ctl_program::types::Ty;
-use ctl_tree::ending::End;
 use ctl_tree::request::Order;
 use std::alloc::Global;
 use std::test::Fail;
@@ -96,32 +94,22 @@ const CALLS: &[Line] = &[
     (Instr::Leave, "f"),
 ];
 
-/// Runs these lines with this second procedure.
-fn outcome_with(alloc: Global, second: usize) -> Result<Outcome, Fail> {
+/// What these lines print with this second procedure, and how the run ends.
+fn told_with(alloc: Global, second: usize) -> Result<String, Fail> {
     let code = valid_code_with_both(alloc, CALLS, FIRST_BODY, second)?;
-    let mut machine = Machine::new(alloc, &code, Order::Newest)?;
-    let _ = machine.run(1000);
-    Ok(machine.finish())
+    told(alloc, outcome_of(alloc, code, Order::Newest, 1000)?)
 }
 
 #[test]
 fn a_loop_goes_on_behind_each_call(rt: HostRuntime) -> Result<(), Fail> {
-    let alloc = rt.alloc();
-    let outcome = outcome_with(alloc, SECOND_BODY)?;
-    let bytes = printed(alloc, &outcome)?;
-    assert_eq!(rt; bytes.as_slice(), b" 1bye\n\n 2bye\n\n\n".as_slice());
+    let told = told_with(rt.alloc(), SECOND_BODY)?;
+    assert_eq!(rt; told.as_str(), " 1bye\n\n 2bye\n\n\ndone");
     Ok(())
 }
 
 #[test]
 fn an_exception_of_a_procedure_goes_on(rt: HostRuntime) -> Result<(), Fail> {
-    let alloc = rt.alloc();
-    let outcome = outcome_with(alloc, RAISING_BODY)?;
-    let bytes = printed(alloc, &outcome)?;
-    assert_eq!(rt; bytes.as_slice(), b" 1bye\n".as_slice());
-    let End::Raised(name) = &outcome.end else {
-        return Err(Fail::new("the run does not end by an exception"));
-    };
-    assert_eq!(rt; name.as_bytes(), b"CONSTRAINT_ERROR".as_slice());
+    let told = told_with(rt.alloc(), RAISING_BODY)?;
+    assert_eq!(rt; told.as_str(), " 1bye\nraised CONSTRAINT_ERROR");
     Ok(())
 }

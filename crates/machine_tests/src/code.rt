@@ -1,14 +1,10 @@
 //! Codes that are accepted, and codes with one fault each.
 
-use crate::lines::{
-    ADD, AND, BODY_SLOTS, CELL_1, CELL_2, CELL_3, CELL_4, EQUAL, FIRST, Line, MAIN_SLOTS, SECOND,
-    instructions_of, layout_of_two, notes_of,
-};
-use ctl_code::code::{Cell, Code, Entry, Instr, Named, Operations, Way};
-use ctl_code::template::{Template, TextPart};
-use ctl_program::operators::{Direction, Shortcut, SubprogramKind, UnaryOp};
+use crate::codes::{Part, add_text, code_of, completed, is_well_formed};
+use crate::lines::{ADD, AND, CELL_1, CELL_2, CELL_3, CELL_4, EQUAL, FIRST, Line, SECOND};
+use ctl_code::code::{Cell, Code, Instr, Named, Operations, Way};
+use ctl_program::operators::{Direction, Shortcut, UnaryOp};
 use ctl_program::types::Ty;
-use ctl_tree::text::Text;
 use std::alloc::{AllocError, Global};
 use std::test::Fail;
 
@@ -550,54 +546,45 @@ const EXCEPTION_PAST_THE_TABLE: &[Line] = &[
     (Instr::Leave, "m"),
 ];
 
-/// A text with an Integer and a Boolean image.
-fn two_images(alloc: Global) -> Result<Template, AllocError> {
-    let mut text = Template::new(alloc);
-    text.push(TextPart::IntegerImage)?;
-    text.push(TextPart::BooleanImage)?;
-    Ok(text)
+/// The record type has the body of this number as its Finalize, and the only text has two images.
+fn change_tables(code: &mut Code, alloc: Global, finalize: usize) -> Result<(), AllocError> {
+    code.records.clear();
+    code.records.push(Operations {
+        initialize: None,
+        adjust: None,
+        finalize: Some(finalize),
+    })?;
+    code.texts.clear();
+    add_text(code, alloc, &[Part::Integer, Part::Boolean])
 }
 
 /// The code of these lines: the main procedure stands behind the first of them, and the body of this number at this place is the
 /// Finalize of the only record type.
-fn code_of(
+fn code_with(
     alloc: Global,
     lines: &[Line],
     finalize: usize,
     place: usize,
 ) -> Result<Code, AllocError> {
-    let notes = notes_of(alloc, lines)?;
-    let room = notes.room();
-    Ok(Code {
-        instructions: instructions_of(alloc, lines)?,
-        kinds: notes.finish(),
-        room,
-        entries: vec![in alloc;
-            Entry {
-                kind: SubprogramKind::Procedure,
-                level: 0,
-                slots: MAIN_SLOTS,
-                place: 1
-            },
-            Entry {
-                kind: SubprogramKind::Procedure,
-                level: 1,
-                slots: BODY_SLOTS,
-                place
-            },
-        ]?,
-        records: vec![in alloc;
-            Operations {
-                initialize: None,
-                adjust: None,
-                finalize: Some(finalize)
-            },
-        ]?,
-        layouts: vec![in alloc; layout_of_two(alloc)?]?,
-        accesses: Vec::new(alloc),
-        texts: vec![in alloc; two_images(alloc)?]?,
-        exceptions: vec![in alloc; Text::from_slice(alloc, b"CONSTRAINT_ERROR")?]?,
-    })
+    let mut code = code_of(alloc, lines, &[place])?;
+    let changed = change_tables(&mut code, alloc, finalize);
+    completed(code, changed)
+}
+
+/// Adds an instruction, and not what stands before it.
+fn add_exit(code: &mut Code) -> Result<(), AllocError> {
+    code.instructions.push(Instr::Transfer(Way::Exit))?;
+    Ok(())
+}
+
+/// Whether such code is accepted.
+fn is_accepted(
+    alloc: Global,
+    lines: &[Line],
+    finalize: usize,
+    place: usize,
+) -> Result<bool, AllocError> {
+    Ok(is_well_formed(code_with(alloc, lines, finalize, place)?))
 }
 
 /// Whether these lines and the body of a Finalize behind them are accepted.
@@ -605,22 +592,14 @@ fn is_accepted_with_finalize(alloc: Global, lines: &[Line]) -> Result<bool, Allo
     let mut all = Vec::new(alloc);
     all.extend_from_slice(lines)?;
     all.push((Instr::Leave, "f"))?;
-    Ok(
-        code_of(alloc, all.as_slice(), 1, lines.len())?
-            .validate()
-            .is_some(),
-    )
+    is_accepted(alloc, all.as_slice(), 1, lines.len())
 }
 
 #[test]
 fn well_formed_code_is_accepted(rt: HostRuntime) -> Result<(), Fail> {
     let alloc = rt.alloc();
     assert!(rt; is_accepted_with_finalize(alloc, EMPTY)?);
-    assert!(rt;
-        code_of(alloc, EACH_INSTRUCTION, 1, FINALIZE)?
-            .validate()
-            .is_some()
-    );
+    assert!(rt; is_accepted(alloc, EACH_INSTRUCTION, 1, FINALIZE)?);
     Ok(())
 }
 
@@ -653,23 +632,24 @@ fn faults_are_refused(rt: HostRuntime) -> Result<(), Fail> {
 #[test]
 fn tables_are_looked_at(rt: HostRuntime) -> Result<(), Fail> {
     let alloc = rt.alloc();
-    let without_body = code_of(alloc, EACH_INSTRUCTION, 2, FINALIZE)?;
+    for (finalize, place, fault) in [
+        (2, FINALIZE, "an operation without a body"),
+        (1, INSIDE_A_BLOCK, "an entry inside a block"),
+        (1, EACH_INSTRUCTION.len(), "an entry past the code"),
+    ] {
+        assert!(rt;
+            !is_accepted(alloc, EACH_INSTRUCTION, finalize, place)?,
+            "{fault}"
+        );
+    }
+    let mut too_short = code_with(alloc, EACH_INSTRUCTION, 1, FINALIZE)?;
+    let added = add_exit(&mut too_short);
     assert!(rt;
-        without_body.validate().is_none(),
-        "an operation without a body"
-    );
-    let inside = code_of(alloc, EACH_INSTRUCTION, 1, INSIDE_A_BLOCK)?;
-    assert!(rt; inside.validate().is_none(), "an entry inside a block");
-    let past = code_of(alloc, EACH_INSTRUCTION, 1, EACH_INSTRUCTION.len())?;
-    assert!(rt; past.validate().is_none(), "an entry past the code");
-    let mut too_short = code_of(alloc, EACH_INSTRUCTION, 1, FINALIZE)?;
-    too_short.instructions.push(Instr::Transfer(Way::Exit))?;
-    assert!(rt;
-        too_short.validate().is_none(),
+        !is_well_formed(completed(too_short, added)?),
         "an instruction of which nothing says what stands before it"
     );
-    let mut narrow = code_of(alloc, EACH_INSTRUCTION, 1, FINALIZE)?;
+    let mut narrow = code_with(alloc, EACH_INSTRUCTION, 1, FINALIZE)?;
     narrow.room = 5;
-    assert!(rt; narrow.validate().is_none(), "a window without room");
+    assert!(rt; !is_well_formed(narrow), "a window without room");
     Ok(())
 }

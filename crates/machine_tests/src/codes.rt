@@ -1,15 +1,11 @@
-//! Codes that tests make of lines, with their record types and texts, and what a run of them came to.
+//! Codes that tests make of lines, with their record types and texts.
 
-use crate::lines::{
-    BODY_LEVEL, BODY_SLOTS, Line, MAIN_SLOTS, instructions_of, layout_of_two, notes_of,
-};
+use crate::lines::{BODY_LEVEL, BODY_SLOTS, Line, MAIN_SLOTS, layout_of_two, note_lines};
 use ctl_code::code::{Code, Entry, Instr, Layout, Operations};
+use ctl_code::kinds::KindNotes;
 use ctl_code::template::{Template, TextPart};
 use ctl_code::valid::ValidCode;
-use ctl_machine::outcome::Outcome;
 use ctl_program::operators::SubprogramKind;
-use ctl_tree::ending::{End, Stop};
-use ctl_tree::event::{Event, Owner};
 use ctl_tree::text::Text;
 use std::alloc::{AllocError, Global};
 use std::test::Fail;
@@ -17,95 +13,213 @@ use std::test::Fail;
 /// Prints a line, in a body without operands.
 pub const FAREWELL: Instr = Instr::PutLine { text: 0, first: 1 };
 
-/// A text of these parts.
-fn template_of(alloc: Global, parts: Vec<TextPart>) -> Result<Template, AllocError> {
-    let mut template = Template::new(alloc);
+/// The main procedure, behind the first line.
+pub const MAIN: Entry = Entry {
+    kind: SubprogramKind::Procedure,
+    level: 0,
+    slots: MAIN_SLOTS,
+    place: 1,
+};
+
+/// A part of a text: words, or an image.
+#[derive(Clone, Copy)]
+pub enum Part {
+    Words(&'static [u8]),
+    Integer,
+    Boolean,
+}
+
+/// Adds a part to a text.
+fn add_part(text: &mut Template, alloc: Global, part: Part) -> Result<(), AllocError> {
+    text.push(match part {
+        Part::Words(words) => TextPart::Literal(Text::from_slice(alloc, words)?),
+        Part::Integer => TextPart::IntegerImage,
+        Part::Boolean => TextPart::BooleanImage,
+    })
+}
+
+/// Adds these parts to a text.
+fn add_parts(text: &mut Template, alloc: Global, parts: &[Part]) -> Result<(), AllocError> {
     for part in parts {
-        template.push(part)?;
+        add_part(text, alloc, *part)?;
     }
-    Ok(template)
+    Ok(())
 }
 
-/// A farewell, an image, and three images.
-fn texts_of(alloc: Global) -> Result<Vec<Template>, AllocError> {
-    let farewell = TextPart::Literal(Text::from_slice(alloc, b"bye")?);
-    let blank = TextPart::Literal(Text::from_slice(alloc, b" ")?);
-    let texts = vec![in alloc;
-        template_of(alloc, vec![in alloc; farewell]?)?,
-        template_of(alloc, vec![in alloc; TextPart::IntegerImage]?)?,
-        template_of(
-            alloc,
-            vec![in alloc;
-                TextPart::IntegerImage,
-                TextPart::IntegerImage,
-                blank,
-                TextPart::BooleanImage
-            ]?
-        )?,
-    ]?;
-    Ok(texts)
+/// Adds a text of these parts.
+pub fn add_text(code: &mut Code, alloc: Global, parts: &[Part]) -> Result<(), AllocError> {
+    let mut text = Template::new(alloc);
+    let added = add_parts(&mut text, alloc, parts);
+    code.texts.push(text)?;
+    added
 }
 
-/// The layouts of so many record types, of which the first has this one.
-fn layouts_of(alloc: Global, first: Layout, count: usize) -> Result<Vec<Layout>, AllocError> {
-    if count == 0 {
-        return Ok(Vec::new(alloc));
-    }
-    let mut layouts = vec![in alloc; first]?;
-    for _ in 1..count {
-        layouts.push(layout_of_two(alloc)?)?;
-    }
-    Ok(layouts)
+/// Adds the texts: a farewell, an image, and three images.
+fn add_texts(code: &mut Code, alloc: Global) -> Result<(), AllocError> {
+    add_text(code, alloc, &[Part::Words(b"bye")])?;
+    add_text(code, alloc, &[Part::Integer])?;
+    add_text(
+        code,
+        alloc,
+        &[
+            Part::Integer,
+            Part::Integer,
+            Part::Words(b" "),
+            Part::Boolean,
+        ],
+    )
 }
 
-/// The code of these lines: the main procedure stands behind the first of them, and at each of these places the Finalize of a record
-/// type. The first record type has this layout.
-fn code_with(
+/// Adds the layouts of so many record types, of which the first has this one.
+fn add_layouts(
+    code: &mut Code,
     alloc: Global,
-    lines: &[Line],
-    finalizers: &[usize],
-    layout: Layout,
-) -> Result<Code, AllocError> {
-    let mut entries = vec![in alloc;
-        Entry {
-            kind: SubprogramKind::Procedure,
-            level: 0,
-            slots: MAIN_SLOTS,
-            place: 1
-        },
-    ]?;
-    let mut records = Vec::new(alloc);
+    first: Layout,
+    count: usize,
+) -> Result<(), AllocError> {
+    if count == 0 {
+        drop(first);
+        return Ok(());
+    }
+    code.layouts.push(first)?;
+    for _ in 1..count {
+        code.layouts.push(layout_of_two(alloc)?)?;
+    }
+    Ok(())
+}
+
+/// Adds the main procedure, and at each of these places the Finalize of a record type.
+fn add_bodies(code: &mut Code, finalizers: &[usize]) -> Result<(), AllocError> {
+    code.entries.push(MAIN)?;
     for place in finalizers {
-        records.push(Operations {
+        code.records.push(Operations {
             initialize: None,
             adjust: None,
-            finalize: Some(entries.len()),
+            finalize: Some(code.entries.len()),
         })?;
-        entries.push(Entry {
+        code.entries.push(Entry {
             kind: SubprogramKind::Procedure,
             level: BODY_LEVEL,
             slots: BODY_SLOTS,
             place: *place,
         })?;
     }
-    let notes = notes_of(alloc, lines)?;
-    let room = notes.room();
-    Ok(Code {
-        instructions: instructions_of(alloc, lines)?,
-        kinds: notes.finish(),
-        room,
-        entries,
-        records,
-        layouts: layouts_of(alloc, layout, finalizers.len())?,
-        accesses: Vec::new(alloc),
-        texts: texts_of(alloc)?,
-        exceptions: vec![in alloc; Text::from_slice(alloc, b"CONSTRAINT_ERROR")?]?,
-    })
+    Ok(())
 }
 
-/// Such code, whose record type has two components without defaults.
+/// Notes what stands in the window before each line.
+fn add_kinds(code: &mut Code, alloc: Global, lines: &[Line]) -> Result<(), AllocError> {
+    let mut notes = KindNotes::new(alloc);
+    let noted = note_lines(&mut notes, lines);
+    code.room = notes.room();
+    code.kinds = notes.finish();
+    noted
+}
+
+/// Adds the lines, and what stands in the window before each.
+fn add_lines(code: &mut Code, alloc: Global, lines: &[Line]) -> Result<(), AllocError> {
+    add_kinds(code, alloc, lines)?;
+    for (instr, _) in lines {
+        code.instructions.push(*instr)?;
+    }
+    Ok(())
+}
+
+/// Adds the name of an exception.
+pub fn add_exception(code: &mut Code, alloc: Global, name: &[u8]) -> Result<(), AllocError> {
+    code.exceptions.push(Text::from_slice(alloc, name)?)?;
+    Ok(())
+}
+
+/// Adds the lines, the bodies, the texts and the exception.
+fn add_all(
+    code: &mut Code,
+    alloc: Global,
+    lines: &[Line],
+    finalizers: &[usize],
+) -> Result<(), AllocError> {
+    add_lines(code, alloc, lines)?;
+    add_bodies(code, finalizers)?;
+    add_texts(code, alloc)?;
+    add_exception(code, alloc, b"CONSTRAINT_ERROR")
+}
+
+/// Code without anything.
+fn nothing(alloc: Global) -> Code {
+    Code {
+        instructions: Vec::new(alloc),
+        kinds: KindNotes::new(alloc).finish(),
+        room: 0,
+        entries: Vec::new(alloc),
+        records: Vec::new(alloc),
+        layouts: Vec::new(alloc),
+        accesses: Vec::new(alloc),
+        texts: Vec::new(alloc),
+        exceptions: Vec::new(alloc),
+    }
+}
+
+/// The code, if what was to be added to it has been; else it is let go.
+pub fn completed(code: Code, added: Result<(), AllocError>) -> Result<Code, AllocError> {
+    match added {
+        Ok(()) => Ok(code),
+        Err(error) => {
+            drop(code);
+            Err(error)
+        }
+    }
+}
+
+/// The code of these lines: the main procedure stands behind the first of them, and at each of these places the Finalize of a record
+/// type. No record type has a layout.
+fn code_without_layouts(
+    alloc: Global,
+    lines: &[Line],
+    finalizers: &[usize],
+) -> Result<Code, AllocError> {
+    let mut code = nothing(alloc);
+    let added = add_all(&mut code, alloc, lines, finalizers);
+    completed(code, added)
+}
+
+/// Such code, where the first record type has this layout, and the others two components without defaults.
+fn code_with(
+    alloc: Global,
+    lines: &[Line],
+    finalizers: &[usize],
+    layout: Layout,
+) -> Result<Code, AllocError> {
+    let code = code_without_layouts(alloc, lines, finalizers);
+    with_layouts(alloc, code, layout, finalizers.len())
+}
+
+/// The code with so many layouts, of which the first is this one.
+fn with_layouts(
+    alloc: Global,
+    code: Result<Code, AllocError>,
+    layout: Layout,
+    count: usize,
+) -> Result<Code, AllocError> {
+    match code {
+        Ok(mut code) => {
+            let added = add_layouts(&mut code, alloc, layout, count);
+            completed(code, added)
+        }
+        Err(error) => {
+            drop(layout);
+            Err(error)
+        }
+    }
+}
+
+/// Such code, whose record types have two components without defaults.
 pub fn code_of(alloc: Global, lines: &[Line], finalizers: &[usize]) -> Result<Code, AllocError> {
     code_with(alloc, lines, finalizers, layout_of_two(alloc)?)
+}
+
+/// Whether the code is well formed; it is let go.
+pub fn is_well_formed(code: Code) -> bool {
+    code.validate().is_some()
 }
 
 /// Code that is well formed.
@@ -126,6 +240,17 @@ pub fn valid_code_with(
     validated(code_with(alloc, lines, finalizers, layout)?)
 }
 
+/// The only record type has these operations, and Program_Error is the second exception.
+fn give_operations(
+    code: &mut Code,
+    alloc: Global,
+    operations: Operations,
+) -> Result<(), AllocError> {
+    code.records.clear();
+    code.records.push(operations)?;
+    add_exception(code, alloc, b"PROGRAM_ERROR")
+}
+
 /// The code of these lines, which is well formed, where the first record type has this layout, and the body at this place is its Adjust.
 /// Exceptions are Constraint_Error and Program_Error.
 pub fn valid_code_with_adjust(
@@ -135,16 +260,13 @@ pub fn valid_code_with_adjust(
     layout: Layout,
 ) -> Result<ValidCode, Fail> {
     let mut code = code_with(alloc, lines, &[adjust], layout)?;
-    code.records = vec![in alloc;
-        Operations {
-            initialize: None,
-            adjust: Some(1),
-            finalize: None
-        },
-    ]?;
-    code.exceptions
-        .push(Text::from_slice(alloc, b"PROGRAM_ERROR")?)?;
-    validated(code)
+    let operations = Operations {
+        initialize: None,
+        adjust: Some(1),
+        finalize: None,
+    };
+    let added = give_operations(&mut code, alloc, operations);
+    validated(completed(code, added)?)
 }
 
 /// The code of these lines, which is well formed, whose record type has the body at the first place as its Finalize and the one at the
@@ -156,17 +278,14 @@ pub fn valid_code_with_both(
     adjust: usize,
 ) -> Result<ValidCode, Fail> {
     let mut code = code_of(alloc, lines, &[finalize, adjust])?;
-    code.records = vec![in alloc;
-        Operations {
-            initialize: None,
-            adjust: Some(2),
-            finalize: Some(1)
-        },
-    ]?;
-    code.layouts = layouts_of(alloc, layout_of_two(alloc)?, 1)?;
-    code.exceptions
-        .push(Text::from_slice(alloc, b"PROGRAM_ERROR")?)?;
-    validated(code)
+    drop(code.layouts.pop());
+    let operations = Operations {
+        initialize: None,
+        adjust: Some(2),
+        finalize: Some(1),
+    };
+    let added = give_operations(&mut code, alloc, operations);
+    validated(completed(code, added)?)
 }
 
 /// The code of these lines, which is well formed.
@@ -176,53 +295,4 @@ pub fn valid_code_of(
     finalizers: &[usize],
 ) -> Result<ValidCode, Fail> {
     validated(code_of(alloc, lines, finalizers)?)
-}
-
-/// One thing that was shown, as a word.
-fn event_shown(alloc: Global, event: &Event) -> Result<String, AllocError> {
-    match event {
-        Event::Print(_) => "print".to_string(alloc),
-        Event::Newline => "newline".to_string(alloc),
-        Event::Live(part, Owner::Master(master)) => {
-            format!(in alloc; "live-{}-m{master}", part.object)
-        }
-        Event::Adjust(part) => format!(in alloc; "adjust-{}", part.object),
-        Event::Finalize(part, cause) => format!(in alloc; "finalize-{}-{cause}", part.object),
-        _ => "other".to_string(alloc),
-    }
-}
-
-/// What a run came to, in one line.
-pub fn outcome_shown(alloc: Global, outcome: &Outcome) -> Result<String, AllocError> {
-    let mut line = String::new(alloc);
-    for event in outcome.events.as_slice() {
-        let shown = event_shown(alloc, event)?;
-        line.push_str(shown.as_str())?;
-        line.push(' ')?;
-    }
-    let end = match &outcome.end {
-        End::Done => "done",
-        End::Raised(_) => "raised",
-        End::Stopped(Stop::UseAfterFree) => "gone",
-        End::StepLimit => "limit",
-        _ => "other",
-    };
-    format!(in alloc;
-        "{line}{end} picks={} steps={}",
-        outcome.picks.len(),
-        outcome.steps
-    )
-}
-
-/// What a run has printed.
-pub fn printed(alloc: Global, outcome: &Outcome) -> Result<Vec<u8>, AllocError> {
-    let mut bytes = Vec::new(alloc);
-    for event in outcome.events.as_slice() {
-        match event {
-            Event::Print(text) => bytes.extend_from_slice(text.as_bytes())?,
-            Event::Newline => bytes.push(b'\n')?,
-            _ => (),
-        }
-    }
-    Ok(bytes)
 }

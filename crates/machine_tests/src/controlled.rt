@@ -1,16 +1,12 @@
 //! Objects with controlled parts: their parts are created one chosen after another, and finalized behind the whole; where one fails, those
 //! that are complete are finalized.
 
-use crate::codes::validated;
-use crate::lines::{BODY_LEVEL, BODY_SLOTS, Line, MAIN_SLOTS, instructions_of, notes_of};
+use crate::codes::{code_of, completed, is_well_formed, validated};
+use crate::lines::{BODY_LEVEL, BODY_SLOTS, Line};
+use crate::runs::{outcome_of, traced};
 use ctl_code::code::{Begun, Code, Entry, Initial, Instr, Layout, Operations, Parts, Way};
-use ctl_code::valid::ValidCode;
-use ctl_machine::machine::Machine;
-use ctl_machine::outcome::Outcome;
 use ctl_program::operators::SubprogramKind;
-use ctl_text::trace_text;
 use ctl_tree::request::Order;
-use ctl_tree::text::Text;
 use std::alloc::{AllocError, Global};
 use std::test::Fail;
 
@@ -50,26 +46,17 @@ const SECOND_TYPE: usize = 1;
 /// The number of no record type.
 const PAST_THE_TABLE: usize = 3;
 
-/// The bodies of the code.
-fn entries(alloc: Global) -> Result<Vec<Entry>, AllocError> {
-    let mut entries = vec![in alloc;
-        Entry {
-            kind: SubprogramKind::Procedure,
-            level: 0,
-            slots: MAIN_SLOTS,
-            place: 1
-        },
-    ]?;
-    for place in [SILENT_PLACE, RAISING_PLACE] {
-        entries.push(Entry {
-            kind: SubprogramKind::Procedure,
-            level: BODY_LEVEL,
-            slots: BODY_SLOTS,
-            place,
-        })?;
-    }
-    Ok(entries)
+/// A record type of a test.
+#[derive(Clone, Copy)]
+enum Shape<'a> {
+    /// a controlled type with one cell, whose component begins with 7
+    Part,
+    /// a type with such parts, whose components are of these types, each with one cell and a controlled part
+    Whole(Parts, &'a [usize]),
 }
+
+/// A controlled type with two controlled parts.
+const TWO_PARTS: Shape<'static> = Shape::Whole(Parts::Controlled, &[FIRST_TYPE, FIRST_TYPE]);
 
 /// The operations of a record type: these two, and no Adjust.
 fn operations(initialize: Option<usize>, finalize: Option<usize>) -> Operations {
@@ -80,130 +67,143 @@ fn operations(initialize: Option<usize>, finalize: Option<usize>) -> Operations 
     }
 }
 
-/// A component of a record type, which has one cell, so it begins behind those before it.
-fn component(position: usize, before: usize, record: usize) -> Begun {
-    Begun {
-        position,
-        offset: before,
-        initial: Initial::ByType(record),
-    }
+/// Adds a component with one cell.
+fn add_component(layout: &mut Layout, component: Begun) -> Result<(), AllocError> {
+    layout.offsets.push(component.offset)?;
+    layout.begun.push(component)?;
+    Ok(())
 }
 
-/// The layout of a record type with such parts, whose components are of these types, each with one cell and a controlled part.
-fn layout_of(alloc: Global, parts: Parts, types: &[usize]) -> Result<Layout, AllocError> {
-    let mut offsets = Vec::new(alloc);
-    let mut begun = Vec::new(alloc);
-    let mut controlled = Vec::new(alloc);
+/// Adds components of these record types, each with a controlled part.
+fn add_parts(layout: &mut Layout, types: &[usize]) -> Result<(), AllocError> {
     for (offset, record) in types.iter().enumerate() {
-        offsets.push(offset)?;
-        begun.push(component(offset + 1, offset, *record))?;
-        controlled.push(component(offset + 1, offset, *record))?;
+        let component = Begun {
+            position: offset + 1,
+            offset,
+            initial: Initial::ByType(*record),
+        };
+        layout.controlled.push(component)?;
+        add_component(layout, component)?;
     }
-    Ok(Layout {
+    Ok(())
+}
+
+/// The component of a part.
+const SEVEN: Begun = Begun {
+    position: 1,
+    offset: 0,
+    initial: Initial::Constant(7),
+};
+
+/// The layout of this record type.
+fn layout_of(alloc: Global, shape: Shape) -> Result<Layout, AllocError> {
+    let (parts, cells) = match shape {
+        Shape::Part => (Parts::Controlled, 1),
+        Shape::Whole(parts, types) => (parts, types.len()),
+    };
+    let mut layout = Layout {
         parts,
         level: BODY_LEVEL,
-        cells: types.len(),
-        offsets,
-        begun,
-        controlled,
-    })
-}
-
-/// The layout of a controlled type with one cell, whose component begins with 7.
-fn layout_of_part(alloc: Global) -> Result<Layout, AllocError> {
-    Ok(Layout {
-        parts: Parts::Controlled,
-        level: BODY_LEVEL,
-        cells: 1,
-        offsets: vec![in alloc; 0]?,
-        begun: vec![in alloc;
-            Begun {
-                position: 1,
-                offset: 0,
-                initial: Initial::Constant(7)
-            },
-        ]?,
+        cells,
+        offsets: Vec::new(alloc),
+        begun: Vec::new(alloc),
         controlled: Vec::new(alloc),
-    })
+    };
+    let added = match shape {
+        Shape::Part => add_component(&mut layout, SEVEN),
+        Shape::Whole(_, types) => add_parts(&mut layout, types),
+    };
+    match added {
+        Ok(()) => Ok(layout),
+        Err(error) => {
+            drop(layout);
+            Err(error)
+        }
+    }
 }
 
-/// The code, where the second and the last record type have these layouts, and the three types these operations; whether it is well formed
-/// is not asked.
-fn unchecked(
+/// Adds the bodies behind the main procedure.
+fn add_bodies(code: &mut Code) -> Result<(), AllocError> {
+    for place in [SILENT_PLACE, RAISING_PLACE] {
+        code.entries.push(Entry {
+            kind: SubprogramKind::Procedure,
+            level: BODY_LEVEL,
+            slots: BODY_SLOTS,
+            place,
+        })?;
+    }
+    Ok(())
+}
+
+/// Adds the operations of the record types.
+fn add_operations(code: &mut Code, records: &[Operations]) -> Result<(), AllocError> {
+    for operations in records {
+        code.records.push(*operations)?;
+    }
+    Ok(())
+}
+
+/// Adds the layouts of record types of these shapes.
+fn add_layouts(code: &mut Code, alloc: Global, shapes: &[Shape]) -> Result<(), AllocError> {
+    for shape in shapes {
+        code.layouts.push(layout_of(alloc, *shape)?)?;
+    }
+    Ok(())
+}
+
+/// Adds the bodies, and the record types of these shapes with these operations.
+fn add_types(
+    code: &mut Code,
     alloc: Global,
-    second: Layout,
-    last: Layout,
-    records: [Operations; 3],
-) -> Result<Code, AllocError> {
-    let notes = notes_of(alloc, DECLARED)?;
-    let room = notes.room();
-    Ok(Code {
-        instructions: instructions_of(alloc, DECLARED)?,
-        kinds: notes.finish(),
-        room,
-        entries: entries(alloc)?,
-        records: vec![in alloc; records[0], records[1], records[2]]?,
-        layouts: vec![in alloc; layout_of_part(alloc)?, second, last]?,
-        accesses: Vec::new(alloc),
-        texts: Vec::new(alloc),
-        exceptions: vec![in alloc; Text::from_slice(alloc, b"CONSTRAINT_ERROR")?]?,
-    })
+    shapes: &[Shape],
+    records: &[Operations],
+) -> Result<(), AllocError> {
+    add_bodies(code)?;
+    add_layouts(code, alloc, shapes)?;
+    add_operations(code, records)
 }
 
-/// The same, which is well formed.
-fn code_of(
-    alloc: Global,
-    second: Layout,
-    last: Layout,
-    records: [Operations; 3],
-) -> Result<ValidCode, Fail> {
-    validated(unchecked(alloc, second, last, records)?)
+/// The code, where the record types have these shapes and operations; whether it is well formed is not asked.
+fn unchecked(alloc: Global, shapes: &[Shape], records: &[Operations]) -> Result<Code, AllocError> {
+    let mut code = code_of(alloc, DECLARED, &[])?;
+    let added = add_types(&mut code, alloc, shapes, records);
+    completed(code, added)
 }
 
-/// A controlled object with this layout, whose components are of controlled types; all have a Finalize, the parts an Initialize.
-fn code_with(alloc: Global, last: Layout) -> Result<Code, AllocError> {
+/// A controlled object of this shape, whose components are of controlled types; all have a Finalize, the parts an Initialize.
+fn code_with(alloc: Global, last: Shape) -> Result<Code, AllocError> {
     let part = operations(Some(SILENT), Some(SILENT));
     unchecked(
         alloc,
-        layout_of_part(alloc)?,
-        last,
-        [part, part, operations(None, Some(SILENT))],
+        &[Shape::Part, Shape::Part, last],
+        &[part, part, operations(None, Some(SILENT))],
     )
 }
 
-/// The layout of a controlled type with two controlled parts.
-fn layout_with_two_parts(alloc: Global) -> Result<Layout, AllocError> {
-    layout_of(alloc, Parts::Controlled, &[FIRST_TYPE, FIRST_TYPE])
-}
-
-/// A controlled object with two controlled parts.
-fn code_of_two(alloc: Global) -> Result<ValidCode, Fail> {
-    validated(code_with(alloc, layout_with_two_parts(alloc)?)?)
-}
-
 /// An object that is not controlled, with one component of a record type that is not either, which has one controlled part.
-fn code_of_nested(alloc: Global) -> Result<ValidCode, Fail> {
+fn code_of_nested(alloc: Global) -> Result<Code, AllocError> {
     let none = operations(None, None);
-    code_of(
+    unchecked(
         alloc,
-        layout_of(alloc, Parts::Within, &[FIRST_TYPE])?,
-        layout_of(alloc, Parts::Within, &[SECOND_TYPE])?,
-        [operations(Some(SILENT), Some(SILENT)), none, none],
+        &[
+            Shape::Part,
+            Shape::Whole(Parts::Within, &[FIRST_TYPE]),
+            Shape::Whole(Parts::Within, &[SECOND_TYPE]),
+        ],
+        &[operations(Some(SILENT), Some(SILENT)), none, none],
     )
 }
 
 /// A controlled object with three controlled parts, whose last one's Initialize raises an exception.
-fn code_of_failing(alloc: Global) -> Result<ValidCode, Fail> {
-    let last = layout_of(
+fn code_of_failing(alloc: Global) -> Result<Code, AllocError> {
+    unchecked(
         alloc,
-        Parts::Controlled,
-        &[FIRST_TYPE, FIRST_TYPE, SECOND_TYPE],
-    )?;
-    code_of(
-        alloc,
-        layout_of_part(alloc)?,
-        last,
-        [
+        &[
+            Shape::Part,
+            Shape::Part,
+            Shape::Whole(Parts::Controlled, &[FIRST_TYPE, FIRST_TYPE, SECOND_TYPE]),
+        ],
+        &[
             operations(Some(SILENT), Some(SILENT)),
             operations(Some(RAISING), Some(SILENT)),
             operations(Some(SILENT), Some(SILENT)),
@@ -211,98 +211,83 @@ fn code_of_failing(alloc: Global) -> Result<ValidCode, Fail> {
     )
 }
 
-/// A run of this code to its end.
-fn outcome_of(alloc: Global, code: &ValidCode, order: Order) -> Result<Outcome, AllocError> {
-    let mut machine = Machine::new(alloc, code, order)?;
-    let _ = machine.run(1000);
-    Ok(machine.finish())
-}
-
-/// The trace of a run.
-fn traced(alloc: Global, outcome: &Outcome) -> Result<String, Fail> {
-    let text = trace_text(alloc, &outcome.events, &outcome.end)?;
-    String::from_utf8(text).map_err(|_| Fail::new("the trace is no text"))
+/// The trace of a run of this code to its end, and its picks.
+fn traced_of(alloc: Global, code: Code, order: Order) -> Result<String, Fail> {
+    traced(alloc, outcome_of(alloc, validated(code)?, order, 1000)?)
 }
 
 #[test]
 fn parts_are_created_before_the_whole_and_finalized_behind_it(rt: HostRuntime) -> Result<(), Fail> {
     let alloc = rt.alloc();
-    let code = code_of_two(alloc)?;
-    let newest = outcome_of(alloc, &code, Order::Newest)?;
-    let shown = traced(alloc, &newest)?;
-    assert_eq!(rt;
-        shown.as_str(),
-        "initialize 1.2\nlive 1.2 m2\ninitialize 1.1\nlive 1.1 m2\nlive 1 m2\nfinalize 1 scope\nfinalize 1.2 scope\nfinalize 1.1 scope\nend done\n"
-    );
-    assert_eq!(rt; newest.picks.as_slice(), [1, 1].as_slice());
-    let oldest = outcome_of(alloc, &code, Order::Oldest)?;
-    let shown = traced(alloc, &oldest)?;
-    assert_eq!(rt;
-        shown.as_str(),
-        "initialize 1.1\nlive 1.1 m2\ninitialize 1.2\nlive 1.2 m2\nlive 1 m2\nfinalize 1 scope\nfinalize 1.1 scope\nfinalize 1.2 scope\nend done\n"
-    );
-    assert_eq!(rt; oldest.picks.as_slice(), [0, 0].as_slice());
+    for (order, wanted) in [
+        (
+            Order::Newest,
+            "initialize 1.2\nlive 1.2 m2\ninitialize 1.1\nlive 1.1 m2\nlive 1 m2\nfinalize 1 scope\nfinalize 1.2 scope\nfinalize 1.1 scope\nend done\npicks [1, 1]\n",
+        ),
+        (
+            Order::Oldest,
+            "initialize 1.1\nlive 1.1 m2\ninitialize 1.2\nlive 1.2 m2\nlive 1 m2\nfinalize 1 scope\nfinalize 1.1 scope\nfinalize 1.2 scope\nend done\npicks [0, 0]\n",
+        ),
+    ] {
+        let traced = traced_of(alloc, code_with(alloc, TWO_PARTS)?, order)?;
+        assert_eq!(rt; traced.as_str(), wanted);
+    }
     Ok(())
 }
 
 #[test]
 fn a_part_at_any_depth_is_finalized(rt: HostRuntime) -> Result<(), Fail> {
     let alloc = rt.alloc();
-    let code = code_of_nested(alloc)?;
-    let outcome = outcome_of(alloc, &code, Order::Newest)?;
-    let shown = traced(alloc, &outcome)?;
+    let traced = traced_of(alloc, code_of_nested(alloc)?, Order::Newest)?;
     assert_eq!(rt;
-        shown.as_str(),
-        "initialize 1.1.1\nlive 1.1.1 m2\nfinalize 1.1.1 scope\nend done\n"
+        traced.as_str(),
+        "initialize 1.1.1\nlive 1.1.1 m2\nfinalize 1.1.1 scope\nend done\npicks []\n"
     );
-    assert_eq!(rt; outcome.picks.len(), 0);
     Ok(())
 }
 
 #[test]
 fn what_is_complete_is_finalized_where_a_part_fails(rt: HostRuntime) -> Result<(), Fail> {
     let alloc = rt.alloc();
-    let code = code_of_failing(alloc)?;
-    let oldest = outcome_of(alloc, &code, Order::Oldest)?;
-    let shown = traced(alloc, &oldest)?;
-    assert_eq!(rt;
-        shown.as_str(),
-        "initialize 1.1\nlive 1.1 m2\ninitialize 1.2\nlive 1.2 m2\ninitialize 1.3\nfinalize 1.1 failed\nfinalize 1.2 failed\nend raised CONSTRAINT_ERROR\n"
-    );
-    assert_eq!(rt; oldest.picks.as_slice(), [0, 0, 0].as_slice());
-    let newest = outcome_of(alloc, &code, Order::Newest)?;
-    let shown = traced(alloc, &newest)?;
-    assert_eq!(rt;
-        shown.as_str(),
-        "initialize 1.3\nend raised CONSTRAINT_ERROR\n"
-    );
-    assert_eq!(rt; newest.picks.as_slice(), [2].as_slice());
+    for (order, wanted) in [
+        (
+            Order::Oldest,
+            "initialize 1.1\nlive 1.1 m2\ninitialize 1.2\nlive 1.2 m2\ninitialize 1.3\nfinalize 1.1 failed\nfinalize 1.2 failed\nend raised CONSTRAINT_ERROR\npicks [0, 0, 0]\n",
+        ),
+        (
+            Order::Newest,
+            "initialize 1.3\nend raised CONSTRAINT_ERROR\npicks [2]\n",
+        ),
+    ] {
+        let traced = traced_of(alloc, code_of_failing(alloc)?, order)?;
+        assert_eq!(rt; traced.as_str(), wanted);
+    }
     Ok(())
-}
-
-/// Whether the code is refused whose object has this layout.
-fn is_refused(alloc: Global, layout: Layout) -> Result<bool, AllocError> {
-    Ok(code_with(alloc, layout)?.validate().is_none())
 }
 
 #[test]
 fn layouts_are_looked_at(rt: HostRuntime) -> Result<(), Fail> {
     let alloc = rt.alloc();
-    let mut deep = layout_with_two_parts(alloc)?;
-    deep.level = BODY_LEVEL - 1;
+    let mut deep = code_with(alloc, TWO_PARTS)?;
+    if let Some(layout) = deep.layouts.last_mut() {
+        layout.level = BODY_LEVEL - 1;
+    }
     assert!(rt;
-        is_refused(alloc, deep)?,
+        !is_well_formed(deep),
         "a Finalize that is declared deeper than its type"
     );
-    let unknown = layout_of(alloc, Parts::Controlled, &[FIRST_TYPE, PAST_THE_TABLE])?;
+    let types = [FIRST_TYPE, PAST_THE_TABLE];
+    let unknown = code_with(alloc, Shape::Whole(Parts::Controlled, &types))?;
     assert!(rt;
-        is_refused(alloc, unknown)?,
+        !is_well_formed(unknown),
         "a component of a type past the table"
     );
-    let mut missing = layout_with_two_parts(alloc)?;
-    missing.controlled.clear();
+    let mut missing = code_with(alloc, TWO_PARTS)?;
+    if let Some(layout) = missing.layouts.last_mut() {
+        layout.controlled.clear();
+    }
     assert!(rt;
-        is_refused(alloc, missing)?,
+        !is_well_formed(missing),
         "controlled parts that are not told apart"
     );
     Ok(())

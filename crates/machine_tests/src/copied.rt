@@ -1,14 +1,12 @@
 //! What a formal holds in the end of its body is an operand where the call goes on, and goes back to a variable (RM 6.4.1).
 
-use crate::codes::{code_of, printed, valid_code_of};
+use crate::codes::{code_of, is_well_formed, valid_code_of};
 use crate::lines::{ADD, CELL_2, FIRST, Line, SECOND};
+use crate::runs::{outcome_of, told};
 use ctl_code::code::{Instr, Way};
-use ctl_machine::machine::Machine;
-use ctl_machine::outcome::Outcome;
 use ctl_program::types::Ty;
-use ctl_tree::ending::End;
 use ctl_tree::request::Order;
-use std::alloc::Global;
+use std::alloc::{AllocError, Global};
 use std::test::Fail;
 
 /// Puts the actual.
@@ -53,21 +51,26 @@ const INCREASE: Instr = Instr::BinaryConstant {
 /// Where the procedure stands.
 const BODY: usize = 9;
 
-/// A variable takes what the formal holds behind the call, and is printed; so is what it has where the body is left by this.
+/// A variable takes what the formal holds behind the call, and is printed; so is what it has where the body is left otherwise.
+const LINES: [Line; 11] = [
+    (Instr::Start(0), ""),
+    (Instr::Handle(6), "m"),
+    (ACTUAL, "m"),
+    (CALL, "mi"),
+    (COPY_BACK, "mi"),
+    (Instr::Discard(1), "mi"),
+    (TAKEN, "m"),
+    (PRINT, "mi"),
+    (Instr::Leave, "m"),
+    (INCREASE, "f"),
+    (Instr::Leave, "f"),
+];
+
+/// The same, where the body is left by this.
 fn lines_with(end: Instr) -> [Line; 11] {
-    [
-        (Instr::Start(0), ""),
-        (Instr::Handle(6), "m"),
-        (ACTUAL, "m"),
-        (CALL, "mi"),
-        (COPY_BACK, "mi"),
-        (Instr::Discard(1), "mi"),
-        (TAKEN, "m"),
-        (PRINT, "mi"),
-        (Instr::Leave, "m"),
-        (INCREASE, "f"),
-        (end, "f"),
-    ]
+    let mut lines = LINES;
+    lines[10] = (end, "f");
+    lines
 }
 
 /// The same, with this in the place of the copy that goes back.
@@ -77,22 +80,18 @@ fn lines_with_back(back: Instr) -> [Line; 11] {
     lines
 }
 
-/// Runs these lines.
-fn outcome_of(alloc: Global, lines: &[Line]) -> Result<Outcome, Fail> {
+/// What these lines print, and how the run ends.
+fn told_of_lines(alloc: Global, lines: &[Line]) -> Result<String, Fail> {
     let code = valid_code_of(alloc, lines, &[BODY])?;
-    let mut machine = Machine::new(alloc, &code, Order::Newest)?;
-    let _ = machine.run(1000);
-    Ok(machine.finish())
+    told(alloc, outcome_of(alloc, code, Order::Newest, 1000)?)
 }
 
 #[test]
 fn a_copy_goes_back(rt: HostRuntime) -> Result<(), Fail> {
     let alloc = rt.alloc();
     for end in [Instr::Leave, Instr::Transfer(Way::Return)] {
-        let outcome = outcome_of(alloc, &lines_with(end))?;
-        let bytes = printed(alloc, &outcome)?;
-        assert_eq!(rt; bytes.as_slice(), b" 21\n".as_slice());
-        assert!(rt; matches!(&outcome.end, End::Done));
+        let told = told_of_lines(alloc, &lines_with(end))?;
+        assert_eq!(rt; told.as_str(), " 21\ndone");
     }
     Ok(())
 }
@@ -103,11 +102,14 @@ fn no_copy_goes_back_behind_an_exception(rt: HostRuntime) -> Result<(), Fail> {
     let mut lines = lines_with(Instr::Transfer(Way::Raise(0)));
     // The handler begins where the variable is printed.
     lines[1] = (Instr::Handle(4), "m");
-    let outcome = outcome_of(alloc, &lines)?;
-    let bytes = printed(alloc, &outcome)?;
-    assert_eq!(rt; bytes.as_slice(), b" 0\n".as_slice());
-    assert!(rt; matches!(&outcome.end, End::Done));
+    let told = told_of_lines(alloc, &lines)?;
+    assert_eq!(rt; told.as_str(), " 0\ndone");
     Ok(())
+}
+
+/// Whether the code of these lines is well formed.
+fn is_accepted(alloc: Global, lines: &[Line]) -> Result<bool, AllocError> {
+    Ok(is_well_formed(code_of(alloc, lines, &[BODY])?))
 }
 
 #[test]
@@ -120,19 +122,17 @@ fn only_what_stands_there_goes_back(rt: HostRuntime) -> Result<(), Fail> {
             out: 0,
             slot: 1,
         };
-        let code = code_of(alloc, &lines_with_back(back), &[BODY])?;
-        assert!(rt; code.validate().is_some() == is_valid);
+        assert!(rt; is_accepted(alloc, &lines_with_back(back))? == is_valid);
     }
     let mut lines = lines_with(Instr::Leave);
     lines[5] = (Instr::Discard(2), "mi");
-    assert!(rt; code_of(alloc, &lines, &[BODY])?.validate().is_none());
+    assert!(rt; !is_accepted(alloc, &lines)?);
     Ok(())
 }
 
 /// No more formals give back what they hold than there are actuals.
 #[test]
 fn there_are_no_more_copies_than_actuals(rt: HostRuntime) -> Result<(), Fail> {
-    let alloc = rt.alloc();
     let mut lines = lines_with(Instr::Leave);
     lines[3] = (
         Instr::Call {
@@ -143,6 +143,6 @@ fn there_are_no_more_copies_than_actuals(rt: HostRuntime) -> Result<(), Fail> {
         "m",
     );
     lines[2] = (Instr::NewLine, "m");
-    assert!(rt; code_of(alloc, &lines, &[BODY])?.validate().is_none());
+    assert!(rt; !is_accepted(rt.alloc(), &lines)?);
     Ok(())
 }

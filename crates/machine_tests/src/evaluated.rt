@@ -1,15 +1,12 @@
 //! Functions are called in expressions: their values are operands, or their exceptions go on.
 
-use crate::codes::{code_of, printed, validated};
-use crate::lines::{ADD, BODY_LEVEL, BODY_SLOTS, CELL_2, CELL_3, FIRST, Line, MAIN_SLOTS};
+use crate::codes::{MAIN, add_exception, code_of, completed, is_well_formed, validated};
+use crate::lines::{ADD, BODY_LEVEL, BODY_SLOTS, CELL_2, CELL_3, FIRST, Line};
+use crate::runs::{outcome_of, told};
 use ctl_code::code::{Code, Entry, Instr, Operations, Way};
-use ctl_machine::machine::Machine;
-use ctl_machine::outcome::Outcome;
 use ctl_program::operators::SubprogramKind;
 use ctl_program::types::Ty;
-use ctl_tree::ending::End;
 use ctl_tree::request::Order;
-use ctl_tree::text::Text;
 use std::alloc::{AllocError, Global};
 use std::test::Fail;
 
@@ -96,6 +93,30 @@ const CALLED_AS_PROCEDURE: &[Line] = &[
     (Instr::Leave, "f"),
 ];
 
+/// The second body stands at this place and is of this kind, the record type has no operations, and Program_Error is the second exception.
+fn change_body(
+    code: &mut Code,
+    alloc: Global,
+    place: usize,
+    kind: SubprogramKind,
+) -> Result<(), AllocError> {
+    code.entries.clear();
+    code.entries.push(MAIN)?;
+    code.entries.push(Entry {
+        kind,
+        level: BODY_LEVEL,
+        slots: BODY_SLOTS,
+        place,
+    })?;
+    code.records.clear();
+    code.records.push(Operations {
+        initialize: None,
+        adjust: None,
+        finalize: None,
+    })?;
+    add_exception(code, alloc, b"PROGRAM_ERROR")
+}
+
 /// The code of these lines, whose second body, at this place, is of this kind.
 fn code_with(
     alloc: Global,
@@ -104,73 +125,39 @@ fn code_with(
     kind: SubprogramKind,
 ) -> Result<Code, AllocError> {
     let mut code = code_of(alloc, lines, &[place])?;
-    code.entries = vec![in alloc;
-        Entry {
-            kind: SubprogramKind::Procedure,
-            level: 0,
-            slots: MAIN_SLOTS,
-            place: 1
-        },
-        Entry {
-            kind,
-            level: BODY_LEVEL,
-            slots: BODY_SLOTS,
-            place
-        },
-    ]?;
-    code.records = vec![in alloc;
-        Operations {
-            initialize: None,
-            adjust: None,
-            finalize: None
-        },
-    ]?;
-    code.exceptions
-        .push(Text::from_slice(alloc, b"PROGRAM_ERROR")?)?;
-    Ok(code)
+    let changed = change_body(&mut code, alloc, place, kind);
+    completed(code, changed)
 }
 
-/// Runs the sum with the function at this place.
-fn outcome_with(alloc: Global, function: usize) -> Result<Outcome, Fail> {
+/// What the sum with the function at this place prints, and how the run ends.
+fn told_with(alloc: Global, function: usize) -> Result<String, Fail> {
     let code = validated(code_with(alloc, SUMS, function, SubprogramKind::Function)?)?;
-    let mut machine = Machine::new(alloc, &code, Order::Newest)?;
-    let _ = machine.run(1000);
-    Ok(machine.finish())
+    told(alloc, outcome_of(alloc, code, Order::Newest, 1000)?)
 }
 
 #[test]
 fn a_value_is_an_operand(rt: HostRuntime) -> Result<(), Fail> {
-    let alloc = rt.alloc();
-    for (function, wanted) in [(IDENTITY, b" 21".as_slice()), (CONSTANT, b" 42")] {
-        let outcome = outcome_with(alloc, function)?;
-        let bytes = printed(alloc, &outcome)?;
-        assert_eq!(rt; bytes.as_slice(), wanted);
-        assert!(rt; matches!(&outcome.end, End::Done));
+    for (function, wanted) in [(IDENTITY, " 21done"), (CONSTANT, " 42done")] {
+        let told = told_with(rt.alloc(), function)?;
+        assert_eq!(rt; told.as_str(), wanted);
     }
     Ok(())
 }
 
 #[test]
 fn a_function_without_a_value_raises(rt: HostRuntime) -> Result<(), Fail> {
-    let alloc = rt.alloc();
     for (function, wanted) in [
-        (WITHOUT_VALUE, b"PROGRAM_ERROR".as_slice()),
-        (RAISING, b"CONSTRAINT_ERROR"),
+        (WITHOUT_VALUE, "raised PROGRAM_ERROR"),
+        (RAISING, "raised CONSTRAINT_ERROR"),
     ] {
-        let outcome = outcome_with(alloc, function)?;
-        let bytes = printed(alloc, &outcome)?;
-        assert!(rt; bytes.as_slice().is_empty());
-        let End::Raised(name) = &outcome.end else {
-            return Err(Fail::new("the run does not end by an exception"));
-        };
-        assert_eq!(rt; name.as_bytes(), wanted);
+        let told = told_with(rt.alloc(), function)?;
+        assert_eq!(rt; told.as_str(), wanted);
     }
     Ok(())
 }
 
 #[test]
 fn kinds_of_bodies_are_told_apart(rt: HostRuntime) -> Result<(), Fail> {
-    let alloc = rt.alloc();
     let (function, procedure) = (SubprogramKind::Function, SubprogramKind::Procedure);
     for (lines, place, kind, is_valid) in [
         (SUMS, IDENTITY, function, true),
@@ -178,8 +165,8 @@ fn kinds_of_bodies_are_told_apart(rt: HostRuntime) -> Result<(), Fail> {
         (CALLED_AS_PROCEDURE, 4, procedure, true),
         (CALLED_AS_PROCEDURE, 4, function, false),
     ] {
-        let code = code_with(alloc, lines, place, kind)?;
-        assert!(rt; code.validate().is_some() == is_valid);
+        let code = code_with(rt.alloc(), lines, place, kind)?;
+        assert!(rt; is_well_formed(code) == is_valid);
     }
     Ok(())
 }

@@ -1,11 +1,10 @@
 //! Components of a declared object take their defaults, one chosen after another, or the object takes a copy of another's value.
 
-use crate::codes::{FAREWELL, outcome_shown, printed, valid_code_with, valid_code_with_adjust};
+use crate::codes::{FAREWELL, valid_code_with, valid_code_with_adjust};
 use crate::lines::{BODY_LEVEL, CELL_3, CELL_4, Line};
+use crate::runs::{outcome_of, shown_and_told, told};
 use ctl_code::code::{Begun, Initial, Instr, Layout, Parts, Way};
-use ctl_code::valid::ValidCode;
-use ctl_machine::machine::Machine;
-use ctl_machine::outcome::{Outcome, Progress};
+use ctl_machine::outcome::Outcome;
 use ctl_program::types::Ty;
 use ctl_tree::ending::End;
 use ctl_tree::request::Order;
@@ -156,57 +155,87 @@ const RAISED: &[Line] = &[
     (Instr::Leave, "f"),
 ];
 
+/// How a run ended whose memory may be refused.
+#[derive(Clone, Copy, Debug, PartialEq, Eq)]
+enum Ended {
+    Done,
+    Refused,
+    Otherwise,
+}
+
 /// The defaults of the components.
 const DEFAULTS: [u64; 3] = [10, 20, 30];
 
+/// Gives a layout its three components, of which so many, the first ones, have defaults.
+fn add_components(layout: &mut Layout, count: usize) -> Result<(), AllocError> {
+    for (offset, value) in DEFAULTS.iter().enumerate() {
+        layout.offsets.push(offset)?;
+        if offset < count {
+            layout.begun.push(Begun {
+                position: offset + 1,
+                offset,
+                initial: Initial::Constant(*value),
+            })?;
+        }
+    }
+    Ok(())
+}
+
 /// A layout with such parts and three components, of which so many, the first ones, have defaults.
 fn layout_of_three(alloc: Global, parts: Parts, count: usize) -> Result<Layout, AllocError> {
-    let mut begun = Vec::new(alloc);
-    for (offset, value) in DEFAULTS.iter().enumerate().take(count) {
-        begun.push(Begun {
-            position: offset + 1,
-            offset,
-            initial: Initial::Constant(*value),
-        })?;
-    }
-    Ok(Layout {
+    let mut layout = Layout {
         parts,
         level: BODY_LEVEL,
         cells: 3,
-        offsets: vec![in alloc; 0, 1, 2]?,
-        begun,
+        offsets: Vec::new(alloc),
+        begun: Vec::new(alloc),
         controlled: Vec::new(alloc),
-    })
+    };
+    match add_components(&mut layout, count) {
+        Ok(()) => Ok(layout),
+        Err(error) => {
+            drop(layout);
+            Err(error)
+        }
+    }
 }
 
-/// The code of these lines, where objects have such parts, and so many of the components, the first ones, have defaults.
-fn code_with_defaults(alloc: Global, parts: Parts, count: usize) -> Result<ValidCode, Fail> {
-    let layout = layout_of_three(alloc, parts, count)?;
-    valid_code_with(alloc, THREE_COMPONENTS, &[FINALIZE], layout)
-}
-
-/// A run of this code to its end, or of at most so many steps.
-fn outcome_of(
+/// A run of at most so many steps, where objects have such parts, and so many of the components, the first ones, have defaults.
+fn outcome_with_defaults(
     alloc: Global,
-    code: &ValidCode,
+    parts: Parts,
+    count: usize,
     order: Order,
     steps: u64,
-) -> Result<Outcome, AllocError> {
-    let mut machine = Machine::new(alloc, code, order)?;
-    let _ = machine.run(steps);
-    Ok(machine.finish())
+) -> Result<Outcome, Fail> {
+    let layout = layout_of_three(alloc, parts, count)?;
+    let code = valid_code_with(alloc, THREE_COMPONENTS, &[FINALIZE], layout)?;
+    Ok(outcome_of(alloc, code, order, steps)?)
+}
+
+/// A run of these lines, whose Adjust stands at this place, where so many components have defaults.
+fn outcome_with_adjust(
+    alloc: Global,
+    lines: &[Line],
+    adjust: usize,
+    count: usize,
+    order: Order,
+) -> Result<Outcome, Fail> {
+    let layout = layout_of_three(alloc, Parts::Controlled, count)?;
+    let code = valid_code_with_adjust(alloc, lines, adjust, layout)?;
+    Ok(outcome_of(alloc, code, order, 1000)?)
 }
 
 #[test]
 fn the_order_chooses_among_the_components_that_are_left(rt: HostRuntime) -> Result<(), Fail> {
     let alloc = rt.alloc();
-    let code = code_with_defaults(alloc, Parts::Controlled, 3)?;
-    let orders: [(Order, &[u64]); 2] = [(Order::Newest, &[2, 1]), (Order::Oldest, &[0, 0])];
-    for (order, picks) in orders {
-        let outcome = outcome_of(alloc, &code, order, 1000)?;
-        assert_eq!(rt; outcome.picks.as_slice(), picks);
-        let bytes = printed(alloc, &outcome)?;
-        assert_eq!(rt; bytes.as_slice(), b" 10\n 20\n 30\nbye\n".as_slice());
+    for (order, wanted) in [
+        (Order::Newest, " 10\n 20\n 30\nbye\ndone picks [2, 1]"),
+        (Order::Oldest, " 10\n 20\n 30\nbye\ndone picks [0, 0]"),
+    ] {
+        let outcome = outcome_with_defaults(alloc, Parts::Controlled, 3, order, 1000)?;
+        let told = told(alloc, outcome)?;
+        assert_eq!(rt; told.as_str(), wanted);
     }
     Ok(())
 }
@@ -214,12 +243,10 @@ fn the_order_chooses_among_the_components_that_are_left(rt: HostRuntime) -> Resu
 #[test]
 fn one_component_is_no_choice(rt: HostRuntime) -> Result<(), Fail> {
     let alloc = rt.alloc();
-    let code = code_with_defaults(alloc, Parts::Controlled, 1)?;
     for order in [Order::Newest, Order::Oldest] {
-        let outcome = outcome_of(alloc, &code, order, 1000)?;
-        assert_eq!(rt; outcome.picks.len(), 0);
-        let bytes = printed(alloc, &outcome)?;
-        assert_eq!(rt; bytes.as_slice(), b" 10\n 0\n 0\nbye\n".as_slice());
+        let outcome = outcome_with_defaults(alloc, Parts::Controlled, 1, order, 1000)?;
+        let told = told(alloc, outcome)?;
+        assert_eq!(rt; told.as_str(), " 10\n 0\n 0\nbye\ndone");
     }
     Ok(())
 }
@@ -227,15 +254,14 @@ fn one_component_is_no_choice(rt: HostRuntime) -> Result<(), Fail> {
 #[test]
 fn each_component_costs_a_step(rt: HostRuntime) -> Result<(), Fail> {
     let alloc = rt.alloc();
-    let code = code_with_defaults(alloc, Parts::Controlled, 3)?;
-    let mut machine = Machine::new(alloc, &code, Order::Newest)?;
-    assert_eq!(rt; machine.run(4), Progress::Running);
-    let outcome = machine.finish();
-    assert_eq!(rt; outcome.picks.as_slice(), [2].as_slice());
-    assert_eq!(rt; outcome.events.len(), 0);
-    let alive = outcome_of(alloc, &code, Order::Newest, 7)?;
-    assert_eq!(rt; alive.picks.as_slice(), [2, 1].as_slice());
-    assert_eq!(rt; alive.events.len(), 1);
+    for (steps, line, wanted) in [
+        (4, "limit picks=1 steps=4", "limit picks [2]"),
+        (7, "live-1-m2 limit picks=2 steps=7", "limit picks [2, 1]"),
+    ] {
+        let outcome = outcome_with_defaults(alloc, Parts::Controlled, 3, Order::Newest, steps)?;
+        let (shown, told) = shown_and_told(alloc, outcome)?;
+        assert_eq!(rt; (shown.as_str(), told.as_str()), (line, wanted));
+    }
     Ok(())
 }
 
@@ -243,12 +269,14 @@ fn each_component_costs_a_step(rt: HostRuntime) -> Result<(), Fail> {
 #[test]
 fn an_object_without_a_controlled_part_is_not_finalized(rt: HostRuntime) -> Result<(), Fail> {
     let alloc = rt.alloc();
-    let code = code_with_defaults(alloc, Parts::Plain, 3)?;
-    let outcome = outcome_of(alloc, &code, Order::Newest, 1000)?;
-    assert!(rt; matches!(&outcome.end, End::Done));
-    assert_eq!(rt; outcome.events.len(), 6);
-    let bytes = printed(alloc, &outcome)?;
-    assert_eq!(rt; bytes.as_slice(), b" 10\n 20\n 30\n".as_slice());
+    let outcome = outcome_with_defaults(alloc, Parts::Plain, 3, Order::Newest, 1000)?;
+    let (shown, told) = shown_and_told(alloc, outcome)?;
+    assert!(rt;
+        shown
+            .as_str()
+            .starts_with("print newline print newline print newline done ")
+    );
+    assert!(rt; told.as_str().starts_with(" 10\n 20\n 30\ndone"));
     Ok(())
 }
 
@@ -256,13 +284,9 @@ fn an_object_without_a_controlled_part_is_not_finalized(rt: HostRuntime) -> Resu
 #[test]
 fn a_copied_object_has_the_value_of_its_source(rt: HostRuntime) -> Result<(), Fail> {
     let alloc = rt.alloc();
-    let layout = layout_of_three(alloc, Parts::Controlled, 3)?;
-    let code = valid_code_with_adjust(alloc, COPIED, ADJUST, layout)?;
-    let outcome = outcome_of(alloc, &code, Order::Oldest, 1000)?;
-    let bytes = printed(alloc, &outcome)?;
-    assert_eq!(rt; bytes.as_slice(), b"bye\n 10\n 30\n".as_slice());
-    assert_eq!(rt; outcome.picks.as_slice(), [0, 0].as_slice());
-    let shown = outcome_shown(alloc, &outcome)?;
+    let outcome = outcome_with_adjust(alloc, COPIED, ADJUST, 3, Order::Oldest)?;
+    let (shown, told) = shown_and_told(alloc, outcome)?;
+    assert_eq!(rt; told.as_str(), "bye\n 10\n 30\ndone picks [0, 0]");
     assert!(rt;
         shown
             .as_str()
@@ -274,33 +298,46 @@ fn a_copied_object_has_the_value_of_its_source(rt: HostRuntime) -> Result<(), Fa
 #[test]
 fn an_adjust_that_raises_makes_program_error(rt: HostRuntime) -> Result<(), Fail> {
     let alloc = rt.alloc();
-    let layout = layout_of_three(alloc, Parts::Controlled, 1)?;
-    let code = valid_code_with_adjust(alloc, RAISED, RAISING, layout)?;
-    let outcome = outcome_of(alloc, &code, Order::Newest, 1000)?;
-    let End::Raised(name) = &outcome.end else {
-        return Err(Fail::new("the run does not end by an exception"));
-    };
-    assert_eq!(rt; name.as_bytes(), b"PROGRAM_ERROR".as_slice());
-    let shown = outcome_shown(alloc, &outcome)?;
+    let outcome = outcome_with_adjust(alloc, RAISED, RAISING, 1, Order::Newest)?;
+    let (shown, told) = shown_and_told(alloc, outcome)?;
+    assert!(rt; told.as_str().ends_with("raised PROGRAM_ERROR"), "{told}");
     assert!(rt; shown.as_str().starts_with("adjust-2 raised "));
     Ok(())
+}
+
+/// How many steps a run took, which choices, and what it printed.
+fn reached(alloc: Global, outcome: &Outcome) -> Result<String, AllocError> {
+    format!(in alloc;
+        "{} {:?} {:?}",
+        outcome.steps,
+        outcome.picks.as_slice(),
+        outcome.events.as_slice()
+    )
+}
+
+/// The same of a run of at most so many steps, and whether it ended by itself.
+fn reached_within(alloc: Global, steps: u64) -> Result<(String, u64, Ended), Fail> {
+    let outcome = outcome_with_defaults(alloc, Parts::Controlled, 3, Order::Oldest, steps)?;
+    let ended = match &outcome.end {
+        End::Done => Ended::Done,
+        End::HostMemory => Ended::Refused,
+        _ => Ended::Otherwise,
+    };
+    let (text, steps) = (reached(alloc, &outcome), outcome.steps);
+    drop(outcome);
+    Ok((text?, steps, ended))
 }
 
 /// Where `rt try --test --fail-alloc N` refuses one of the machine's growths, the outcome is that of the steps before it.
 #[test]
 fn a_refused_step_changes_nothing(rt: HostRuntime) -> Result<(), Fail> {
     let alloc = rt.alloc();
-    let code = code_with_defaults(alloc, Parts::Controlled, 3)?;
-    let outcome = outcome_of(alloc, &code, Order::Oldest, 1000)?;
-    if matches!(&outcome.end, End::HostMemory) {
-        let before = outcome_of(alloc, &code, Order::Oldest, outcome.steps)?;
-        assert_eq!(rt; before.steps, outcome.steps);
-        assert_eq!(rt; before.picks.as_slice(), outcome.picks.as_slice());
-        let shown = printed(alloc, &before)?;
-        let bytes = printed(alloc, &outcome)?;
-        assert_eq!(rt; shown.as_slice(), bytes.as_slice());
+    let (reached, steps, ended) = reached_within(alloc, 1000)?;
+    if ended == Ended::Refused {
+        let (before, _, _) = reached_within(alloc, steps)?;
+        assert_eq!(rt; before.as_str(), reached.as_str());
         return Ok(());
     }
-    assert!(rt; matches!(&outcome.end, End::Done));
+    assert_eq!(rt; ended, Ended::Done);
     Ok(())
 }

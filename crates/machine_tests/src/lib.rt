@@ -24,4 +24,6 @@ mod lines;
 #[cfg(test)]
 mod machine;
 #[cfg(test)]
+mod runs;
+#[cfg(test)]
 mod selected;

@@ -130,28 +130,23 @@ fn kind_of(letter: char) -> Kind {
     }
 }
 
-/// The notes of what stands before each of these lines.
-pub fn notes_of(alloc: Global, lines: &[Line]) -> Result<KindNotes, AllocError> {
-    let mut notes = KindNotes::new(alloc);
+/// Notes what stands before a line.
+fn note_line(notes: &mut KindNotes, stack: &str) -> Result<(), AllocError> {
+    for letter in stack.chars() {
+        notes.enter(kind_of(letter))?;
+    }
+    notes.note()
+}
+
+/// Notes what stands before each of these lines.
+pub fn note_lines(notes: &mut KindNotes, lines: &[Line]) -> Result<(), AllocError> {
     for (_, stack) in lines {
-        for letter in stack.chars() {
-            notes.enter(kind_of(letter))?;
-        }
-        notes.note()?;
+        note_line(notes, stack)?;
         for _ in stack.chars() {
             notes.leave();
         }
     }
-    Ok(notes)
-}
-
-/// The instructions of these lines.
-pub fn instructions_of(alloc: Global, lines: &[Line]) -> Result<Vec<Instr>, AllocError> {
-    let mut instructions = Vec::new(alloc);
-    for (instr, _) in lines {
-        instructions.push(*instr)?;
-    }
-    Ok(instructions)
+    Ok(())
 }
 
 /// The layout of each record type of the tests, whose objects are finalized: two components of one cell each, without defaults.

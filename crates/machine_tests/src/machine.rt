@@ -1,16 +1,15 @@
 //! Small codes, run to their ends and to a limit.
 
-use crate::codes::{FAREWELL, code_of, outcome_shown, printed, valid_code_of};
+use crate::codes::{FAREWELL, code_of, is_well_formed, valid_code_of};
 use crate::lines::{
     ADD, CELL_1, CELL_2, CELL_3, CELL_4, DIVIDE, EQUAL, FIRST, Line, MODULO, MULTIPLY, OUTER,
     REMAINDER, SECOND,
 };
+use crate::runs::{outcome_of, run_and_step, shown, shown_and_told, told};
 use ctl_code::code::{Cell, Instr};
-use ctl_machine::machine::Machine;
 use ctl_machine::outcome::{Outcome, Progress};
 use ctl_program::operators::Direction;
 use ctl_program::types::Ty;
-use ctl_tree::ending::{End, Stop};
 use ctl_tree::request::Order;
 use std::alloc::Global;
 use std::test::Fail;
@@ -515,28 +514,37 @@ const FETCH_OUTER: Instr = Instr::Fetch {
 };
 
 /// A run of the code of these lines, of at most so many steps.
-fn outcome_of(
+fn outcome_of_lines(
     alloc: Global,
     lines: &[Line],
     finalizers: &[usize],
     steps: u64,
 ) -> Result<Outcome, Fail> {
     let code = valid_code_of(alloc, lines, finalizers)?;
-    let mut machine = Machine::new(alloc, &code, Order::Newest)?;
-    let _ = machine.run(steps);
-    Ok(machine.finish())
+    Ok(outcome_of(alloc, code, Order::Newest, steps)?)
+}
+
+/// What such a run of at most 1000 steps has printed, and how it ended.
+fn told_of_lines(alloc: Global, lines: &[Line], finalizers: &[usize]) -> Result<String, Fail> {
+    told(alloc, outcome_of_lines(alloc, lines, finalizers, 1000)?)
+}
+
+/// What such a run of at most so many steps came to, in one line.
+fn shown_of_lines(
+    alloc: Global,
+    lines: &[Line],
+    finalizers: &[usize],
+    steps: u64,
+) -> Result<String, Fail> {
+    Ok(shown(alloc, outcome_of_lines(alloc, lines, finalizers, steps)?)?)
 }
 
 #[test]
 fn objects_are_finalized_newest_first(rt: HostRuntime) -> Result<(), Fail> {
     let alloc = rt.alloc();
     let code = valid_code_of(alloc, TWO_OBJECTS, &[7])?;
-    let mut machine = Machine::new(alloc, &code, Order::Newest)?;
-    let progress = machine.run(1000);
-    assert_eq!(rt; progress, Progress::Ended);
-    assert_eq!(rt; machine.step(), Progress::Ended);
-    let outcome = machine.finish();
-    let shown = outcome_shown(alloc, &outcome)?;
+    let (progress, shown) = run_and_step(alloc, code, Order::Newest, 1000)?;
+    assert_eq!(rt; progress, [Progress::Ended, Progress::Ended]);
     assert_eq!(rt;
         shown.as_str(),
         "live-1-m2 live-2-m2 finalize-2-scope print newline finalize-1-scope print newline done picks=0 steps=20"
@@ -548,11 +556,8 @@ fn objects_are_finalized_newest_first(rt: HostRuntime) -> Result<(), Fail> {
 fn a_run_ends_at_its_limit(rt: HostRuntime) -> Result<(), Fail> {
     let alloc = rt.alloc();
     let code = valid_code_of(alloc, TWO_OBJECTS, &[7])?;
-    let mut machine = Machine::new(alloc, &code, Order::Oldest)?;
-    assert_eq!(rt; machine.run(6), Progress::Running);
-    assert_eq!(rt; machine.step(), Progress::Running);
-    let outcome = machine.finish();
-    let shown = outcome_shown(alloc, &outcome)?;
+    let (progress, shown) = run_and_step(alloc, code, Order::Oldest, 6)?;
+    assert_eq!(rt; progress, [Progress::Running, Progress::Running]);
     assert_eq!(rt; shown.as_str(), "live-1-m2 live-2-m2 limit picks=0 steps=7");
     Ok(())
 }
@@ -561,53 +566,44 @@ fn a_run_ends_at_its_limit(rt: HostRuntime) -> Result<(), Fail> {
 fn a_body_that_is_missing_is_refused(rt: HostRuntime) -> Result<(), Fail> {
     let alloc = rt.alloc();
     let code = code_of(alloc, &[(Instr::Start(7), ""), (Instr::Leave, "m")], &[])?;
-    assert!(rt; code.validate().is_none());
+    assert!(rt; !is_well_formed(code));
     Ok(())
 }
 
 #[test]
 fn a_component_takes_a_value(rt: HostRuntime) -> Result<(), Fail> {
     let alloc = rt.alloc();
-    let outcome = outcome_of(alloc, COMPONENT, &[11], 1000)?;
-    let bytes = printed(alloc, &outcome)?;
-    assert!(rt; bytes.as_slice().starts_with(b" 5\n"));
-    let gone = outcome_of(alloc, NO_OBJECT, &[], 1000)?;
-    assert!(rt; matches!(&gone.end, End::Stopped(Stop::UseAfterFree)));
+    let printed = told_of_lines(alloc, COMPONENT, &[11])?;
+    assert!(rt; printed.as_str().starts_with(" 5\n"));
+    let gone = told_of_lines(alloc, NO_OBJECT, &[])?;
+    assert_eq!(rt; gone.as_str(), "gone");
     Ok(())
 }
 
 #[test]
 fn an_exit_statement_leaves_its_loop(rt: HostRuntime) -> Result<(), Fail> {
-    let alloc = rt.alloc();
-    let outcome = outcome_of(alloc, LOOP_WITH_EXIT, &[], 1000)?;
-    let bytes = printed(alloc, &outcome)?;
-    assert_eq!(rt; bytes.as_slice(), b" 3\n".as_slice());
+    let told = told_of_lines(rt.alloc(), LOOP_WITH_EXIT, &[])?;
+    assert_eq!(rt; told.as_str(), " 3\ndone");
     Ok(())
 }
 
 #[test]
 fn a_loop_runs_in_reverse(rt: HostRuntime) -> Result<(), Fail> {
-    let alloc = rt.alloc();
-    let outcome = outcome_of(alloc, REVERSE_LOOP, &[], 1000)?;
-    let bytes = printed(alloc, &outcome)?;
-    assert_eq!(rt; bytes.as_slice(), b" 3 2 1\n".as_slice());
+    let told = told_of_lines(rt.alloc(), REVERSE_LOOP, &[])?;
+    assert_eq!(rt; told.as_str(), " 3 2 1\ndone");
     Ok(())
 }
 
 #[test]
 fn right_operands_are_part_of_instructions(rt: HostRuntime) -> Result<(), Fail> {
-    let alloc = rt.alloc();
-    let outcome = outcome_of(alloc, SQUARES, &[], 1000)?;
-    let bytes = printed(alloc, &outcome)?;
-    assert_eq!(rt; bytes.as_slice(), b" 1 4 2\n".as_slice());
+    let told = told_of_lines(rt.alloc(), SQUARES, &[])?;
+    assert_eq!(rt; told.as_str(), " 1 4 2\ndone");
     Ok(())
 }
 
 #[test]
 fn a_zero_divisor_raises_and_finalizes(rt: HostRuntime) -> Result<(), Fail> {
-    let alloc = rt.alloc();
-    let outcome = outcome_of(alloc, ZERO_DIVISOR, &[9], 1000)?;
-    let shown = outcome_shown(alloc, &outcome)?;
+    let shown = shown_of_lines(rt.alloc(), ZERO_DIVISOR, &[9], 1000)?;
     assert_eq!(rt;
         shown.as_str(),
         "live-1-m2 finalize-1-scope print newline raised picks=0 steps=14"
@@ -617,9 +613,7 @@ fn a_zero_divisor_raises_and_finalizes(rt: HostRuntime) -> Result<(), Fail> {
 
 #[test]
 fn an_overflow_raises_and_finalizes(rt: HostRuntime) -> Result<(), Fail> {
-    let alloc = rt.alloc();
-    let outcome = outcome_of(alloc, OVERFLOW, &[9], 1000)?;
-    let shown = outcome_shown(alloc, &outcome)?;
+    let shown = shown_of_lines(rt.alloc(), OVERFLOW, &[9], 1000)?;
     assert_eq!(rt;
         shown.as_str(),
         "live-1-m2 finalize-1-scope print newline raised picks=0 steps=15"
@@ -629,27 +623,21 @@ fn an_overflow_raises_and_finalizes(rt: HostRuntime) -> Result<(), Fail> {
 
 #[test]
 fn a_text_has_images(rt: HostRuntime) -> Result<(), Fail> {
-    let alloc = rt.alloc();
-    let outcome = outcome_of(alloc, SIGNS, &[], 1000)?;
-    let bytes = printed(alloc, &outcome)?;
-    assert_eq!(rt; bytes.as_slice(), b" 1-1 TRUE\n".as_slice());
+    let told = told_of_lines(rt.alloc(), SIGNS, &[])?;
+    assert_eq!(rt; told.as_str(), " 1-1 TRUE\ndone");
     Ok(())
 }
 
 #[test]
 fn an_endless_loop_ends_at_the_limit(rt: HostRuntime) -> Result<(), Fail> {
-    let alloc = rt.alloc();
-    let outcome = outcome_of(alloc, ENDLESS, &[], 100)?;
-    let shown = outcome_shown(alloc, &outcome)?;
+    let shown = shown_of_lines(rt.alloc(), ENDLESS, &[], 100)?;
     assert_eq!(rt; shown.as_str(), "limit picks=0 steps=100");
     Ok(())
 }
 
 #[test]
 fn a_block_finalizes_what_it_declares(rt: HostRuntime) -> Result<(), Fail> {
-    let alloc = rt.alloc();
-    let outcome = outcome_of(alloc, TWO_BLOCKS, &[10, 12], 1000)?;
-    let shown = outcome_shown(alloc, &outcome)?;
+    let shown = shown_of_lines(rt.alloc(), TWO_BLOCKS, &[10, 12], 1000)?;
     // What the first block declared is gone with it, and the masters between the blocks have had their numbers.
     assert!(rt;
         shown.as_str().starts_with(
@@ -663,8 +651,8 @@ fn a_block_finalizes_what_it_declares(rt: HostRuntime) -> Result<(), Fail> {
 #[test]
 fn a_body_stands_in_its_home(rt: HostRuntime) -> Result<(), Fail> {
     let alloc = rt.alloc();
-    let outcome = outcome_of(alloc, BODY_IN_ITS_HOME, &[8, 18], 1000)?;
-    let shown = outcome_shown(alloc, &outcome)?;
+    let outcome = outcome_of_lines(alloc, BODY_IN_ITS_HOME, &[8, 18], 1000)?;
+    let (shown, told) = shown_and_told(alloc, outcome)?;
     // Object 1 is the variable; master 3 is the body, whose own block is master 4.
     assert!(rt;
         shown.as_str().starts_with(
@@ -672,7 +660,6 @@ fn a_body_stands_in_its_home(rt: HostRuntime) -> Result<(), Fail> {
         ),
         "{shown}"
     );
-    let bytes = printed(alloc, &outcome)?;
-    assert_eq!(rt; bytes.as_slice(), b"\n 6\n".as_slice());
+    assert_eq!(rt; told.as_str(), "\n 6\ndone");
     Ok(())
 }

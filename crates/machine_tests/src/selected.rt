@@ -1,9 +1,9 @@
 //! Parts of objects as operands: components of them are read and written, and a formal stands for one.
 
-use crate::codes::{FAREWELL, printed, valid_code_with};
-use crate::lines::{CELL_2, CELL_3, CELL_4, Line, layout_of_two};
+use crate::codes::{FAREWELL, valid_code_of};
+use crate::lines::{CELL_2, CELL_3, CELL_4, Line};
+use crate::runs::{outcome_of, told};
 use ctl_code::code::Instr;
-use ctl_machine::machine::Machine;
 use ctl_program::types::Ty;
 use ctl_tree::request::Order;
 use std::alloc::Global;
@@ -142,24 +142,22 @@ const PASSED: &[Line] = &[
     (Instr::Leave, "f"),
 ];
 
-/// What these lines print, with their bodies at these places.
-fn printed_by(alloc: Global, lines: &[Line], bodies: &[usize]) -> Result<Vec<u8>, Fail> {
-    let code = valid_code_with(alloc, lines, bodies, layout_of_two(alloc)?)?;
-    let mut machine = Machine::new(alloc, &code, Order::Newest)?;
-    let _ = machine.run(1000);
-    Ok(printed(alloc, &machine.finish())?)
+/// What these lines print, with their bodies at these places, and how the run ends.
+fn told_of_lines(alloc: Global, lines: &[Line], bodies: &[usize]) -> Result<String, Fail> {
+    let code = valid_code_of(alloc, lines, bodies)?;
+    told(alloc, outcome_of(alloc, code, Order::Newest, 1000)?)
 }
 
 #[test]
 fn components_of_a_part_are_cells_of_its_object(rt: HostRuntime) -> Result<(), Fail> {
-    let bytes = printed_by(rt.alloc(), SELECTED, &[16])?;
-    assert_eq!(rt; bytes.as_slice(), b" 5\n 5\nbye\n".as_slice());
+    let told = told_of_lines(rt.alloc(), SELECTED, &[16])?;
+    assert_eq!(rt; told.as_str(), " 5\n 5\nbye\ndone");
     Ok(())
 }
 
 #[test]
 fn a_formal_stands_for_a_part(rt: HostRuntime) -> Result<(), Fail> {
-    let bytes = printed_by(rt.alloc(), PASSED, &[11, 13])?;
-    assert_eq!(rt; bytes.as_slice(), b" 9\nbye\n".as_slice());
+    let told = told_of_lines(rt.alloc(), PASSED, &[11, 13])?;
+    assert_eq!(rt; told.as_str(), " 9\nbye\ndone");
     Ok(())
 }

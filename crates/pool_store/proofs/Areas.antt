@@ -132,6 +132,14 @@ has_free units p room = by p.free room
     by zero h = absurd (cc)
     by (suc n) h = omega arith
 
+-- and its blocks are large enough for it
+pub has_size : (units : ℕ) (p : BlockPool) → store.is_exhausted units p ≡ false → units ≤ p.size
+has_size units p room = by p.free room
+  where
+    by : (n : ℕ) → (nat_eq n 0 || nat_lt p.size units) ≡ false → units ≤ p.size
+    by zero h = absurd (cc)
+    by (suc n) h = grind (arith, nat_tests)
+
 -- Vacant blocks ------------------------------------------------------------
 
 pub vacant_seen : (b : Blocks) (a : ℕ) → store.is_vacant a (pool_of b) ≡ area.is_vacant a b

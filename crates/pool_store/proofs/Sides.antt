@@ -1,6 +1,6 @@
 -- Two stores side by side: what a change of one of them does to both.
 use Rattle.std.proofs.Common.{◌≡◌, ℕ, ◌+◌, Bool, true, false, cond, List, [], ◌∷◌, ◌++◌, replicate, Option, Some, None, refl, sym, ap, subst, ◌∙◌, if◌then◌else◌}
-use Rattle.std.specs.Prelude.{nat_eq, not, is_some, ◌||◌, ◌&&◌, IfSome, Result, Ok, Err, OnOk, OnErr, slice_index_or}
+use Rattle.std.specs.Prelude.{nat_eq, not, is_some, ◌||◌, ◌&&◌, IfSome, Result, Ok, Err, IfOk, OnOk, OnErr, slice_index_or}
 use Rattle.std.specs.Ordering.{nat_cmp, eq_by_cmp}
 use Rattle.std.specs.Option.{option_map, option_map_or}
 use Rattle.std.specs.Cmp.{nat_cmp_total}
@@ -333,6 +333,12 @@ module _ (a b : Store) where
 pub after_left : {T E : Type 0} (r : Result T E) (new done old b : Store) → OnOk r (new ≡ done) → OnErr r (new ≡ old) → AreApart done b → AreApart old b → AreApart new b
 after_left (Ok v) new done old b ok err new_apart old_apart = subst (λ s. AreApart s b) (sym ok) new_apart
 after_left (Err v) new done old b ok err new_apart old_apart = subst (λ s. AreApart s b) (sym err) old_apart
+
+-- an object that is new to both lies in a block on the left after success
+pub apart_when_held : (r : Result Address StoreFault) (new old b : Store) (p n words : ℕ) → IfOk r (λ a. new ≡ store.hold_block p a.0 n words (store.take_block p old)) → OnErr r (new ≡ old)
+    → get b.objects n ≡ None → AreApart old b → AreApart new b
+apart_when_held (Ok a) new old b p n words ok err none apart = subst (λ s. AreApart s b) (sym ok) (put_apart_left old.objects b.objects n _ none apart)
+apart_when_held (Err v) new old b p n words ok err none apart = subst (λ s. AreApart s b) (sym err) apart
 
 pub after_right : {T E : Type 0} (r : Result T E) (a new done old : Store) → OnOk r (new ≡ done) → OnErr r (new ≡ old) → AreApart a done → AreApart a old → AreApart a new
 after_right (Ok v) a new done old ok err new_apart old_apart = subst (AreApart a) (sym ok) new_apart

@@ -1,10 +1,10 @@
 -- What a call does to the objects and the pools, and what is seen of it.
-use Rattle.std.proofs.Common.{◌≡◌, ℕ, replicate, List, [], Option, Some, None, cond, refl, sym, ap, subst, ◌∙◌, arith}
-use Rattle.std.specs.Prelude.{IfSome, false, is_some}
+use Rattle.std.proofs.Common.{◌≡◌, ℕ, ◌+◌, replicate, List, [], Option, Some, None, cond, refl, sym, ap, subst, ◌∙◌, arith}
+use Rattle.std.specs.Prelude.{IfSome, false, is_some, Result, Ok, Err, OnErr}
 use Rattle.std.specs.Option.{option_map, option_map_or}
 use Rattle.std.specs.FinMap.{empty, get, insert, remove}
 use Rattle.number_map.specs.Table.{mapped, change}
-use Rattle.number_map.proofs.Changes.{get_dropped, get_here, get_there, insert_same}
+use Rattle.number_map.proofs.Changes.{get_dropped, get_here, get_there, insert_same, insert_again}
 use Rattle.number_map.proofs.Mapped.{get_mapped, mapped_put, mapped_changed}
 use Rattle.pool_area.specs.Lots.{Held}
 use Rattle.pool_area.specs.Blocks as area
@@ -15,13 +15,17 @@ use Rattle.pool_store.specs.declared.entry.Entry.TheVariants.{Standard, InBlock}
 use Rattle.pool_store.specs.Entries.{Stored, pool_of, lot_at, object_in, words_in, stored_in, IsTied, Ties, own_words, spot_in}
 use Rattle.pool_store.specs.Store as store
 use Rattle.pool_store.specs.Store.{Store}
-use Rattle.pool_store.proofs.Areas.{given_drop, given_over, given_changed, given_of, all_given_put, pool_here, back_seen, held_seen, words_unseen, vacated_seen, lot_here, lot_there, change_there}
+use Rattle.pool_store.proofs.Areas.{given_more, given_put, out_seen, given_drop, given_over, given_changed, given_of, all_given_put, pool_here, back_seen, held_seen, words_unseen, vacated_seen, lot_here, lot_there, change_there}
 use borrow.Author.Tests.{ne_eqb}
 use Rattle.pool_store.proofs.Tied.{Objects, Pools, Spares, Any, Other, Tied, spares, all_seen, all_tied, put_seen, put_tied, drop_seen, drop_tied, change_seen, spares_same}
 
 -- what is seen of objects and pools
 abbrev pub seen : {A : Type 0} → Objects A → Pools → ℕ → Store
 seen objects blocks g = record { objects = mapped (stored_in blocks) objects; blocks = mapped pool_of blocks; given = g; marks = empty; opened = []; next_subpool = 1 }
+
+pub on_err : {T E : Type 0} (r : Result T E) (P : Type 0) → P → OnErr r P
+on_err (Ok x) P p = tt
+on_err (Err e) P p = p
 
 module _ {A : Type 0} (objects : Objects A) (blocks : Pools) (g : ℕ) (ties : Ties objects blocks g) where
   -- a vacant block comes back
@@ -45,6 +49,32 @@ module _ {A : Type 0} (objects : Objects A) (blocks : Pools) (g : ℕ) (ties : T
         let o = all_seen objects blocks freed freed_spares ties.tied in
         let q = mapped_changed pool_of blocks p b (area.with_block_back a b) (store.with_block_back a) there (back_seen b a) in
         λ i. record { objects = o i; blocks = q i; given = g; marks = empty; opened = []; next_subpool = 1 }
+
+  -- a free block goes out, under the next address
+  module _ (p : ℕ) (b : Blocks) (there : get blocks p ≡ Some b) where
+    abbrev taken : Pools
+    taken = insert blocks p (area.with_block_out (g + 1) b)
+
+    pub not_out : get b.out (g + 1) ≡ None
+    not_out = given_of g p blocks b ties.addresses there (g + 1) (omega arith)
+
+    taken_spares : Spares Any blocks taken
+    taken_spares = spares Any blocks p (g + 1) b (area.with_block_out (g + 1) b) there
+        (λ x off. get_there b.out (g + 1) x None off)
+        (λ m is holder. let no : object_in None ≡ Some m = ap object_in (sym not_out) ∙ holder in cc)
+
+    pub taken_ties : Ties objects taken (g + 1)
+    taken_ties =
+        let more = given_more g (g + 1) b.out (omega arith) (given_of g p blocks b ties.addresses there) in record {
+          tied = all_tied objects blocks taken taken_spares ties.tied;
+          addresses = all_given_put g (g + 1) p blocks (area.with_block_out (g + 1) b) (omega arith) ties.addresses (given_put (g + 1) (g + 1) b.out None (omega arith) more);
+        }
+
+    pub taken_seen : seen objects taken (g + 1) ≡ store.take_block p (seen objects blocks g)
+    taken_seen =
+        let o = all_seen objects blocks taken taken_spares ties.tied in
+        let q = mapped_changed pool_of blocks p b (area.with_block_out (g + 1) b) (store.with_block_out (g + 1)) there (out_seen b (g + 1)) in
+        λ i. record { objects = o i; blocks = q i; given = g + 1; marks = empty; opened = []; next_subpool = 1 }
 
   -- a new object is put into a vacant block
   module _ (p a n words : ℕ) (b : Blocks) (there : get blocks p ≡ Some b) (vacant : get b.out a ≡ Some None) where
@@ -271,3 +301,27 @@ spot_of_entry objects blocks n e here = ap (λ o. option_map_or (λ (x : Stored)
 pub no_spot : {A : Type 0} (objects : Objects A) (blocks : Pools) (n : ℕ) → get objects n ≡ None
     → option_map_or (λ (x : Stored). x.spot) (get (mapped (stored_in blocks) objects) n) None ≡ None
 no_spot objects blocks n none = ap (λ o. option_map_or (λ (x : Stored). x.spot) o None) (get_mapped (stored_in blocks) objects n ∙ ap (option_map (stored_in blocks)) none)
+
+-- a free block goes out for a new object, which is put into it
+module _ {A : Type 0} (objects : Objects A) (blocks : Pools) (g : ℕ) (ties : Ties objects blocks g) (p n words : ℕ) (b : Blocks) (there : get blocks p ≡ Some b) where
+  abbrev entry_out : Entry A
+  entry_out = InBlock (record { pool = p; address = g + 1 })
+
+  abbrev block_out : Blocks
+  block_out = area.with_block_out (g + 1) b
+
+  abbrev holding : Pools
+  holding = insert blocks p (area.with_holder (g + 1) n words block_out)
+
+  holding_again : insert (insert blocks p block_out) p (area.with_holder (g + 1) n words block_out) ≡ holding
+  holding_again = insert_again blocks p block_out (area.with_holder (g + 1) n words block_out)
+
+  pub holding_ties : Ties (insert objects n entry_out) holding (g + 1)
+  holding_ties = subst (λ x. Ties (insert objects n entry_out) x (g + 1)) holding_again
+      (filled_ties objects (insert blocks p block_out) (g + 1) (taken_ties objects blocks g ties p b there) p (g + 1) n words block_out (get_here blocks p block_out) (get_here b.out (g + 1) None))
+
+  pub holding_seen : seen (insert objects n entry_out) holding (g + 1) ≡ store.hold_block p (g + 1) n words (store.take_block p (seen objects blocks g))
+  holding_seen =
+      ap (λ x. seen (insert objects n entry_out) x (g + 1)) (sym holding_again)
+      ∙ filled_seen objects (insert blocks p block_out) (g + 1) (taken_ties objects blocks g ties p b there) p (g + 1) n words block_out (get_here blocks p block_out) (get_here b.out (g + 1) None)
+      ∙ ap (store.hold_block p (g + 1) n words) (taken_seen objects blocks g ties p b there)

@@ -127,6 +127,43 @@ impl<A: Allocator + Copy> BlockStore<A> {
         Ok(Address(address))
     }
 
+    /// Takes a free block of a pool for a new object of `units` storage units, which lies in it then: as many words as
+    /// these hold, all of them 0. Returns the block's address, which no block had before.
+    ///
+    /// # Errors
+    ///
+    /// Returns `Exhausted` if no block is free or the object is larger than a block, else `Memory` if the allocator
+    /// refuses the memory. Nothing changes then.
+    pub fn allocate_for(
+        &mut self,
+        pool: u64,
+        object: u64,
+        units: u64,
+    ) -> Result<Address, StoreFault>
+        requires open { IsBlockPool pool self.old }
+        requires addresses { self.old.given < 2 ^ 64 - 1 }
+        requires new { get self.old.objects object ≡ None }
+        ensures ok { IfOk result (λ a. (is_exhausted_in pool units self.old ≡ false) × (a.0 ≡ self.old.given + 1) × (self.new ≡ hold_block pool a.0 object (units / 8) (take_block pool self.old))) }
+        ensures err { OnErr result (self.new ≡ self.old) }
+        ensures fault { IfErr result (λ fault. fault ≡ (if is_exhausted_in pool units self.old then StoreFault.Exhausted else StoreFault.Memory)) }
+    {
+        if self.is_exhausted(pool, units) {
+            return Err(StoreFault::Exhausted);
+        }
+        // After this only the block may be refused.
+        self.objects.reserve()?;
+        let address = self.given + 1;
+        let Some(area) = self.blocks.get_mut(pool) else {
+            unreachable!();
+        };
+        area.allocate(address)?;
+        area.occupy(address, object, (units / 8) as usize);
+        self.given += 1;
+        self.objects
+            .put(object, Entry::InBlock(Spot { pool, address }));
+        Ok(Address(address))
+    }
+
     /// Adds an object, in the block with this address, which is out and holds none: as many words as `units` storage
     /// units hold, all of them 0.
     ///

@@ -1,7 +1,8 @@
-ghost use Rattle.std.specs.Prelude.{◌≡◌};
+ghost use Rattle.std.specs.Prelude.{◌≡◌, ◌≤◌, length};
 
 use block_pool::{BlockPool, PoolFault};
 use linked_list_allocator::LocalHeap;
+use raw_region::Block;
 use std::alloc::Allocator;
 use std::test::Fail;
 
@@ -40,6 +41,24 @@ fn a_pool_of_two_blocks(rt: HostRuntime) -> Result<(), Fail> {
     Ok(())
 }
 
+/// Puts two values into the first two words of a Block.
+fn fill(block: &mut Block, values: [u64; 2])
+    requires { 2 ≤ length block.old.words }
+    ensures { (block.new.home ≡ block.old.home) × (length block.new.words ≡ length block.old.words) }
+{
+    let words = block.words_mut();
+    words[0] = values[0];
+    words[1] = values[1];
+}
+
+/// The first two words of a Block.
+fn two_words(block: &Block) -> [u64; 2]
+    requires { 2 ≤ length block.now.words }
+{
+    let words = block.words();
+    [words[0], words[1]]
+}
+
 /// Blocks that are out keep what is written to them, whatever else is taken and given.
 #[test]
 fn blocks_keep_their_words(rt: HostRuntime) -> Result<(), Fail> {
@@ -47,24 +66,18 @@ fn blocks_keep_their_words(rt: HostRuntime) -> Result<(), Fail> {
     let mut first = pool.take(2).unwrap();
     let mut second = pool.take(2).unwrap();
     let third = pool.take(2).unwrap();
-    first.words_mut()[0] = 1;
-    first.words_mut()[1] = 2;
-    second.words_mut()[1] = 3;
+    fill(&mut first, [1, 2]);
+    fill(&mut second, [3, 4]);
     pool.give(third);
     let mut third = pool.take(1).unwrap();
-    third.words_mut()[0] = 4;
-    let words = [
-        first.words()[0],
-        first.words()[1],
-        second.words()[1],
-        third.words()[0],
-    ];
+    fill(&mut third, [5, 6]);
+    let words = [two_words(&first), two_words(&second), two_words(&third)];
     let starts = [first.start(), second.start(), third.start()];
     pool.give(second);
     pool.give(first);
     pool.give(third);
     pool.close();
-    assert_eq!(rt; words, [1, 2, 3, 4]);
+    assert_eq!(rt; words, [[1, 2], [3, 4], [5, 6]]);
     assert_ne!(rt; starts[0], starts[1]);
     assert_ne!(rt; starts[1], starts[2]);
     assert_ne!(rt; starts[0], starts[2]);

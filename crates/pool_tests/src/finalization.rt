@@ -25,21 +25,25 @@ fn newest_in_turn<A: Allocator>(lists: &mut FinLists<A>) -> [Option<Layer>; 3] {
 #[test]
 fn layers_from_the_newest(rt: HostRuntime) -> Result<(), Fail> {
     let mut lists = FinLists::new(rt.alloc());
-    two_collections(&mut lists)?;
-    assert_eq!(rt;
-        newest_in_turn(&mut lists),
-        [Some(Layer::Sets), Some(Layer::Object(1)), None]
-    );
+    let made = two_collections(&mut lists);
+    let newest = newest_in_turn(&mut lists);
+    drop(lists);
+    made?;
+    assert_eq!(rt; newest, [Some(Layer::Sets), Some(Layer::Object(1)), None]);
     Ok(())
 }
 
 #[test]
 fn a_layer_of_two_collections(rt: HostRuntime) -> Result<(), Fail> {
     let mut lists = FinLists::new(rt.alloc());
-    two_collections(&mut lists)?;
-    assert_eq!(rt; first_three_of_layer(&lists), [Some(4), Some(5), None]);
+    let made = two_collections(&mut lists);
+    let both = first_three_of_layer(&lists);
     lists.remove(SetNo(1), 4);
-    assert_eq!(rt; first_three_of_layer(&lists), [Some(5), None, None]);
+    let left = first_three_of_layer(&lists);
+    drop(lists);
+    made?;
+    assert_eq!(rt; both, [Some(4), Some(5), None]);
+    assert_eq!(rt; left, [Some(5), None, None]);
     Ok(())
 }
 
@@ -53,27 +57,44 @@ fn mixed_members<A: Allocator>(lists: &mut FinLists<A>) -> Result<(), AllocError
     Ok(())
 }
 
+/// All that is told of the two collections with these members.
+fn told_of_mixed_members<A: Allocator + Copy>(
+    alloc: Global,
+    lists: &mut FinLists<A>,
+) -> Result<Vec<u64>, AllocError> {
+    two_collections(lists)?;
+    mixed_members(lists)?;
+    told(alloc, lists)
+}
+
 #[test]
 fn members_stand_by_number(rt: HostRuntime) -> Result<(), Fail> {
     let mut lists = FinLists::new(rt.alloc());
-    two_collections(&mut lists)?;
-    mixed_members(&mut lists)?;
-    let told = told(rt.alloc(), &lists)?;
+    let told = told_of_mixed_members(rt.alloc(), &mut lists);
+    drop(lists);
     let expected = [
         1000, 1, 3, 4, 4, 5, 7, 8, 9, 10, 2000, 0, 1, 3, 4, 7, 9, 0, 4, 5, 8, 10, 0, 0,
     ];
-    assert_eq!(rt; told.as_slice(), expected.as_slice());
+    assert_eq!(rt; told?.as_slice(), expected.as_slice());
     Ok(())
+}
+
+/// The two collections, to the first of which its own member comes again, and the member of the second twice: how many
+/// members each has.
+fn repeated_members<A: Allocator + Copy>(lists: &mut FinLists<A>) -> Result<[u64; 2], AllocError> {
+    two_collections(lists)?;
+    lists.add_to(SetNo(1), 4)?;
+    lists.add_to(SetNo(1), 5)?;
+    lists.add_to(SetNo(1), 5)?;
+    Ok([lists.count(SetNo(1)), lists.count(SetNo(2))])
 }
 
 #[test]
 fn an_object_is_a_member_once(rt: HostRuntime) -> Result<(), Fail> {
     let mut lists = FinLists::new(rt.alloc());
-    two_collections(&mut lists)?;
-    lists.add_to(SetNo(1), 4)?;
-    lists.add_to(SetNo(1), 5)?;
-    lists.add_to(SetNo(1), 5)?;
-    assert_eq!(rt; [lists.count(SetNo(1)), lists.count(SetNo(2))], [2, 1]);
+    let counts = repeated_members(&mut lists);
+    drop(lists);
+    assert_eq!(rt; counts?, [2, 1]);
     Ok(())
 }
 
@@ -109,31 +130,55 @@ fn starts<A: Allocator>(lists: &FinLists<A>) -> [bool; 3] {
     ]
 }
 
-#[test]
-fn a_master_closes(rt: HostRuntime) -> Result<(), Fail> {
-    let mut lists = FinLists::new(rt.alloc());
-    let sets = three_sets(&mut lists)?;
-    let before = counts(&lists);
+/// Closes the inner master: the counts, and whether it is open and its set stands, before and after; which finalizations
+/// have started after.
+fn inner_closed<A: Allocator>(
+    lists: &mut FinLists<A>,
+) -> ([[u64; 3]; 2], [(bool, bool); 2], [bool; 3]) {
+    let before = counts(lists);
     let stood = (lists.is_open(MasterNo(2)), lists.stands(SetNo(2)));
     lists.close_master(MasterNo(2));
     let stands = (lists.is_open(MasterNo(2)), lists.stands(SetNo(2)));
-    let next = open_master(&mut lists)?;
-    assert_eq!(rt; sets, [SetNo(1), SetNo(2), SetNo(3)]);
-    assert_eq!(rt; before, [1, 1, 1]);
-    assert_eq!(rt; stood, (true, true));
-    assert_eq!(rt; stands, (false, false));
-    assert_eq!(rt; counts(&lists), [1, 0, 1]);
-    assert_eq!(rt; starts(&lists), [true, false, true]);
-    assert_eq!(rt; next, MasterNo(3));
+    ([before, counts(lists)], [stood, stands], starts(lists))
+}
+
+#[test]
+fn a_master_closes(rt: HostRuntime) -> Result<(), Fail> {
+    let mut lists = FinLists::new(rt.alloc());
+    let sets = three_sets(&mut lists);
+    let closed = inner_closed(&mut lists);
+    let next = open_master(&mut lists);
+    let after = (counts(&lists), starts(&lists));
+    drop(lists);
+    assert_eq!(rt; sets?, [SetNo(1), SetNo(2), SetNo(3)]);
+    assert_eq!(rt;
+        closed,
+        (
+            [[1, 1, 1], [1, 0, 1]],
+            [(true, true), (false, false)],
+            [true, false, true]
+        )
+    );
+    assert_eq!(rt;
+        (next?, after),
+        (MasterNo(3), ([1, 0, 1], [true, false, true]))
+    );
     Ok(())
+}
+
+/// A new subpool: how many members its set has, and its number.
+fn empty_subpool<A: Allocator + Copy>(lists: &mut FinLists<A>) -> Result<[u64; 2], AllocError> {
+    let subpool = open_subpool(lists)?;
+    Ok([lists.count(subpool), subpool.0])
 }
 
 /// A subpool's set is empty at first.
 #[test]
 fn a_subpool_is_empty(rt: HostRuntime) -> Result<(), Fail> {
     let mut lists = FinLists::new(rt.alloc());
-    let subpool = open_subpool(&mut lists)?;
-    assert_eq!(rt; [lists.count(subpool), subpool.0], [0, 1]);
+    let subpool = empty_subpool(&mut lists);
+    drop(lists);
+    assert_eq!(rt; subpool?, [0, 1]);
     Ok(())
 }
 
@@ -253,7 +298,9 @@ fn grow_all<A: Allocator + Copy>(
 
 fn grow_on(alloc: Global, heap: &LocalHeap) -> Result<Option<[Vec<u64>; 2]>, AllocError> {
     let mut lists = FinLists::new(heap);
-    grow_all(alloc, &mut lists)
+    let refused = grow_all(alloc, &mut lists);
+    drop(lists);
+    refused
 }
 
 #[test]

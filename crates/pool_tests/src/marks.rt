@@ -1,26 +1,39 @@
-ghost use Rattle.std.specs.Prelude.{◌≡◌, ◌+◌, ◌<◌, ◌≤◌, replicate};
+ghost use Rattle.std.specs.Prelude.{◌≡◌, ◌+◌, ◌<◌, ◌≤◌, length, replicate};
 ghost use Rattle.raw_region.specs.Places.{held};
 
 use linked_list_allocator::LocalHeap;
-use mark_pool::{MarkPool, PoolFault};
-use std::alloc::Allocator;
+use mark_pool::{MarkNo, MarkPool, PoolFault};
+use std::alloc::{Allocator, Global};
 use std::test::Fail;
 
-#[test]
-fn marks_and_releases(rt: HostRuntime) -> Result<(), Fail> {
-    let mut pool = MarkPool::new(rt.alloc(), 4)?;
-    let first = pool.top();
-    let three = pool.take(3).unwrap();
-    let second = pool.mark().unwrap();
-    let newest = pool.top();
-    let one = pool.take(1).unwrap();
-    let more = match pool.take(1) {
+/// Asks a pool of which no word is left for one, and returns whether it is given.
+fn is_given<A: Allocator>(pool: &mut MarkPool<A>) -> bool
+    requires { length pool.old.places ≤ pool.old.used }
+    ensures { pool.new ≡ pool.old }
+{
+    match pool.take(1) {
         Some(block) => {
             pool.back(block);
             true
         }
         None => false,
-    };
+    }
+}
+
+/// What a pool of four words tells of itself.
+type Told = ([u64; 3], [usize; 2], [(u64, bool); 2], [MarkNo; 5], bool);
+
+/// Takes three words of a pool of four, makes a second mark, takes one word and asks for one more; brings each back and
+/// releases its mark, the newest first. The words used after each change, where the Blocks start, what is out before and
+/// after, the newest mark from the first on, and whether there was one word more.
+fn two_marks(alloc: Global) -> Result<Told, PoolFault> {
+    let mut pool = MarkPool::new(alloc, 4)?;
+    let first = pool.top();
+    let three = pool.take(3).unwrap();
+    let second = pool.mark().unwrap();
+    let newest = pool.top();
+    let one = pool.take(1).unwrap();
+    let more = is_given(&mut pool);
     let used = pool.used();
     let starts = [three.start(), one.start()];
     let out = (pool.out(), pool.is_whole());
@@ -34,12 +47,24 @@ fn marks_and_releases(rt: HostRuntime) -> Result<(), Fail> {
     let after_first = pool.used();
     let renewed = pool.top();
     pool.close();
+    Ok((
+        [used, after_second, after_first],
+        starts,
+        [out, back],
+        [first, second, newest, first_again, renewed],
+        more,
+    ))
+}
+
+#[test]
+fn marks_and_releases(rt: HostRuntime) -> Result<(), Fail> {
+    let (used, starts, out, marks, more) = two_marks(rt.alloc())?;
+    let [first, second, newest, first_again, renewed] = marks;
     assert!(rt; !more);
-    assert_eq!(rt; [used, after_second, after_first], [4, 3, 0]);
+    assert_eq!(rt; used, [4, 3, 0]);
     assert_eq!(rt; starts, [0, 3]);
-    assert_eq!(rt; (out, back), ((4, false), (0, true)));
-    assert_eq!(rt; newest, second);
-    assert_eq!(rt; first_again, first);
+    assert_eq!(rt; out, [(4, false), (0, true)]);
+    assert_eq!(rt; [newest, first_again], [second, first]);
     assert_ne!(rt; first, second);
     assert_ne!(rt; first, renewed);
     assert_ne!(rt; second, renewed);

@@ -117,9 +117,7 @@ fn an_object_lives_and_is_gone(rt: HostRuntime) {
     let life = life_of_an_object(&mut store);
     let again = store.vacate(9).is_err();
     store.close();
-    assert_eq!(rt; made, 0);
-    assert_eq!(rt; life, [0, 5, 0, 64]);
-    assert!(rt; again);
+    assert_eq!(rt; (made, life, again), (0, [0, 5, 0, 64], true));
 }
 
 /// The four words of object 8.
@@ -154,14 +152,12 @@ fn words_are_copied(rt: HostRuntime) {
     let copied = words_of_8(&store);
     let gone = copy(&mut store, [8, 5], [0, 0], 0);
     store.close();
-    assert!(rt; made);
-    assert_eq!(rt; [within, between, gone], [0, 0, 64]);
-    assert_eq!(rt; moved, [1, 1, 2, 3]);
-    assert_eq!(rt; copied, [1, 1, 9, 3]);
+    assert_eq!(rt; (made, [within, between, gone]), (true, [0, 0, 64]));
+    assert_eq!(rt; [moved, copied], [[1, 1, 2, 3], [1, 1, 9, 3]]);
 }
 
 /// Objects 8 and 7 as above, over a heap: whether all was made, and whether what was made before a refusal stays.
-fn grow_on(heap: &LocalHeap) -> [bool; 2] {
+fn grow_on<A: Allocator + Copy>(heap: A) -> [bool; 2] {
     let mut store = PoolStore::new(heap);
     let first = standard(&mut store, 8, 1);
     let _ = write(&mut store, 8, 0, 6);
@@ -278,9 +274,7 @@ fn an_address_is_used_once(rt: HostRuntime) {
     let held = occupy(&mut store, [1, second], 7, 16);
     let word = read(&store, 7, 0);
     store.close();
-    assert_eq!(rt; [first, second], [1, 2]);
-    assert_eq!(rt; held, 0);
-    assert_eq!(rt; word, 0);
+    assert_eq!(rt; ([first, second], held, word), ([1, 2], 0, 0));
 }
 
 fn close_pool<A: Allocator>(store: &mut PoolStore<A>, pool: u64) -> bool {
@@ -325,19 +319,22 @@ fn what_a_closed_pool_leaves<A: Allocator + Copy>(
     )
 }
 
+/// Nothing can be allocated in the pool that closed, until it is opened again.
+fn open_again<A: Allocator + Copy>(store: &mut PoolStore<A>) -> (u64, u32, u64) {
+    let unavailable = allocate(store, 1, 16);
+    let reopened = open_block(store, 1, 8, 1);
+    (unavailable, reopened, allocate(store, 1, 8))
+}
+
 #[test]
 fn a_pool_closes(rt: HostRuntime) {
     let mut store = PoolStore::new(rt.alloc());
     let (words, faults) = what_a_closed_pool_leaves(&mut store);
-    let unavailable = allocate(&mut store, 1, 16);
-    let reopened = open_block(&mut store, 1, 8, 1);
-    let address = allocate(&mut store, 1, 8);
+    let opened_again = open_again(&mut store);
     store.close();
     assert_eq!(rt; words, [64, 3, 4, 1]);
     assert_eq!(rt; faults, [0, 0, 0, 0, 0, 0, 0, 63]);
-    assert_eq!(rt; unavailable, 2000);
-    assert_eq!(rt; reopened, 0);
-    assert_eq!(rt; address, 4);
+    assert_eq!(rt; opened_again, (2000, 0, 4));
 }
 
 /// A pool that closes gives its region back.
@@ -360,7 +357,7 @@ fn a_closed_pool_is_freed(rt: HostRuntime) -> Result<(), Fail> {
 
 /// A pool of two blocks with two objects over a heap: whether all was made, and whether what a call refused was not
 /// there and what was there before stayed.
-fn grow_in_blocks(heap: &LocalHeap) -> [bool; 2] {
+fn grow_in_blocks<A: Allocator + Copy>(heap: A) -> [bool; 2] {
     let mut store = PoolStore::new(heap);
     let opened = open_block(&mut store, 1, 16, 2);
     let first = allocate(&mut store, 1, 16);
@@ -509,8 +506,10 @@ fn objects_live_in_subpools(rt: HostRuntime) {
     let (numbers, faults, released) = life_in_subpools(&mut store);
     store.close();
     assert_eq!(rt; numbers, [1, 2, 2, 11, 1065]);
-    assert_eq!(rt; faults, [0, 61, 60, 0, 62, 66, 66]);
-    assert_eq!(rt; released, Some(true));
+    assert_eq!(rt;
+        (faults, released),
+        ([0, 61, 60, 0, 62, 66, 66], Some(true))
+    );
 }
 
 /// The objects 10 and 11 lie in the first subpool of pool 2 and in a further one, and 9 in the standard pool.
@@ -533,72 +532,105 @@ fn second_words<A: Allocator>(store: &PoolStore<A>) -> [u64; 3] {
     [read(store, 10, 1), read(store, 11, 1), read(store, 9, 1)]
 }
 
+/// The second word of 10 is copied to that of 9 and within 10: what the calls answer, and what is read then.
+fn copied_on<A: Allocator>(store: &mut PoolStore<A>) -> ([u32; 2], u64) {
+    let copied = copy(store, [10, 9], [1, 1], 1);
+    let within = copy(store, [10, 10], [1, 0], 1);
+    ([copied, within], read(store, 10, 0))
+}
+
+/// The first subpool is released: what the calls answer, and what is read of the second words then.
+fn first_released<A: Allocator>(store: &mut PoolStore<A>) -> (u32, Option<bool>, [u64; 3]) {
+    let detached = detach(store, 1);
+    let below = release(store, 1);
+    (detached, below, second_words(store))
+}
+
 #[test]
 fn a_release_takes_the_objects_of_its_subpool(rt: HostRuntime) {
     let mut store = PoolStore::new(rt.alloc());
     let made = three_objects(&mut store);
-    let copied = copy(&mut store, [10, 9], [1, 1], 1);
-    let within = copy(&mut store, [10, 10], [1, 0], 1);
-    let moved = read(&store, 10, 0);
-    let left = vacate(&mut store, 11);
-    let vacated = second_words(&store);
-    let detached = detach(&mut store, 1);
-    let below = release(&mut store, 1);
-    let released = second_words(&store);
-    let closed = close_pool(&mut store, 2);
-    let word = read(&store, 9, 1);
+    let copied = copied_on(&mut store);
+    let vacated = (vacate(&mut store, 11), second_words(&store));
+    let released = first_released(&mut store);
+    let closed = (close_pool(&mut store, 2), read(&store, 9, 1));
     store.close();
     assert_eq!(rt; made, [0, 0, 0, 0, 0, 0]);
-    assert_eq!(rt; [copied, within, detached], [0, 0, 0]);
-    assert_eq!(rt; [moved, left], [5, 0]);
-    assert_eq!(rt; vacated, [5, 64, 5]);
-    assert_eq!(rt; below, Some(false));
-    assert_eq!(rt; released, [64, 64, 5]);
-    assert!(rt; closed);
-    assert_eq!(rt; word, 5);
+    assert_eq!(rt; (copied, vacated), (([0, 0], 5), (0, [5, 64, 5])));
+    assert_eq!(rt;
+        (released, closed),
+        ((0, Some(false), [64, 64, 5]), (true, 5))
+    );
 }
 
-/// Asks the queries about a pool of blocks 1, a pool with marks 2 with the object 10 of two words, pools of both kinds
-/// under 3, and no pool 4.
-#[test]
-fn conditions_can_be_asked(rt: HostRuntime) {
-    let mut store = PoolStore::new(rt.alloc());
-    let subpool = open_mark(&mut store, 2, 32);
-    let opened = [
-        open_block(&mut store, 1, 16, 1),
-        allocate_in(&mut store, subpool, 2, 10, 2),
-        open_block(&mut store, 3, 16, 1),
-    ];
-    let also = open_also(&mut store, 3);
+/// What is asked of pools and of objects: the kinds of four pools, the lengths of two objects and whether they are held, and
+/// whether numbers are left.
+fn queried<A: Allocator>(
+    store: &PoolStore<A>,
+) -> ([Option<PoolKind>; 4], [usize; 2], [bool; 2], bool) {
     let kinds = [store.kind(1), store.kind(2), store.kind(3), store.kind(4)];
     let lengths = [store.len_of(10), store.len_of(11)];
     let held = [store.is_held(10), store.is_held(11)];
     let numbers = store.has_addresses() && store.has_subpool_numbers();
+    (kinds, lengths, held, numbers)
+}
+
+/// How a subpool stands before and after it is detached, what that call answers, and how 0 stands, which is none.
+fn standing_of<A: Allocator>(
+    store: &mut PoolStore<A>,
+    subpool: u64,
+) -> ([Option<Standing>; 3], u32) {
     let attached = store.standing(SubpoolNo(subpool));
-    let detached = detach(&mut store, subpool);
+    let detached = detach(store, subpool);
     let standing = [
         attached,
         store.standing(SubpoolNo(subpool)),
         store.standing(SubpoolNo(0)),
     ];
+    (standing, detached)
+}
+
+/// Opens a pool of blocks 1, a pool with marks 2 with the object 10 of two words, and pools of both kinds under 3: the
+/// number of the subpool, and what the other calls answer.
+fn open_three<A: Allocator + Copy>(store: &mut PoolStore<A>) -> (u64, [u32; 3], bool) {
+    let subpool = open_mark(store, 2, 32);
+    let opened = [
+        open_block(store, 1, 16, 1),
+        allocate_in(store, subpool, 2, 10, 2),
+        open_block(store, 3, 16, 1),
+    ];
+    (subpool, opened, open_also(store, 3))
+}
+
+/// Asks the queries about these pools, and no pool 4.
+#[test]
+fn conditions_can_be_asked(rt: HostRuntime) {
+    let mut store = PoolStore::new(rt.alloc());
+    let opened = open_three(&mut store);
+    let asked = queried(&store);
+    let standing = standing_of(&mut store, 1);
     store.close();
-    assert_eq!(rt; opened, [0, 0, 0]);
-    assert_eq!(rt; (subpool, also, detached), (1, true, 0));
+    assert_eq!(rt; opened, (1, [0, 0, 0], true));
     assert_eq!(rt;
-        kinds,
-        [
-            Some(PoolKind::Blocks),
-            Some(PoolKind::Marks),
-            Some(PoolKind::Both),
-            None
-        ]
+        asked,
+        (
+            [
+                Some(PoolKind::Blocks),
+                Some(PoolKind::Marks),
+                Some(PoolKind::Both),
+                None
+            ],
+            [2, 0],
+            [true, false],
+            true
+        )
     );
-    assert_eq!(rt; lengths, [2, 0]);
-    assert_eq!(rt; held, [true, false]);
-    assert!(rt; numbers);
     assert_eq!(rt;
         standing,
-        [Some(Standing::Attached), Some(Standing::Detached), None]
+        (
+            [Some(Standing::Attached), Some(Standing::Detached), None],
+            0
+        )
     );
 }
 
@@ -614,7 +646,7 @@ fn open_also<A: Allocator + Copy>(store: &mut PoolStore<A>, pool: u64) -> bool {
 
 /// A pool with two subpools over a heap: whether all was made, and whether what was refused was not there and what was
 /// there before stayed.
-fn grow_in_subpools(heap: &LocalHeap) -> [bool; 2] {
+fn grow_in_subpools<A: Allocator + Copy>(heap: A) -> [bool; 2] {
     let mut store = PoolStore::new(heap);
     let first = open_mark(&mut store, 2, 32);
     let held = allocate_in(&mut store, first, 2, 7, 2);

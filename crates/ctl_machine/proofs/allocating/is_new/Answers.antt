@@ -1,9 +1,9 @@
 use Rattle.std.proofs.Common.{◌≡◌, ◌⊎◌, inl, inr, false, ap, sym}
 use Rattle.std.specs.Prelude.{◌&&◌, not}
 use Rattle.ctl_meaning.specs.Objects.{is_untouched}
-use Rattle.ctl_objects.specs.Stages.{state_of}
-use Rattle.ctl_objects.specs.declared.existing.Life.{Life}
-use Rattle.ctl_objects.specs.declared.existing.Life.TheVariants as LifeOf
+use Rattle.ctl_storage.specs.Stages.{state_of}
+use Rattle.ctl_storage.specs.declared.existing.Life.{Life}
+use Rattle.ctl_storage.specs.declared.existing.Life.TheVariants as LifeOf
 use Rattle.ctl_machine.proofs.allocating.is_new.Goals as goal
 
 pub returns-in-Untouched : goal.returns-in-Untouched

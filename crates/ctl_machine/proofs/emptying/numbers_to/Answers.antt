@@ -1,4 +1,4 @@
-use Rattle.std.proofs.Common.{◌≡◌, ◌-◌, ◌+◌, arith, subst, sym}
+use Rattle.std.proofs.Common.{◌-◌, arith, subst, sym}
 use Rattle.ctl_code.specs.Table.{numbers_to}
 use Rattle.ctl_machine.specs.Owned.{AreFromTo}
 use Rattle.ctl_machine.proofs.Candidates.{numbers_from, numbers_none}

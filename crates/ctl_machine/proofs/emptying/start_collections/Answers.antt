@@ -1,9 +1,9 @@
-use Rattle.std.proofs.Common.{◌≡◌, ◌∙◌, ◌-◌, ◌<◌, List, Some, ap, arith, length, subst, suc, sym}
+use Rattle.std.proofs.Common.{◌≡◌, ◌∙◌, ◌-◌, List, Some, ap, arith, length, suc, sym}
 use Rattle.std.specs.Prelude.{slice_get, slice_set}
 use Rattle.ctl_machine.specs.declared.frame.Owned.{Owned}
 use Rattle.ctl_machine.specs.Owned.{started_from}
 use Rattle.ctl_machine.proofs.Links.{got}
-use Rattle.ctl_machine.proofs.Starting.{all_marked, marked_from, marked_length, marked_there, read_there}
+use Rattle.ctl_machine.proofs.Starting.{all_marked, marked_length, marked_there, read_there}
 use Rattle.ctl_machine.proofs.emptying.start_collections.Goals as goal
 
 pub returns-then-index-first : goal.returns-then-index-first

@@ -3,7 +3,9 @@ use Rattle.ctl_meaning.specs.World.{Object}
 use Rattle.ctl_objects.specs.Order.{AreUpTo}
 use Rattle.ctl_machine.specs.Owned.{remaining, set_numbers}
 use Rattle.ctl_machine.proofs.layers.forget_gathered.Given as goal
+use Rattle.ctl_objects.specs.Stock.{Stock}
+use Rattle.ctl_machine.specs.LeftPools.{LeavesPools}
 
 -- those before are gone with their objects
 abbrev pub invariant-loop-at : goal.invariant-loop-at
-invariant-loop-at l = (l.stock.needs ≡ l.fn.stock.needs) × (AreUpTo l.master l.stock.objects × ((all : List Object) → l.fn.stock.objects ≡ remaining l.master [] all → l.stock.objects ≡ remaining l.master (set_numbers (drop l.start (take l.at l.owned))) all))
+invariant-loop-at l = (l.stock.needs ≡ l.fn.stock.needs) × (((first : Stock) → LeavesPools first l.fn.stock → LeavesPools first l.stock) × (AreUpTo l.master l.stock.objects × ((all : List Object) → l.fn.stock.objects ≡ remaining l.master [] all → l.stock.objects ≡ remaining l.master (set_numbers (drop l.start (take l.at l.owned))) all)))

@@ -2,7 +2,7 @@ use Rattle.std.proofs.Common.{◌≡◌, ℕ, ◌+◌, List, [], ◌∷◌, drop
 use Rattle.std.specs.Prelude.{slice_index_or}
 use Rattle.ctl_objects.specs.Declarations.{cells_written}
 use Rattle.ctl_objects.proofs.Laid.{length_part}
-use Rattle.ctl_objects.proofs.Runs.{all_dropped, item_dropped}
+use Rattle.ctl_storage.proofs.Cells.{all_dropped, item_dropped}
 use Rattle.ctl_objects.proofs.cells.write_cells.Goals as goal
 
 pub loop-at-init : goal.loop-at-init

@@ -1,4 +1,4 @@
-use Rattle.ctl_objects.proofs.Listed.{first_of_range, none_of_range}
+use Rattle.ctl_storage.proofs.Listed.{first_of_range, none_of_range}
 use Rattle.ctl_objects.proofs.sets.first_listed.Goals as goal
 
 pub returns-in-Some : goal.returns-in-Some

@@ -12,4 +12,4 @@ returns-clause-kept c =
     let with : List Frame → List Spot → Kept = λ fs spots. with_stock c.allocate.new.self (record (kept old) { control = reverse fs; spots = spots; next_object = n + 1 }) in
     ap (λ (l : List Frame). with l c.reserve-2.new.self.items) c.in_ok-reserve.ensures.items
     ∙ (ap (λ (l : List Spot). with old.control.items l) c.in_ok-reserve-2.ensures.items
-    ∙ stocked (record (kept old) { next_object = n + 1 }) c.allocate.new.self _ c.in_ok-allocate.ensures.ok c.in_ok-allocate.ensures.needs)
+    ∙ stocked (record (kept old) { next_object = n + 1 }) c.allocate.new.self _ c.in_ok-allocate.ensures.ok c.in_ok-allocate.ensures.same)

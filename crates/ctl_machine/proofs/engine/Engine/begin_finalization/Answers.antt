@@ -11,4 +11,4 @@ unfolding opened_changes
 returns-clause-holds c = λ code k ops w h.
     let old = c.args.self.now in
     let n = c.args.number in
-    subst (λ (e : Kept). Holds code e k ops (begin_finalization n w)) (sym (stocked (kept old) c.begin_finalization.new.self _ c.begin_finalization.ensures.objects c.begin_finalization.ensures.needs)) (holds_changed code (kept old) k ops w n with_begun begun_keeps h)
+    subst (λ (e : Kept). Holds code e k ops (begin_finalization n w)) (sym (stocked (kept old) c.begin_finalization.new.self _ c.begin_finalization.ensures.objects c.begin_finalization.ensures.same)) (holds_changed code (kept old) k ops w n with_begun begun_keeps h)

@@ -57,7 +57,7 @@ adjust_member-requires g c =
     let there = sym (object_shown code (kept old) s.control s.operands s.world y.object b.inside.holds) ∙ c.requires.1.1.0 in
     let given : added.numbered.objects ≡ old.numbered.objects + 1 = c.in_ok-add_member.ensures.number in
     let begun : Engine = record added { spots = c.take_last.new.self; stock = c.copy.new.self } in
-    let are = copied_stock (kept added) c.copy.new.self c.take_last.new.self.items c.copy.ensures.needs
+    let are = copied_stock (kept added) c.copy.new.self c.take_last.new.self.items c.copy.ensures.same
     ∙ taken_kept (kept old) (kept added) c.copy.new.self.objects c.take_last.new.self.items set t c.size_of-size.result c.object-source.result c.offset-start.result y.offset (size_of code t) added.numbered.objects o
     c.in_ok-add_member.ensures.kept given (ap (λ n. object_in n old.stock.objects) number ∙ there) start c.size_of-size.ensures c.copy.ensures.objects in
     let is = taken_is code old begun before.0 c.args.place set t before.2 before.1 o s b (are ∙ ap (λ (l : List Spot). with_taken set t (size_of code t) (cells_at y.offset (size_of code t) o) (with_spots (kept old) l)) popped) in

@@ -4,6 +4,7 @@ use Rattle.ctl_meaning.specs.Objects.{object_in}
 use Rattle.ctl_machine.specs.declared.frame.Numbered.{Numbered}
 use Rattle.ctl_machine.specs.declared.frame.Owned.{Owned}
 use Rattle.ctl_objects.specs.Order as Order
+use Rattle.ctl_storage.specs.Order as Stored
 use Rattle.ctl_machine.specs.Declaring.{IsCopied}
 use Rattle.ctl_machine.specs.Moves.{Makes}
 use Rattle.ctl_machine.specs.Shows.{Kept, kept, with_spots}
@@ -48,7 +49,7 @@ create-requires-clause-cell g c =
 pub create-requires-clause-numbers : goal.create-requires-clause-numbers
 create-requires-clause-numbers g c =
     let b = c.requires.1.0 in
-    subst (λ (e : Kept). Order.AreBelow e.next_object e.objects) (sym c.in_ok-reserve_object.ensures.same.kept) b.inside.holds.owns.numbers
+    subst (λ (e : Kept). Stored.AreBelow e.next_object e.objects) (sym c.in_ok-reserve_object.ensures.same.kept) b.inside.holds.owns.numbers
 
 pub create-requires-clause-newest : goal.create-requires-clause-newest
 create-requires-clause-newest g c =
@@ -88,7 +89,7 @@ adjust_new-requires g c =
     let start : c.offset-start.result ≡ y.offset = c.offset-start.ensures ∙ ap (λ (x : Spot). x.offset) spot in
     let given : made.numbered.objects ≡ old.numbered.objects + 1 = c.in_ok-create.ensures.number ∙ ap (λ (n : Numbered). n.objects + 1) c.in_ok-reserve_object.ensures.number in
     let begun : Engine = record made { spots = c.take_last.new.self; stock = c.copy.new.self } in
-    let are = copied_stock (kept made) c.copy.new.self c.take_last.new.self.items c.copy.ensures.needs
+    let are = copied_stock (kept made) c.copy.new.self c.take_last.new.self.items c.copy.ensures.same
     ∙ copy_kept (kept old) (kept ready) (kept made) c.copy.new.self.objects c.take_last.new.self.items m c.args.slot c.args.record c.size_of-size.result c.object-source.result c.offset-start.result y.offset (size_of code c.args.record) made.numbered.objects some.0
     same.kept c.in_ok-create.ensures.kept given some.1 start c.size_of-size.ensures c.copy.ensures.objects in
     let copied = copied_is code old mid begun c.args.place c.args.slot c.args.record g.s m some.0 c.requires.1.0 (ap (λ (l : List Spot). with_spots (kept old) l) popped) c.newest-newest.ensures.last
@@ -129,7 +130,7 @@ returns-clause-ok g c =
     let start : c.offset-start.result ≡ y.offset = c.offset-start.ensures ∙ ap (λ (x : Spot). x.offset) spot in
     let given : made.numbered.objects ≡ old.numbered.objects + 1 = c.in_ok-create.ensures.number ∙ ap (λ (n : Numbered). n.objects + 1) c.in_ok-reserve_object.ensures.number in
     let begun : Engine = record made { spots = c.take_last.new.self; stock = c.copy.new.self } in
-    let are = copied_stock (kept made) c.copy.new.self c.take_last.new.self.items c.copy.ensures.needs
+    let are = copied_stock (kept made) c.copy.new.self c.take_last.new.self.items c.copy.ensures.same
     ∙ copy_kept (kept old) (kept ready) (kept made) c.copy.new.self.objects c.take_last.new.self.items m c.args.slot c.args.record c.size_of-size.result c.object-source.result c.offset-start.result y.offset (size_of code c.args.record) made.numbered.objects some.0
     same.kept c.in_ok-create.ensures.kept given some.1 start c.size_of-size.ensures c.copy.ensures.objects in
     let copied = copied_is code old mid begun c.args.place c.args.slot c.args.record g.s m some.0 c.requires.1.0 (ap (λ (l : List Spot). with_spots (kept old) l) popped) c.newest-newest.ensures.last

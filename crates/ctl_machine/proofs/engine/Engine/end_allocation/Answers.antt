@@ -15,7 +15,7 @@ use Rattle.ctl_machine.specs.Shows.{Kept, kept, tried_of}
 use Rattle.ctl_machine.proofs.AfterInitialize.{fine_of}
 use Rattle.ctl_machine.proofs.Allocated.{allocator_joins, allocator_raises, allocator_stops, join_within, with_member, with_value}
 use Rattle.ctl_machine.proofs.Foreign.{foreign_allocated}
-use Rattle.ctl_machine.proofs.Stocked.{stocked}
+use Rattle.ctl_machine.proofs.Stocked.{stocked, forgot}
 use Rattle.ctl_machine.proofs.engine.Engine.end_allocation.Goals as goal
 
 pub forget-requires : goal.forget-requires
@@ -31,7 +31,7 @@ returns-in-Raised g c =
     let s = g.s in
     let new : Engine = record old { stock = c.forget.new.self; mode = ModeOf.Transfers (WayOf.Raise c.in-Raised.exception) } in
     subst (λ (x : Ended). Makes code old new (by_creating (tried_of x) T.ByAllocator c.args.object (point_at c.args.place s) s.control s.world)) (sym c.in-Raised.is)
-    (allocator_raises code old new c.args.object c.args.place s c.in-Raised.exception c.requires.1 refl (stocked (kept old) c.forget.new.self _ c.forget.ensures.objects c.forget.ensures.needs) refl refl)
+    (allocator_raises code old new c.args.object c.args.place s c.in-Raised.exception c.requires.1 refl (forgot (kept old) c.forget.new.self c.args.object c.forget.ensures.objects c.forget.ensures.same) c.forget.ensures.pools refl refl)
 
 pub may_join-requires : goal.may_join-requires
 may_join-requires g c = c.requires.1.inside.holds
@@ -67,5 +67,5 @@ returns g c =
     let made : Kept → ℕ → Kept = λ e n. with_value n c.args.object e in
     let cell : c.window.result + c.height_at.result ≡ first + at = ap (λ n. n + c.height_at.result) c.window.ensures ∙ ap (λ n. first + n) c.height_at.ensures in
     allocator_joins code old _ c.args.object c.args.place g.s (tried_of c.args.ended) fine.0 fine.1 c.requires.0 c.requires.1 (c.may_join.ensures.may c.if-not-may_join.false) refl
-    (ap (λ (e : Kept). made e (c.window.result + c.height_at.result)) (stocked (kept old) c.join.new.self _ c.join.ensures.objects c.join.ensures.needs) ∙ ap (λ n. made (with_objects (with_member c.args.object old.stock.objects) (kept old)) n) cell)
+    (ap (λ (e : Kept). made e (c.window.result + c.height_at.result)) (stocked (kept old) c.join.new.self _ c.join.ensures.objects c.join.ensures.same) ∙ ap (λ n. made (with_objects (with_member c.args.object old.stock.objects) (kept old)) n) cell)
     refl refl

@@ -7,14 +7,15 @@ use Rattle.ctl_objects.specs.Order as Order
 use Rattle.ctl_machine.specs.declared.frame.Frame.TheVariants as FrameOf
 use Rattle.ctl_machine.specs.declared.frame.Nulled.TheVariants as NulledOf
 use Rattle.ctl_machine.specs.Finishing.{with_objects}
-use Rattle.ctl_machine.specs.Shows.{Kept, kept}
+use Rattle.ctl_machine.specs.Shows.{Kept, kept, stock_of}
 use Rattle.ctl_machine.specs.Spots.{standing}
-use Rattle.ctl_machine.proofs.Foreign.{foreign_allocated, forgotten}
+use Rattle.ctl_machine.proofs.Foreign.{foreign_allocated}
 use Rattle.ctl_machine.proofs.Freed.{behind_frame, freeing, stands_behind}
 use Rattle.ctl_machine.proofs.FreedPart.{dropped_so, null_inside, null_written, nulled_part, part_ends, part_stops, with_null}
 use Rattle.ctl_machine.proofs.Owned.{none_there, some_there}
-use Rattle.ctl_machine.proofs.Stocked.{stocked}
+use Rattle.ctl_machine.proofs.Stocked.{stocked, forgot, with_stock, with_forgotten}
 use Rattle.ctl_machine.proofs.engine.Engine.end_in_part.Goals as goal
+use Rattle.ctl_objects.specs.Pools.{KeepsShown}
 
 pub returns-then-not-exists : goal.returns-then-not-exists
 returns-then-not-exists g c =
@@ -66,7 +67,9 @@ returns g c =
     let found : object_in x.part.object old.stock.objects ≡ Some some.0 = ap (λ (e : Kept). object_in x.part.object e.objects) (sym dropped.kept) ∙ (ap (λ n. object_in n d.new.self.stock.objects) (sym number) ∙ some.1) in
     let e = with_null x.part (behind_frame top.0 parts (kept old)) in
     let written : c.write.new.self.objects ≡ e.objects = null_written c.write.new.self.objects d.new.self.stock.objects old.stock.objects c.object-2.result c.offset.result x.part c.write.ensures.objects (c.object-2.ensures ∙ ap (λ (s : Spot). s.object) dropped.same) (c.offset.ensures ∙ ap (λ (s : Spot). s.offset) dropped.same) (ap (λ (z : Kept). z.objects) dropped.kept) in
-    part_ends code old _ c.args.ended c.args.object c.args.place top.0 g.s some.0 b top.1 u x found c.mode_freed-self.ensures
-    (stocked (kept d.new.self) c.forget.new.self _ (c.forget.ensures.objects ∙ ap (λ (l : List Object). forgotten c.args.object l) written) (c.forget.ensures.needs ∙ c.write.ensures.needs)
-    ∙ ap (λ (z : Kept). with_objects (forgotten c.args.object e.objects) z) dropped.kept)
+    let nulled : with_stock c.write.new.self (kept d.new.self) ≡ e = stocked (kept d.new.self) c.write.new.self e.objects written c.write.ensures.same ∙ ap (λ (z : Kept). with_objects e.objects z) dropped.kept in
+    part_ends code old _ c.args.ended c.args.object c.args.place top.0 g.s some.0 b top.1 u x found c.mode_freed-self.ensures (
+      forgot (with_stock c.write.new.self (kept d.new.self)) c.forget.new.self c.args.object c.forget.ensures.objects c.forget.ensures.same ∙ ap (λ (z : Kept). with_forgotten c.args.object c.forget.new.self.blocks z) nulled,
+      subst (λ (z : Kept). KeepsShown (stock_of z) c.forget.new.self) nulled c.forget.ensures.pools,
+    )
     d.ensures.events d.ensures.picks

@@ -11,7 +11,7 @@ use Rattle.ctl_machine.specs.Shows.{Kept, kept}
 use Rattle.ctl_machine.proofs.AfterInitialize.{rest_is}
 use Rattle.ctl_machine.proofs.Foreign.{foreign_allocated}
 use Rattle.ctl_machine.proofs.Freed.{freeing, gives_on, variable_ends, without_frame}
-use Rattle.ctl_machine.proofs.Stocked.{stocked, with_stock}
+use Rattle.ctl_machine.proofs.Stocked.{with_stock, forgot}
 use Rattle.ctl_machine.proofs.engine.Engine.end_in_variable.Goals as goal
 
 pub give-requires : goal.give-requires
@@ -38,5 +38,5 @@ returns g c =
     let there : reverse mid.control.items ≡ frame ∷ top.0 = ap (λ (e : Kept). e.control) goes.kept ∙ top.1 in
     let rest : reverse c.take_last.new.self.items ≡ top.0 = rest_is mid.control.items c.take_last.new.self.items c.take_last.result frame top.0 c.take_last.ensures.items there in
     variable_ends c.args.code.now old mid _ c.args.ended c.args.object c.args.out c.args.slot c.args.place top.0 g.s b top.1 c.give.ensures.gives c.mode_freed-self.ensures
-    (ap (λ (l : List Frame). with_stock c.forget.new.self (without_frame l (kept mid))) rest ∙ stocked (without_frame top.0 (kept mid)) c.forget.new.self _ c.forget.ensures.objects c.forget.ensures.needs)
+    (ap (λ (l : List Frame). with_stock c.forget.new.self (without_frame l (kept mid))) rest ∙ forgot (without_frame top.0 (kept mid)) c.forget.new.self c.args.object c.forget.ensures.objects c.forget.ensures.same) c.forget.ensures.pools
     refl refl

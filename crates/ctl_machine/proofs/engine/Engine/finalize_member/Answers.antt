@@ -1,5 +1,4 @@
-use Rattle.std.proofs.Common.{◌≡◌, ◌∷◌, ◌∙◌, ◌+◌, ◌<◌, ◌≤◌, ℕ, List, [], ap, arith, drop, length, refl, reverse, subst, sym}
-use Rattle.std.specs.Prelude.{◌^◌, vec_capacity, vec_len}
+use Rattle.std.proofs.Common.{◌≡◌, ◌∷◌, ◌∙◌, List, [], ap, arith, drop, refl, reverse, subst, sym}
 use Rattle.ctl_tree.specs.declared.event.Cause.TheVariants.{Collection}
 use Rattle.ctl_meaning.specs.Finalization.{Spot}
 use Rattle.ctl_code.specs.States as T

@@ -7,7 +7,7 @@ use Rattle.ctl_code.specs.Table.{finalize_part, part_at, parts_of}
 use Rattle.ctl_machine.specs.declared.engine.Engine.{Engine}
 use Rattle.ctl_machine.specs.declared.frame.Frame.{Frame}
 use Rattle.ctl_machine.specs.declared.frame.Frame.TheVariants as FrameOf
-use Rattle.ctl_machine.specs.Finishing.{BeginsOver, Finished, Finishes}
+use Rattle.ctl_machine.specs.Finishing.{BeginsOver, Finishes}
 use Rattle.ctl_machine.specs.Moves.{Makes}
 use Rattle.ctl_machine.specs.Shows.{Kept, kept}
 use Rattle.ctl_machine.proofs.FinalizedLayers.{object_finalized}

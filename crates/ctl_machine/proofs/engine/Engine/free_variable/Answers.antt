@@ -1,4 +1,4 @@
-use Rattle.std.proofs.Common.{◌≡◌, ◌+◌, ◌∙◌, ap, refl, reverse, subst}
+use Rattle.std.proofs.Common.{◌+◌, ◌∙◌, ap, refl, reverse, subst}
 use Rattle.ctl_meaning.specs.Finalization.{Spot}
 use Rattle.ctl_machine.specs.declared.frame.Nulled.TheVariants as NulledOf
 use Rattle.ctl_machine.specs.Finishing.{AreDoubles}

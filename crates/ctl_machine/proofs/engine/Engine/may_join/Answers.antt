@@ -13,12 +13,12 @@ returns-in-Declared-clause-not g c = λ f may. declared_joins c.args.code.now (k
 
 pub returns-then-is_new-clause-may : goal.returns-then-is_new-clause-may
 returns-then-is_new-clause-may g c = λ t.
-    allocated_joins c.args.code.now (kept c.args.self.now) c.args.object c.in-Allocated.collection c.in-Some.existing c.find_set.result g.s.control g.s.operands g.s.world c.requires c.in-Some.ensures c.in-Allocated.is
+    allocated_joins c.args.code.now (kept c.args.self.now) c.args.object c.in-Allocated.collection _ c.in-Some.existing c.find_set.result g.s.control g.s.operands g.s.world c.requires c.in-Some.ensures c.in-Allocated.is
     (sym c.if-is_new.ensures) (c.find_set.ensures ∙ ap (λ (l : List Owned). set_in c.in-Allocated.collection (sets_owned l)) c.as_slice.ensures.value) (sym c.is_some.ensures ∙ t)
 
 pub returns-then-is_new-clause-not : goal.returns-then-is_new-clause-not
 returns-then-is_new-clause-not g c = λ f may.
-    without_set_joins c.args.code.now (kept c.args.self.now) c.args.object c.in-Allocated.collection c.in-Some.existing c.find_set.result g.s.control g.s.operands g.s.world c.requires c.in-Some.ensures c.in-Allocated.is
+    without_set_joins c.args.code.now (kept c.args.self.now) c.args.object c.in-Allocated.collection _ c.in-Some.existing c.find_set.result g.s.control g.s.operands g.s.world c.requires c.in-Some.ensures c.in-Allocated.is
     (c.find_set.ensures ∙ ap (λ (l : List Owned). set_in c.in-Allocated.collection (sets_owned l)) c.as_slice.ensures.value) (sym c.is_some.ensures ∙ f) may
 
 pub returns-else-is_new-clause-not : goal.returns-else-is_new-clause-not

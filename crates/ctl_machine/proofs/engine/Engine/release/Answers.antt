@@ -1,5 +1,4 @@
-use Rattle.std.proofs.Common.{◌≡◌, ◌+◌, ◌<◌, ◌∷◌, [], List, Some, arith, refl, subst}
-use Rattle.std.specs.Prelude.{slice_get, vec_capacity, vec_len}
+use Rattle.std.proofs.Common.{arith, refl, subst}
 use Rattle.std.proofs.lemmas.Option.{slice_get_within}
 use Rattle.ctl_meaning.specs.Outcome.{Fine}
 use Rattle.ctl_code.specs.States as T

@@ -5,6 +5,7 @@ use Rattle.ctl_machine.specs.declared.frame.Frame.TheVariants as FrameOf
 use Rattle.ctl_machine.proofs.Leaves.{tail_is}
 use Rattle.ctl_machine.proofs.Resumed.{resumes_finalizing}
 use Rattle.ctl_machine.proofs.engine.Engine.resume_finalizing.Goals as goal
+use Rattle.ctl_machine.proofs.Stocked.{stock_so}
 
 pub returns : goal.returns
 returns g c =
@@ -21,8 +22,7 @@ returns g c =
             masters = refl;
             cells = refl;
             owned = refl;
-            objects = c.end_finalization.ensures.objects;
-            needs = c.end_finalization.ensures.needs;
+            stock = stock_so c.end_finalization.new.self old.stock _ c.end_finalization.ensures.objects c.end_finalization.ensures.same;
             saved = refl;
             noted = refl;
             formals = refl;

@@ -38,7 +38,7 @@ returns-clause-passed g c = λ t position ty same.
       refl,
       part_makes code old new c.args.place g.s from r.0 r.1 c.args.offset value r.2 there.0 r.3 c.take-value.ensures
           (ap (λ n. object_in n old.stock.objects) (sym number) ∙ there.1) refl
-          (stocked (record (kept old) { spots = c.take_last.new.self.items }) c.write_part.new.self _ written c.write_part.ensures.needs
+          (stocked (record (kept old) { spots = c.take_last.new.self.items }) c.write_part.new.self _ written c.write_part.ensures.same
           ∙ ap (λ (l : List Spot). record (kept old) { objects = change_in y.object (with_cells (y.offset + c.args.offset) (value ∷ [])) old.stock.objects; spots = l }) popped)
           refl refl t position ty same,
     )

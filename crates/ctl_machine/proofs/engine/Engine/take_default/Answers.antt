@@ -56,7 +56,7 @@ returns g c =
           (record {
             mode = refl;
             kept = ap (λ (l : List Frame). with_stock c.write_part.new.self (record (kept old) { control = l })) c.replace_top.ensures.items
-                ∙ stocked (with_next frame (kept old)) c.write_part.new.self _ written c.write_part.ensures.needs;
+                ∙ stocked (with_next frame (kept old)) c.write_part.new.self _ written c.write_part.ensures.same;
             events = refl;
             picks = refl;
           });

@@ -20,4 +20,5 @@ loop-number-preserved c =
           ap (λ (l : List Object). keep (λ o. not (is_of_set set o.origin)) l) c.forget.ensures.objects
           ∙ (rest_same os set c.in-Some.number c.first_of.ensures.rise c.in-Some.ensures.some ∙ c.loop-number.invariant.objects);
       needs = c.forget.ensures.needs ∙ c.loop-number.invariant.needs;
+      pools = λ next x h. c.forget.ensures.pools next x (c.loop-number.invariant.pools next x h);
     }

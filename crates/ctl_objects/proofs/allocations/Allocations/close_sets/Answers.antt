@@ -4,7 +4,7 @@ use Rattle.ctl_meaning.specs.World.{Object}
 use Rattle.ctl_meaning.specs.Lists.{keep}
 use Rattle.ctl_objects.specs.Sets.{is_of_sets}
 use Rattle.ctl_objects.proofs.Listed.{outside_first, outside_none}
-use Rattle.ctl_objects.proofs.Runs.{all_dropped, item_dropped}
+use Rattle.ctl_storage.proofs.Cells.{all_dropped, item_dropped}
 use Rattle.ctl_objects.proofs.allocations.Allocations.close_sets.Goals as goal
 
 pub loop-set-preserved : goal.loop-set-preserved
@@ -21,6 +21,7 @@ loop-set-preserved c =
           ∙ (ap (λ (l : List ℕ). keep (λ o. not (is_of_sets l o.origin)) os) (sym item)
           ∙ c.loop-set.invariant.objects));
       needs = c.close_set.ensures.needs ∙ c.loop-set.invariant.needs;
+      pools = λ next x h. c.close_set.ensures.pools next x (c.loop-set.invariant.pools next x h);
     }
 
 pub returns-clause-objects : goal.returns-clause-objects

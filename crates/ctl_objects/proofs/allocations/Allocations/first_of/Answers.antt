@@ -12,12 +12,12 @@ pub returns-in_default-clause-none : goal.returns-in_default-clause-none
 returns-in_default-clause-none c = λ t.
     let s = c.self.inside in
     subst (λ (v : Stock). v.objects ≡ keep (λ o. not (is_of_set c.args.set o.origin)) v.objects) c.self.view_is
-    (all_outside s.objects c.args.set c.self.invariant.listed.rise
-    (no_other_member s.objects s.sets c.args.set (c.in-Some.found, c.in-Some.number) c.self.invariant.listed c.in-Some.ensures c.if-found-set.false))
+    (all_outside s.objects.objects c.args.set c.self.invariant.listed.rise
+    (no_other_member s.objects.objects s.sets c.args.set (c.in-Some.found, c.in-Some.number) c.self.invariant.listed c.in-Some.ensures c.if-found-set.false))
 
 pub returns-in_default-2-clause-none : goal.returns-in_default-2-clause-none
 returns-in_default-2-clause-none c = λ t.
     let s = c.self.inside in
     subst (λ (v : Stock). v.objects ≡ keep (λ o. not (is_of_set c.args.set o.origin)) v.objects) c.self.view_is
-    (all_outside s.objects c.args.set c.self.invariant.listed.rise
-    (no_member s.objects s.sets c.args.set c.self.invariant.listed (subst (λ (r : Option (ℕ × ℕ)). IsFirstListed (Included (c.args.set, 0)) r s.sets) c.in_default.is c.first_listed.ensures)))
+    (all_outside s.objects.objects c.args.set c.self.invariant.listed.rise
+    (no_member s.objects.objects s.sets c.args.set c.self.invariant.listed (subst (λ (r : Option (ℕ × ℕ)). IsFirstListed (Included (c.args.set, 0)) r s.sets) c.in_default.is c.first_listed.ensures)))

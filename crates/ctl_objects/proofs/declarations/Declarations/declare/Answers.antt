@@ -5,7 +5,8 @@ use Rattle.ctl_meaning.specs.World.{Object}
 use Rattle.ctl_meaning.specs.Changes.{new_object}
 use Rattle.ctl_objects.specs.declared.declarations.Declaration.{Declaration}
 use Rattle.ctl_objects.specs.Declarations.{AreKept, object_of}
-use Rattle.ctl_objects.specs.Order.{AreBelow, AreUpTo}
+use Rattle.ctl_objects.specs.Order.{AreUpTo}
+use Rattle.ctl_storage.specs.Order.{AreBelow}
 use Rattle.ctl_objects.proofs.Kept.{kept_more, objects_with}
 use Rattle.ctl_objects.proofs.declarations.Declarations.declare.Goals as goal
 

@@ -4,7 +4,7 @@ use Rattle.ctl_meaning.specs.World.{Object}
 use Rattle.ctl_meaning.specs.Objects.{change_in, object_in}
 use Rattle.ctl_objects.specs.declared.declarations.Declaration.{Declaration}
 use Rattle.ctl_objects.specs.Declarations.{AreKept, Lacks, object_of}
-use Rattle.ctl_objects.specs.Stages.{after, with_step}
+use Rattle.ctl_storage.specs.Stages.{after, with_step}
 use Rattle.ctl_objects.proofs.Found.{lacking}
 use Rattle.ctl_objects.proofs.Kept.{IsAt, at_read, found_at, kept_set, step_objects, unchanged_lacking}
 use Rattle.ctl_objects.proofs.declarations.Declarations.step.Goals as goal

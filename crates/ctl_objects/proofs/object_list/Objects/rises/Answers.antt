@@ -1,5 +1,5 @@
 use Rattle.std.proofs.Common.{subst}
-use Rattle.ctl_objects.specs.Order.{Rise}
+use Rattle.ctl_storage.specs.Order.{Rise}
 use Rattle.ctl_objects.specs.Stock.{Stock}
 use Rattle.ctl_objects.proofs.Both.{rise_both}
 use Rattle.ctl_objects.proofs.object_list.Objects.rises.Goals as goal

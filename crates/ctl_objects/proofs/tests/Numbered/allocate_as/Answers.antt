@@ -10,4 +10,4 @@ unfolding opened_changes
 invariant_of-self c =
     let s = c.self.inside in
     let x = new_object s.next c.args.ty (replicate c.args.cells 0) (W.Allocated c.args.collection W.Standard) in
-    subst (λ (l : List Object). AreNumbered (s.next + 1) s.master l) (sym c.in-Ok.ensures.ok) (numbered_new s.next s.master x s.objects.objects refl tt c.self.invariant)
+    (subst (λ (l : List Object). AreNumbered (s.next + 1) s.master l) (sym c.in-Ok.ensures.ok) (numbered_new s.next s.master x s.objects.objects refl tt c.self.invariant.0), c.in-Ok.ensures.pools W.empty_pools c.self.invariant.1)

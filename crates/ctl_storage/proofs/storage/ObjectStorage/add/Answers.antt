@@ -13,6 +13,7 @@ use Rattle.ctl_storage.proofs.Calls.{new_pools}
 use Rattle.ctl_storage.proofs.InStore.{new_kept, new_number, seen_with}
 use Rattle.ctl_storage.proofs.Kept.{kept_new}
 use Rattle.ctl_storage.proofs.Seen.{Objects}
+use Rattle.ctl_storage.proofs.Calls.{same_but_objects}
 use Rattle.ctl_storage.proofs.storage.ObjectStorage.add.Goals as goal
 
 pub standard-requires : goal.standard-requires
@@ -47,6 +48,14 @@ returns-in-Ok-clause-pools c =
     let s = c.self.inside in
     let a = c.args in
     new_pools c.args.self.now (view_of c.put.new.self.values s.sizes.values c.standard.new.self) (new_object a.number a.ty (replicate a.cells 0) (W.Allocated a.collection W.Standard)) (returns-in-Ok-clause-objects c)
+    (ap (λ (v : Storage). v.sizes) c.self.view_is)
+    (ap (λ (t : Store). t.blocks) c.in-Ok.ensures.ok ∙ ap (λ (v : Storage). v.blocks) c.self.view_is)
+    (ap (λ (t : Store). t.given) c.in-Ok.ensures.ok ∙ ap (λ (v : Storage). v.given) c.self.view_is)
+
+pub returns-in-Ok-clause-same : goal.returns-in-Ok-clause-same
+returns-in-Ok-clause-same c =
+    let s = c.self.inside in
+    same_but_objects c.args.self.now (view_of c.put.new.self.values s.sizes.values c.standard.new.self)
     (ap (λ (v : Storage). v.sizes) c.self.view_is)
     (ap (λ (t : Store). t.blocks) c.in-Ok.ensures.ok ∙ ap (λ (v : Storage). v.blocks) c.self.view_is)
     (ap (λ (t : Store). t.given) c.in-Ok.ensures.ok ∙ ap (λ (v : Storage). v.given) c.self.view_is)

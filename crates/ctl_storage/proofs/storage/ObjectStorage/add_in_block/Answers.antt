@@ -34,7 +34,7 @@ invariant_of-self-in-Ok-Placed c =
     let below = subst (λ (v : Storage). AreBelow a.number v.objects) (sym c.self.view_is) c.requires.below in
     let fit = placed_is (is_fit_in a.spot.pool a.spot.address (8 * a.cells) s.store) (sym c.in-Ok-Placed.field-0-is ∙ c.in-Ok-Placed.ensures.answer) in
     subst (λ (m : Objects). AreStored m s.sizes.values c.list_object.new.located c.occupy.new.store) (sym objects)
-    (subst (λ (t : Store). AreStored (insert s.objects.values a.number x) s.sizes.values c.list_object.new.located t) (sym (placed_then c.occupy.new.store _ c.in-Ok-Placed.field-0 c.in-Ok-Placed.field-0-is c.in-Ok-Placed.ensures.placed))
+    (subst (λ (t : Store). AreStored (insert s.objects.values a.number x) s.sizes.values c.list_object.new.located t) (sym (placed_then _ c.in-Ok-Placed.field-0 c.in-Ok-Placed.field-0-is c.in-Ok-Placed.ensures.placed))
     (kept_held s.objects.values s.sizes.values s.located c.list_object.new.located s.store a.number (8 * a.cells) a.spot x (new_kept s.objects.values s.store a.number below) refl fit c.in_ok-list_object.ensures.ok c.self.invariant))
 
 pub returns-in-Ok-Placed-clause-answer : goal.returns-in-Ok-Placed-clause-answer
@@ -52,7 +52,7 @@ returns-in-Ok-Placed-clause-objects c =
     let x : Allocation = record { ty = a.ty; collection = a.collection; place = InBlock a.spot; cells = a.cells; stage = c.start.result } in
     let objects : c.put.new.self.values ≡ insert s.objects.values a.number x = c.put.ensures.values ∙ ap (λ (m : Objects). insert m a.number x) c.reserve.ensures.values in
     ap (λ (m : Objects). seen m c.occupy.new.store) objects
-    ∙ (seen_with s.objects.values s.store c.occupy.new.store a.number x (ap (λ (t : Store). t.objects) (placed_then c.occupy.new.store _ c.in-Ok-Placed.field-0 c.in-Ok-Placed.field-0-is c.in-Ok-Placed.ensures.placed)) (subst (λ (v : Storage). AreBelow a.number v.objects) (sym c.self.view_is) c.requires.below) c.start.ensures
+    ∙ (seen_with s.objects.values s.store c.occupy.new.store a.number x (ap (λ (t : Store). t.objects) (placed_then _ c.in-Ok-Placed.field-0 c.in-Ok-Placed.field-0-is c.in-Ok-Placed.ensures.placed)) (subst (λ (v : Storage). AreBelow a.number v.objects) (sym c.self.view_is) c.requires.below) c.start.ensures
     ∙ ap (λ (v : Storage). v.objects ++ new_object a.number a.ty (replicate a.cells 0) (W.Allocated a.collection (W.InBlock a.spot.pool a.spot.address)) ∷ []) c.self.view_is)
 
 pub returns-in-Ok-Placed-clause-pools : goal.returns-in-Ok-Placed-clause-pools
@@ -66,8 +66,8 @@ returns-in-Ok-Placed-clause-pools c = λ x h.
     (ap (λ (l : List Object). exists a.number l) objects ∙ newest_exists a.self.now.objects o)
     (λ m less. ap (λ (l : List Object). exists m l) objects ∙ exists_newest a.self.now.objects o m less)
     (ap (λ (v : Storage). v.sizes) c.self.view_is)
-    (ap (λ (t : Store). t.blocks) (placed_then c.occupy.new.store _ c.in-Ok-Placed.field-0 c.in-Ok-Placed.field-0-is c.in-Ok-Placed.ensures.placed) ∙ ap (λ (v : Storage). held_blocks a.spot.pool a.spot.address a.number v) c.self.view_is)
-    (ap (λ (t : Store). t.given) (placed_then c.occupy.new.store _ c.in-Ok-Placed.field-0 c.in-Ok-Placed.field-0-is c.in-Ok-Placed.ensures.placed) ∙ ap (λ (v : Storage). v.given) c.self.view_is) h
+    (ap (λ (t : Store). t.blocks) (placed_then _ c.in-Ok-Placed.field-0 c.in-Ok-Placed.field-0-is c.in-Ok-Placed.ensures.placed) ∙ ap (λ (v : Storage). held_blocks a.spot.pool a.spot.address a.number v) c.self.view_is)
+    (ap (λ (t : Store). t.given) (placed_then _ c.in-Ok-Placed.field-0 c.in-Ok-Placed.field-0-is c.in-Ok-Placed.ensures.placed) ∙ ap (λ (v : Storage). v.given) c.self.view_is) h
 
 pub returns-then-not-has_blocks_of-clause-answer : goal.returns-then-not-has_blocks_of-clause-answer
 returns-then-not-has_blocks_of-clause-answer c = λ next x h.
@@ -79,7 +79,7 @@ invariant_of-self-in-Ok-Refused c =
     let a = c.args in
     let below = subst (λ (v : Storage). AreBelow a.number v.objects) (sym c.self.view_is) c.requires.below in
     subst (λ (m : Objects). AreStored m s.sizes.values c.unlist_object.new.located c.occupy.new.store) (sym c.reserve.ensures.values)
-    (subst (λ (t : Store). AreStored s.objects.values s.sizes.values c.unlist_object.new.located t) (sym (refused_then c.occupy.new.store _ c.in-Ok-Refused.field-0 c.in-Ok-Refused.field-0-is c.in-Ok-Refused.ensures.refused))
+    (subst (λ (t : Store). AreStored s.objects.values s.sizes.values c.unlist_object.new.located t) (sym (refused_then _ c.in-Ok-Refused.field-0 c.in-Ok-Refused.field-0-is c.in-Ok-Refused.ensures.refused))
     (unlisted s.objects.values s.sizes.values s.located c.list_object.new.located c.unlist_object.new.located s.store a.number a.spot.pool (new_kept s.objects.values s.store a.number below) c.in_ok-list_object.ensures.ok c.unlist_object.ensures c.self.invariant))
 
 pub returns-in-Ok-Refused-clause-answer : goal.returns-in-Ok-Refused-clause-answer

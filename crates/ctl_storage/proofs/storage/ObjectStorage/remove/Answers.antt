@@ -11,6 +11,7 @@ use Rattle.ctl_storage.proofs.InStore.{known_stored, member_stored, seen_without
 use Rattle.ctl_storage.proofs.Kept.{kept_without, vacated}
 use Rattle.ctl_storage.proofs.Seen.{Objects, rise_seen}
 use Rattle.ctl_storage.proofs.Shown.{IsVacated}
+use Rattle.ctl_storage.proofs.Calls.{same_but_blocks}
 use Rattle.ctl_storage.proofs.storage.ObjectStorage.remove.Goals as goal
 
 pub invariant_of-self : goal.invariant_of-self
@@ -53,3 +54,10 @@ returns-clause-pools c =
     (left_pools v w n (rise_seen s.objects.values s.store) gone refl
     (ap (λ (t : Store). t.given) c.vacate.ensures.store)
     (λ k. subst (λ (t : Store). IsVacated n (get s.store.blocks k) (get t.blocks k)) (sym c.vacate.ensures.store) (vacated s.objects.values s.store n c.self.invariant.each c.self.invariant.held k)))
+
+pub returns-clause-same : goal.returns-clause-same
+returns-clause-same c =
+    let s = c.self.inside in
+    same_but_blocks c.args.self.now (view_of c.remove-removed.new.self.values s.sizes.values c.vacate.new.self)
+    (ap (λ (v : Storage). v.sizes) c.self.view_is)
+    (ap (λ (t : Store). t.given) c.vacate.ensures.store ∙ ap (λ (v : Storage). v.given) c.self.view_is)

@@ -11,6 +11,7 @@ use Rattle.ctl_storage.proofs.Calls.{changed_pools, same_pools}
 use Rattle.ctl_storage.proofs.Rising.{change_lacking}
 use Rattle.ctl_storage.proofs.InStore.{found_none, known_stored, seen_moved, step_keeps}
 use Rattle.ctl_storage.proofs.Kept.{kept_moved}
+use Rattle.ctl_storage.proofs.Calls.{same_but_objects}
 use Rattle.ctl_storage.proofs.storage.ObjectStorage.step.Goals as goal
 
 pub returns-in_default-clause-before : goal.returns-in_default-clause-before
@@ -59,4 +60,11 @@ returns-clause-pools c =
     let n = c.args.number in
     let a = c.in-Some.object.now in
     changed_pools c.args.self.now (view_of (insert s.objects.values n (record a { stage = c.after-object.result })) s.sizes.values s.store) n (with_step c.args.step) (step_keeps c.args.step) (returns-clause-stepped c)
+    (ap (λ (v : Storage). v.sizes) c.self.view_is) (ap (λ (v : Storage). v.blocks) c.self.view_is) (ap (λ (v : Storage). v.given) c.self.view_is)
+
+pub returns-clause-same : goal.returns-clause-same
+returns-clause-same c =
+    let s = c.self.inside in
+    let a = c.in-Some.object.now in
+    same_but_objects c.args.self.now (view_of (insert s.objects.values c.args.number (record a { stage = c.after-object.result })) s.sizes.values s.store)
     (ap (λ (v : Storage). v.sizes) c.self.view_is) (ap (λ (v : Storage). v.blocks) c.self.view_is) (ap (λ (v : Storage). v.given) c.self.view_is)

@@ -9,6 +9,7 @@ use Rattle.ctl_storage.specs.Storage.{Storage}
 use Rattle.ctl_storage.proofs.Calls.{changed_pools}
 use Rattle.ctl_storage.proofs.Kept.{blocks_written, given_written, kept_written}
 use Rattle.ctl_storage.proofs.InStore.{as_many, cells_keep, found_here, found_none, seen_written}
+use Rattle.ctl_storage.proofs.Calls.{same_but_objects}
 use Rattle.ctl_storage.proofs.storage.ObjectStorage.write.Goals as goal
 
 pub write_word-requires : goal.write_word-requires
@@ -58,5 +59,13 @@ returns-in-Some-clause-pools c =
     let t = c.write_word.new.store in
     changed_pools c.args.self.now (view_of s.objects.values s.sizes.values t) c.args.number (with_cells (c.args.start + c.args.offset) (c.args.value ∷ [])) (cells_keep (c.args.start + c.args.offset) (c.args.value ∷ [])) (returns-in-Some-clause-written c)
     (ap (λ (x : Storage). x.sizes) c.self.view_is)
+    (ap (λ (x : Store). x.blocks) c.write_word.ensures ∙ (blocks_written c.args.number (c.args.start + c.args.offset) c.args.value s.store ∙ ap (λ (x : Storage). x.blocks) c.self.view_is))
+    (ap (λ (x : Store). x.given) c.write_word.ensures ∙ (given_written c.args.number (c.args.start + c.args.offset) c.args.value s.store ∙ ap (λ (x : Storage). x.given) c.self.view_is))
+
+pub returns-in-Some-clause-same : goal.returns-in-Some-clause-same
+returns-in-Some-clause-same c =
+    let s = c.self.inside in
+    let t = c.write_word.new.store in
+    same_but_objects c.args.self.now (view_of s.objects.values s.sizes.values t) (ap (λ (x : Storage). x.sizes) c.self.view_is)
     (ap (λ (x : Store). x.blocks) c.write_word.ensures ∙ (blocks_written c.args.number (c.args.start + c.args.offset) c.args.value s.store ∙ ap (λ (x : Storage). x.blocks) c.self.view_is))
     (ap (λ (x : Store). x.given) c.write_word.ensures ∙ (given_written c.args.number (c.args.start + c.args.offset) c.args.value s.store ∙ ap (λ (x : Storage). x.given) c.self.view_is))
