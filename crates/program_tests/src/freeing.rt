@@ -107,7 +107,7 @@ fn members_are_freed_in_the_end_of_their_collection(rt: HostRuntime) -> Result<(
 /// An object that is being finalized is freed, one of no collection, and one that is gone (RM 13.11.2).
 #[test]
 fn erroneous_frees_stop(rt: HostRuntime) -> Result<(), Fail> {
-    const CASES: &[(&str, &str)] = &[
+    for (text, wanted) in [
         (
             CYCLE,
             "3|live 3 c1\nlive 4 c1\nfinalize 4 collection\nprint N 2\nnewline\nfinalize 3 free\nprint N 1\nnewline\nend stopped FREE_WHILE_FINALIZING\n|adactl: picks 1\nadactl: stopped FREE_WHILE_FINALIZING\n",
@@ -136,8 +136,7 @@ fn erroneous_frees_stop(rt: HostRuntime) -> Result<(), Fail> {
             FAILING,
             "3|live 3 c1\nfinalize 3 free\nprint TRUE\nnewline\nend stopped USE_AFTER_FREE\n|adactl: picks none\nadactl: stopped USE_AFTER_FREE\n",
         ),
-    ];
-    for (text, wanted) in CASES {
+    ] {
         told(&rt, rt.alloc(), Order::Newest, text, wanted)?;
     }
     Ok(())

@@ -1,6 +1,6 @@
 //! Runs of texts with functions: what is shown, and the choices that were made (RM 6.1, 6.4, 6.5).
 
-use crate::jobs::{ran, told};
+use crate::jobs::{order_job, ran, served};
 use ctl_tree::request::Order;
 use std::test::Fail;
 
@@ -94,9 +94,12 @@ fn returns_leave_loops_and_blocks(rt: HostRuntime) -> Result<(), Fail> {
 /// A value is lost where the finalization behind it fails (RM 7.6.1).
 #[test]
 fn failing_finalizations_take_the_place_of_results(rt: HostRuntime) -> Result<(), Fail> {
+    let alloc = rt.alloc();
+    let got = served(alloc, order_job(alloc, Order::Newest), FAILING_FINALIZE)?;
     let wanted =
         "1|live 2 m2\nfinalize 2 scope\nend raised Program_Error\n|adactl: picks none\nadactl: raised Program_Error\n";
-    told(&rt, rt.alloc(), Order::Newest, FAILING_FINALIZE, wanted)
+    assert_eq!(rt; got.as_str(), wanted, "a failing Finalize");
+    Ok(())
 }
 
 /// A call stands wherever an expression does (RM 4.4, 6.4).

@@ -48,7 +48,7 @@ const CONVERTED: &str =
 #[test]
 fn components_of_what_calls_designate(rt: HostRuntime) -> Result<(), Fail> {
     let alloc = rt.alloc();
-    const CASES: &[(&str, &str)] = &[
+    for (text, wanted) in [
         (
             COMPONENT,
             "print  3 5\nnewline\nprint  6\nnewline\nend done\n",
@@ -58,8 +58,7 @@ fn components_of_what_calls_designate(rt: HostRuntime) -> Result<(), Fail> {
             "print name\nnewline\nprint value\nnewline\nprint  7\nnewline\nend done\n",
         ),
         (CONVERTED, "print  8\nnewline\nend done\n"),
-    ];
-    for (text, wanted) in CASES {
+    ] {
         ran(&rt, alloc, text, wanted)?;
     }
     Ok(())

@@ -112,7 +112,7 @@ fn run_job(alloc: Global, show: Show, steps: u64) -> Job {
 }
 
 /// A job to run a file in an order, and to show the trace.
-fn order_job(alloc: Global, order: Order) -> Job {
+pub(crate) fn order_job(alloc: Global, order: Order) -> Job {
     Job::Run {
         file: String::new(alloc),
         show: Show::Trace,
@@ -134,7 +134,7 @@ fn serve_on<R: Read + Drop, W: Write, E: Write>(
 }
 
 /// The status of a job on a text, what it printed and what it said, with bars between them.
-fn served(alloc: Global, job: Job, source: &str) -> Result<String, Fail> {
+pub(crate) fn served(alloc: Global, job: Job, source: &str) -> Result<String, Fail> {
     let mut out = Vec::new(alloc);
     let mut err = Vec::new(alloc);
     let status = serve_on(alloc, job, source.as_bytes(), &mut out, &mut err);
@@ -166,125 +166,100 @@ pub(crate) fn ran(rt: &impl Abort, alloc: Global, text: &str, wanted: &str) -> R
 #[test]
 fn choices_are_told_by_order(rt: HostRuntime) -> Result<(), Fail> {
     let alloc = rt.alloc();
-    told(
-        &rt,
-        alloc,
-        Order::Newest,
-        DEFAULTS,
-        "0|live 1 m2\nfinalize 1 scope\nend done\n|adactl: picks 2,1\n",
-    )?;
-    told(
-        &rt,
-        alloc,
-        Order::Oldest,
-        DEFAULTS,
-        "0|live 1 m2\nfinalize 1 scope\nend done\n|adactl: picks 0,0\n",
-    )
-}
-
-/// Does a job on a text, and compares its status, what it printed and what it said, with bars between them.
-fn ends_with(
-    rt: &impl Abort,
-    alloc: Global,
-    job: Job,
-    source: &str,
-    wanted: &str,
-) -> Result<(), Fail> {
-    let shown = served(alloc, job, source)?;
-    assert_eq!(rt; shown.as_str(), wanted, "at {source}");
+    for (order, wanted) in [
+        (
+            Order::Newest,
+            "0|live 1 m2\nfinalize 1 scope\nend done\n|adactl: picks 2,1\n",
+        ),
+        (
+            Order::Oldest,
+            "0|live 1 m2\nfinalize 1 scope\nend done\n|adactl: picks 0,0\n",
+        ),
+    ] {
+        let got = served(alloc, order_job(alloc, order), DEFAULTS)?;
+        assert_eq!(rt; got.as_str(), wanted, "by order");
+    }
     Ok(())
 }
 
 #[test]
 fn jobs_end_with_their_status_and_lines(rt: HostRuntime) -> Result<(), Fail> {
-    const CASES: &[(Show, u64, &str, &str)] = &[
-        (Show::Output, 1000, EMPTY, "0||"),
-        (Show::Output, 1000, TWO_OBJECTS, "0|i\nin\nb\na\nout\n|"),
-        (Show::Output, 0, TWO_OBJECTS, "4||adactl: step limit\n"),
+    let alloc = rt.alloc();
+    let traced = format!(in alloc; "0|{TWO_OBJECTS_TRACE}|adactl: picks none\n")?;
+    let cases = [
+        (check_job(alloc), EMPTY, "0|ok\n|"),
+        (check_job(alloc), "", "2||adactl: 1:1: 10 UNEXPECTED\n"),
+        (run_job(alloc, Show::Output, 1000), EMPTY, "0||"),
         (
-            Show::Trace,
-            0,
+            run_job(alloc, Show::Output, 1000),
+            TWO_OBJECTS,
+            "0|i\nin\nb\na\nout\n|",
+        ),
+        (
+            run_job(alloc, Show::Trace, 1000),
+            TWO_OBJECTS,
+            traced.as_str(),
+        ),
+        (
+            run_job(alloc, Show::Output, 0),
+            TWO_OBJECTS,
+            "4||adactl: step limit\n",
+        ),
+        (
+            run_job(alloc, Show::Trace, 0),
             EMPTY,
             "4|end limit\n|adactl: picks none\nadactl: step limit\n",
         ),
-        (Show::Trace, 9, "", "2||adactl: 1:1: 10 UNEXPECTED\n"),
+        (
+            run_job(alloc, Show::Trace, 9),
+            "",
+            "2||adactl: 1:1: 10 UNEXPECTED\n",
+        ),
     ];
-    let alloc = rt.alloc();
-    ends_with(&rt, alloc, check_job(alloc), EMPTY, "0|ok\n|")?;
-    ends_with(
-        &rt,
-        alloc,
-        check_job(alloc),
-        "",
-        "2||adactl: 1:1: 10 UNEXPECTED\n",
-    )?;
-    ran(&rt, alloc, TWO_OBJECTS, TWO_OBJECTS_TRACE)?;
-    for (show, steps, source, wanted) in CASES {
-        ends_with(&rt, alloc, run_job(alloc, *show, *steps), source, wanted)?;
+    for (job, source, wanted) in cases {
+        let shown = served(alloc, job, source)?;
+        assert_eq!(rt; shown.as_str(), wanted, "at {source}");
     }
     Ok(())
-}
-
-/// What is said of an end.
-fn said_of(alloc: Global, end: &End) -> Vec<u8> {
-    let mut err = Vec::new(alloc);
-    say_end(&mut err, end);
-    err
-}
-
-/// Compares the status of an end and what is said of it; the end is let go.
-fn end_has(rt: &impl Abort, alloc: Global, end: End, status: Status, wanted: &str) {
-    let (got, err) = (status_of_end(&end), said_of(alloc, &end));
-    drop(end);
-    assert_eq!(rt; got, status);
-    assert_eq!(rt; err.as_slice(), wanted.as_bytes());
 }
 
 #[test]
 fn each_end_has_its_status_and_line(rt: HostRuntime) -> Result<(), Fail> {
     let alloc = rt.alloc();
     let raised = Text::from_slice(alloc, b"Constraint_Error")?;
-    end_has(
-        &rt,
-        alloc,
-        End::Raised(raised),
-        Status::Raised,
-        "adactl: raised Constraint_Error\n",
-    );
-    end_has(&rt, alloc, End::Done, Status::Done, "");
-    end_has(
-        &rt,
-        alloc,
-        End::Stopped(Stop::BadAddress),
-        Status::Stopped,
-        "adactl: stopped BAD_ADDRESS\n",
-    );
-    end_has(
-        &rt,
-        alloc,
-        End::StepLimit,
-        Status::StepLimit,
-        "adactl: step limit\n",
-    );
-    end_has(
-        &rt,
-        alloc,
-        End::HostMemory,
-        Status::HostMemory,
-        "adactl: host memory\n",
-    );
+    let cases = [
+        (End::Done, Status::Done, ""),
+        (
+            End::Raised(raised),
+            Status::Raised,
+            "adactl: raised Constraint_Error\n",
+        ),
+        (
+            End::Stopped(Stop::BadAddress),
+            Status::Stopped,
+            "adactl: stopped BAD_ADDRESS\n",
+        ),
+        (End::StepLimit, Status::StepLimit, "adactl: step limit\n"),
+        (End::HostMemory, Status::HostMemory, "adactl: host memory\n"),
+    ];
+    for (end, status, wanted) in cases {
+        assert_eq!(rt; status_of_end(&end), status);
+        let mut err = Vec::new(alloc);
+        say_end(&mut err, &end);
+        assert_eq!(rt; err.as_slice(), wanted.as_bytes());
+    }
     Ok(())
 }
 
 #[test]
 fn picks_are_numbers_with_commas(rt: HostRuntime) -> Result<(), Fail> {
-    const CASES: &[(&[u64], &str)] = &[
-        (&[], "adactl: picks none\n"),
+    let alloc = rt.alloc();
+    for (picks, wanted) in [
+        ([].as_slice(), "adactl: picks none\n"),
         (&[1], "adactl: picks 1\n"),
         (&[1, 0, 12], "adactl: picks 1,0,12\n"),
-    ];
-    for (picks, wanted) in CASES {
-        let mut err = Vec::new(rt.alloc());
+    ] {
+        let mut err = Vec::new(alloc);
         let picks = Picks(picks);
         say(&mut err, format_args!("picks {picks}"));
         assert_eq!(rt; err.as_slice(), wanted.as_bytes());
@@ -366,102 +341,71 @@ fn put_in(
     Ok((result, failed))
 }
 
-/// Puts a run whose text is made in a heap of so many units: whether this text was put; else nothing was, for want of memory.
-fn is_put(
-    rt: &impl Abort,
-    alloc: Global,
-    units: usize,
-    outcome: &Outcome,
-    show: Show,
-    text: &str,
-) -> Result<bool, AllocError> {
-    let mut out = Vec::new(alloc);
-    let (result, failed) = put_in(alloc, units * HEAP_UNIT, outcome, show, &mut out)?;
-    assert!(rt; !failed, "at {units}");
-    let is_put = result.is_ok();
-    if let Err(fault) = result {
-        assert_eq!(rt; fault, RunFault::Refused(Fault::memory()));
-    }
-    assert_eq!(rt; out.as_slice(), if is_put { text.as_bytes() } else { b"" });
-    Ok(is_put)
-}
-
-/// Puts a run as the heap rises by its unit: small heaps refuse it, and none behind the first that does not.
-fn is_put_in_turn(
-    rt: &impl Abort,
-    alloc: Global,
-    outcome: &Outcome,
-    show: Show,
-    text: &str,
-) -> Result<(), AllocError> {
-    let mut was_refused = false;
-    let mut was_put = false;
-    for units in 1..96 {
-        if is_put(rt, alloc, units, outcome, show, text)? {
-            was_put = true;
-        } else {
-            assert!(rt; !was_put, "at {units}");
-            was_refused = true;
-        }
-    }
-    assert!(rt; was_refused && was_put);
-    Ok(())
-}
-
 /// Each growth of the text is once the first that is refused, as the heap rises by its unit.
 #[test]
 fn a_text_that_has_no_room_is_not_put(rt: HostRuntime) -> Result<(), Fail> {
     let alloc = rt.alloc();
     let source = TWO_OBJECTS.as_bytes();
     let outcome = run_source(alloc, source, Order::Newest, 1000).map_err(|_| "refused")?;
-    let output = is_put_in_turn(&rt, alloc, &outcome, Show::Output, TWO_OBJECTS_OUTPUT);
-    let trace = is_put_in_turn(&rt, alloc, &outcome, Show::Trace, TWO_OBJECTS_TRACE);
-    drop(outcome);
-    output?;
-    trace?;
+    for (show, text) in [
+        (Show::Output, TWO_OBJECTS_OUTPUT),
+        (Show::Trace, TWO_OBJECTS_TRACE),
+    ] {
+        let mut was_refused = false;
+        let mut was_put = false;
+        for units in 1..96 {
+            let mut out = Vec::new(alloc);
+            let (result, failed) = put_in(alloc, units * HEAP_UNIT, &outcome, show, &mut out)?;
+            assert!(rt; !failed, "at {units}");
+            match result {
+                Ok(()) => {
+                    assert_eq!(rt; out.as_slice(), text.as_bytes());
+                    was_put = true;
+                }
+                Err(fault) => {
+                    assert!(rt; !was_put, "at {units}");
+                    assert_eq!(rt; fault, RunFault::Refused(Fault::memory()));
+                    assert_eq!(rt; out.len(), 0);
+                    was_refused = true;
+                }
+            }
+        }
+        assert!(rt; was_refused);
+        assert!(rt; was_put);
+    }
     Ok(())
-}
-
-/// Does a job whose writer takes two bytes.
-fn fails_to_write(rt: &impl Abort, alloc: Global, job: Job) {
-    let mut out = Limited::new(alloc, 9, 2);
-    let mut err = Vec::new(alloc);
-    let source = EMPTY.as_bytes();
-    assert_eq!(rt; serve_on(alloc, job, source, &mut out, &mut err), 74);
-    assert_eq!(rt; err.as_slice(), b"adactl: write failed\n".as_slice());
 }
 
 #[test]
 fn failed_writes_have_status_74(rt: HostRuntime) {
     let alloc = rt.alloc();
-    fails_to_write(&rt, alloc, check_job(alloc));
-    fails_to_write(&rt, alloc, run_job(alloc, Show::Trace, 1000));
-}
-
-/// Does a job whose writer takes all but loses its flush, and compares what it took.
-fn fails_to_flush(rt: &impl Abort, alloc: Global, job: Job, text: &str) {
-    let mut out = Limited::new(alloc, 9, 10_000);
-    out.loses_flush = true;
-    let mut err = Vec::new(alloc);
-    let source = TWO_OBJECTS.as_bytes();
-    assert_eq!(rt; serve_on(alloc, job, source, &mut out, &mut err), 74);
-    assert_eq!(rt; err.as_slice(), b"adactl: write failed\n".as_slice());
-    assert_eq!(rt; out.bytes.as_slice(), text.as_bytes());
+    for job in [check_job(alloc), run_job(alloc, Show::Trace, 1000)] {
+        let mut out = Limited::new(alloc, 9, 2);
+        let mut err = Vec::new(alloc);
+        let source = EMPTY.as_bytes();
+        assert_eq!(rt; serve_on(alloc, job, source, &mut out, &mut err), 74);
+        assert_eq!(rt; err.as_slice(), b"adactl: write failed\n".as_slice());
+    }
 }
 
 /// The output is passed on before anything is said of how the job ended: a flush that fails is all that is told.
 #[test]
 fn failed_flushes_have_status_74(rt: HostRuntime) {
     let alloc = rt.alloc();
-    fails_to_flush(&rt, alloc, check_job(alloc), "ok\n");
-    fails_to_flush(
-        &rt,
-        alloc,
-        run_job(alloc, Show::Trace, 1000),
-        TWO_OBJECTS_TRACE,
-    );
-    fails_to_flush(&rt, alloc, run_job(alloc, Show::Trace, 0), "end limit\n");
-    fails_to_flush(&rt, alloc, run_job(alloc, Show::Output, 0), "");
+    for (job, text) in [
+        (check_job(alloc), "ok\n"),
+        (run_job(alloc, Show::Trace, 1000), TWO_OBJECTS_TRACE),
+        (run_job(alloc, Show::Trace, 0), "end limit\n"),
+        (run_job(alloc, Show::Output, 0), ""),
+    ] {
+        let mut out = Limited::new(alloc, 9, 10_000);
+        out.loses_flush = true;
+        let mut err = Vec::new(alloc);
+        let source = TWO_OBJECTS.as_bytes();
+        assert_eq!(rt; serve_on(alloc, job, source, &mut out, &mut err), 74);
+        assert_eq!(rt; err.as_slice(), b"adactl: write failed\n".as_slice());
+        assert_eq!(rt; out.bytes.as_slice(), text.as_bytes());
+    }
 }
 
 #[test]

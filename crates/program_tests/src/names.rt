@@ -4,7 +4,6 @@ use ctl_front::program::{program_of, resolved_of};
 use ctl_syntax::denoted::{Denoted, Named};
 use ctl_syntax::item::Statement;
 use std::alloc::Global;
-use std::process::Abort;
 use std::test::Fail;
 
 /// The lines of a text that stand before a procedure whose types are controlled.
@@ -13,7 +12,7 @@ const FINALIZATION: &str =
 
 #[test]
 fn names_and_their_faults(rt: HostRuntime) -> Result<(), Fail> {
-    const CASES: &[(&str, &str)] = &[
+    for (source, wanted) in [
         ("procedure Main is begin null; end Main;", ""),
         (
             "procedure Main is begin Put_Line (\"x\"); end Main;",
@@ -69,9 +68,9 @@ fn names_and_their_faults(rt: HostRuntime) -> Result<(), Fail> {
             "procedure Main is procedure P (X : Integer) is X : Integer; begin null; end P; begin null; end Main;",
             "1:48: 21 DUPLICATE",
         ),
-    ];
-    for (source, wanted) in CASES {
-        judged(&rt, rt.alloc(), "", source, wanted)?;
+    ] {
+        let shown = answer(rt.alloc(), source)?;
+        assert_eq!(rt; shown.as_str(), wanted);
     }
     Ok(())
 }
@@ -79,7 +78,7 @@ fn names_and_their_faults(rt: HostRuntime) -> Result<(), Fail> {
 /// A declaration of the text hides the library's name that a use clause makes direct.
 #[test]
 fn own_names_hide_used_ones(rt: HostRuntime) -> Result<(), Fail> {
-    const CASES: &[(&str, bool)] = &[
+    for (source, is_own) in [
         (
             "with Ada.Text_IO; use Ada.Text_IO; procedure Main is procedure New_Line is begin null; end New_Line; begin New_Line; end Main;",
             true,
@@ -88,19 +87,14 @@ fn own_names_hide_used_ones(rt: HostRuntime) -> Result<(), Fail> {
             "with Ada.Text_IO; use Ada.Text_IO; procedure Main is begin New_Line; end Main;",
             false,
         ),
-    ];
-    for (source, is_own) in CASES {
-        assert_eq!(rt; calls_own(rt.alloc(), source)?, *is_own);
+    ] {
+        let tree = resolved_of(rt.alloc(), source.as_bytes()).map_err(|_| "refused")?;
+        assert_eq!(rt;
+            matches!(called(&tree), Some(Denoted::Declared(_, 1))),
+            is_own
+        );
     }
     Ok(())
-}
-
-/// Whether the first statement of the main procedure calls a declaration of the text.
-fn calls_own(alloc: Global, source: &str) -> Result<bool, Fail> {
-    let tree = resolved_of(alloc, source.as_bytes()).map_err(|_| "refused")?;
-    let is_own = matches!(called(&tree), Some(Denoted::Declared(_, 1)));
-    drop(tree);
-    Ok(is_own)
 }
 
 /// What the first statement of the main procedure calls.
@@ -113,7 +107,7 @@ fn called(tree: &Named) -> Option<Denoted> {
 
 #[test]
 fn freezing_and_its_faults(rt: HostRuntime) -> Result<(), Fail> {
-    const CASES: &[(&str, &str)] = &[
+    for (source, wanted) in [
         // an operation behind the first body, which froze its type
         (
             "procedure P is begin null; end P;\noverriding procedure Finalize (X : in out T);\nprocedure Finalize (X : in out T) is begin null; end Finalize;\nbegin null; end Main;",
@@ -153,16 +147,17 @@ fn freezing_and_its_faults(rt: HostRuntime) -> Result<(), Fail> {
             "type A is access T;\noverriding procedure Adjust (X : in out T);\nprocedure Adjust (X : in out T) is begin null; end Adjust;\nbegin null; end Main;",
             "",
         ),
-    ];
-    for (source, wanted) in CASES {
-        judged(&rt, rt.alloc(), FINALIZATION, source, wanted)?;
+    ] {
+        let whole = join(rt.alloc(), FINALIZATION, source)?;
+        let shown = answer(rt.alloc(), whole.as_str())?;
+        assert_eq!(rt; shown.as_str(), wanted);
     }
     Ok(())
 }
 
 #[test]
 fn objects_that_call(rt: HostRuntime) -> Result<(), Fail> {
-    const CASES: &[(&str, &str)] = &[
+    for (source, wanted) in [
         (
             "procedure Main is\nfunction F return Integer;\nV : Integer := F;\nfunction F return Integer is begin return 1; end F;\nbegin null; end Main;",
             "3:1: 24 ELAB",
@@ -175,9 +170,9 @@ fn objects_that_call(rt: HostRuntime) -> Result<(), Fail> {
             "procedure Main is\nfunction F return Integer;\ntype R is record N : Integer := F; end record;\nV : R;\nfunction F return Integer is begin return 1; end F;\nbegin null; end Main;",
             "4:1: 24 ELAB",
         ),
-    ];
-    for (source, wanted) in CASES {
-        judged(&rt, rt.alloc(), "", source, wanted)?;
+    ] {
+        let shown = answer(rt.alloc(), source)?;
+        assert_eq!(rt; shown.as_str(), wanted);
     }
     Ok(())
 }
@@ -186,7 +181,7 @@ fn objects_that_call(rt: HostRuntime) -> Result<(), Fail> {
 fn storage_pools(rt: HostRuntime) -> Result<(), Fail> {
     const BEGIN: &str =
         "with Block_Pools; use Block_Pools; with Ada.Unchecked_Deallocation;\nprocedure Main is\nP : Block_Pool (16, 4);\ntype R is record N : Integer; end record;\ntype A is access R;\n";
-    const CASES: &[(&str, &str)] = &[
+    for (source, wanted) in [
         (
             "for A'Storage_Pool use P;\nV : A;\nbegin null; end Main;",
             "",
@@ -221,9 +216,10 @@ fn storage_pools(rt: HostRuntime) -> Result<(), Fail> {
             "type L is record X : A; end record;\ntype M is access L;\ntype K is record Y : M := new L; end record;\nfor A'Storage_Pool use P;\nbegin null; end Main;",
             "",
         ),
-    ];
-    for (source, wanted) in CASES {
-        judged(&rt, rt.alloc(), BEGIN, source, wanted)?;
+    ] {
+        let whole = join(rt.alloc(), BEGIN, source)?;
+        let shown = answer(rt.alloc(), whole.as_str())?;
+        assert_eq!(rt; shown.as_str(), wanted);
     }
     Ok(())
 }
@@ -233,7 +229,7 @@ fn storage_pools(rt: HostRuntime) -> Result<(), Fail> {
 fn names_that_freeze(rt: HostRuntime) -> Result<(), Fail> {
     const BEGIN: &str =
         "with Ada.Finalization; use Ada.Finalization; with Block_Pools; use Block_Pools;\nprocedure Main is\ntype Node;\ntype Ref is access Node;\ntype Other is access Node;\ntype Node is new Controlled with record N : Integer; Next : Ref; end record;\nP : Block_Pool (16, 4);\nA : Other;\n";
-    const CASES: &[(&str, &str)] = &[
+    for (source, wanted) in [
         // a component through an access value, with and without the word
         (
             "X : Boolean := A.Next = null;\nfor Ref'Storage_Pool use P;\nbegin null; end Main;",
@@ -281,9 +277,10 @@ fn names_that_freeze(rt: HostRuntime) -> Result<(), Fail> {
             "type G is access all Node;\nX : Integer := G (A).N;\nfor G'Storage_Pool use P;\nbegin null; end Main;",
             "",
         ),
-    ];
-    for (source, wanted) in CASES {
-        judged(&rt, rt.alloc(), BEGIN, source, wanted)?;
+    ] {
+        let whole = join(rt.alloc(), BEGIN, source)?;
+        let shown = answer(rt.alloc(), whole.as_str())?;
+        assert_eq!(rt; shown.as_str(), wanted);
     }
     Ok(())
 }
@@ -295,7 +292,7 @@ fn objects_that_allocate(rt: HostRuntime) -> Result<(), Fail> {
         "with Block_Pools; use Block_Pools; with System; use System; with System.Storage_Elements; use System.Storage_Elements;\nprocedure Main is\ntype D is record N : Integer; end record;\ntype K is new Block_Pool with null record;\nprocedure Allocate (Pool : in out K; A : out Address; S, L : Storage_Count);\nP : K (16, 4);\ntype A is access D;\ntype B is access D;\nfor A'Storage_Pool use P;\n";
     const BODY: &str =
         "procedure Allocate (Pool : in out K; A : out Address; S, L : Storage_Count) is begin null; end Allocate;\nbegin null; end Main;";
-    const CASES: &[(&str, &str)] = &[
+    for (source, wanted) in [
         ("V : A := new D;\n", "10:1: 24 ELAB"),
         ("V : A;\n", ""),
         // an access type to the same, without this pool
@@ -323,17 +320,12 @@ fn objects_that_allocate(rt: HostRuntime) -> Result<(), Fail> {
             "procedure Allocate (Pool : in out K; A : out Address; S, L : Storage_Count) is begin null; end Allocate;\nV : A := new D;\nbegin null; end Main;",
             "",
         ),
-    ];
-    for (source, wanted) in CASES {
-        let end = if source.ends_with("end Main;") {
-            ""
-        } else {
-            BODY
-        };
-        let rest = join(rt.alloc(), source, end)?;
-        let is_judged = judged(&rt, rt.alloc(), BEGIN, rest.as_str(), wanted);
-        drop(rest);
-        is_judged?;
+    ] {
+        let begun = join(rt.alloc(), BEGIN, source)?;
+        let is_whole = source.ends_with("end Main;");
+        let whole = join(rt.alloc(), begun.as_str(), if is_whole { "" } else { BODY })?;
+        let shown = answer(rt.alloc(), whole.as_str())?;
+        assert_eq!(rt; shown.as_str(), wanted);
     }
     Ok(())
 }
@@ -342,7 +334,7 @@ fn objects_that_allocate(rt: HostRuntime) -> Result<(), Fail> {
 fn inherited_components(rt: HostRuntime) -> Result<(), Fail> {
     const BEGIN: &str =
         "with Ada.Finalization; use Ada.Finalization; with Block_Pools; use Block_Pools;\nprocedure Main is\ntype T is new Controlled with record N : Integer; end record;\n";
-    const CASES: &[(&str, &str)] = &[
+    for (source, wanted) in [
         // the second of two identifiers repeats the parent's component
         (
             "type U is new T with record M, N : Integer; end record;\nbegin null; end Main;",
@@ -381,9 +373,10 @@ fn inherited_components(rt: HostRuntime) -> Result<(), Fail> {
             "type K is new Block_Pool with record Pool_Size : Integer; end record;\nbegin null; end Main;",
             "",
         ),
-    ];
-    for (source, wanted) in CASES {
-        judged(&rt, rt.alloc(), BEGIN, source, wanted)?;
+    ] {
+        let whole = join(rt.alloc(), BEGIN, source)?;
+        let shown = answer(rt.alloc(), whole.as_str())?;
+        assert_eq!(rt; shown.as_str(), wanted);
     }
     Ok(())
 }
@@ -392,7 +385,7 @@ fn inherited_components(rt: HostRuntime) -> Result<(), Fail> {
 fn operations_by_profile(rt: HostRuntime) -> Result<(), Fail> {
     const BEGIN: &str =
         "with Ada.Finalization; use Ada.Finalization; with Block_Pools; use Block_Pools; with System; with System.Storage_Elements; use System.Storage_Elements;\nprocedure Main is\n";
-    const CASES: &[(&str, &str)] = &[
+    for (source, wanted) in [
         // a second parameter, another mode or a result makes no operation of the type: the name is wrong, and nothing else
         (
             "type T is new Controlled with null record;\nV : T;\nprocedure Finalize (X : in out T; Y : Integer);\nprocedure Finalize (X : in out T; Y : Integer) is begin null; end Finalize;\nbegin null; end Main;",
@@ -433,9 +426,10 @@ fn operations_by_profile(rt: HostRuntime) -> Result<(), Fail> {
             "type K is new Block_Pool with null record;\nP : K (16, 4);\nprocedure Deallocate (Pool : in out K; A : System.Address; S : in Storage_Count; L : Storage_Count);\nprocedure Deallocate (Pool : in out K; A : System.Address; S : in Storage_Count; L : Storage_Count) is begin null; end Deallocate;\nbegin null; end Main;",
             "5:11: 26 LATE_PRIMITIVE",
         ),
-    ];
-    for (source, wanted) in CASES {
-        judged(&rt, rt.alloc(), BEGIN, source, wanted)?;
+    ] {
+        let whole = join(rt.alloc(), BEGIN, source)?;
+        let shown = answer(rt.alloc(), whole.as_str())?;
+        assert_eq!(rt; shown.as_str(), wanted);
     }
     Ok(())
 }
@@ -443,33 +437,9 @@ fn operations_by_profile(rt: HostRuntime) -> Result<(), Fail> {
 /// The first fault of a text, or nothing.
 fn answer(alloc: Global, source: &str) -> Result<String, Fail> {
     match program_of(alloc, source.as_bytes()) {
-        Ok(program) => {
-            drop(program);
-            Ok(String::new(alloc))
-        }
+        Ok(_) => Ok(String::new(alloc)),
         Err(fault) => Ok(fault.to_string(alloc)?),
     }
-}
-
-/// The first fault of a text of two parts, or nothing.
-fn answer_of(alloc: Global, first: &str, second: &str) -> Result<String, Fail> {
-    let whole = join(alloc, first, second)?;
-    let shown = answer(alloc, whole.as_str());
-    drop(whole);
-    shown
-}
-
-/// Judges a text of two parts, and compares its first fault, or nothing.
-fn judged(
-    rt: &impl Abort,
-    alloc: Global,
-    first: &str,
-    second: &str,
-    wanted: &str,
-) -> Result<(), Fail> {
-    let shown = answer_of(alloc, first, second)?;
-    assert_eq!(rt; shown.as_str(), wanted, "of {second}");
-    Ok(())
 }
 
 fn join(alloc: Global, first: &str, second: &str) -> Result<String, Fail> {

@@ -1,6 +1,6 @@
 //! Runs of texts whose objects have controlled parts, by both orders: what is shown, and the choices that were made.
 
-use crate::jobs::told;
+use crate::jobs::{order_job, served};
 use ctl_tree::request::Order;
 use std::alloc::Global;
 use std::process::Abort;
@@ -42,8 +42,11 @@ fn ran_by_order(
     newest: &str,
     oldest: &str,
 ) -> Result<(), Fail> {
-    told(rt, alloc, Order::Newest, text, newest)?;
-    told(rt, alloc, Order::Oldest, text, oldest)
+    for (order, wanted) in [(Order::Newest, newest), (Order::Oldest, oldest)] {
+        let got = served(alloc, order_job(alloc, order), text)?;
+        assert_eq!(rt; got.as_str(), wanted, "by order");
+    }
+    Ok(())
 }
 
 /// The parts of an object are created one chosen after another, before the whole, and finalized so behind it (RM 7.6, 7.6.1).

@@ -2,7 +2,6 @@
 
 use ctl_job::{Job, UsageFault, job_of};
 use std::alloc::{AllocError, Global};
-use std::process::Abort;
 use std::test::Fail;
 
 /// The job that the words of a line ask for, words apart by one blank, as its `Debug` shows it.
@@ -17,43 +16,38 @@ fn job_shown(alloc: Global, line: &str) -> Result<String, AllocError> {
     format!(in alloc; "{job:?}")
 }
 
-/// Asks what the words of a line ask for, and compares it.
-fn asks_for(rt: &impl Abort, alloc: Global, line: &str, wanted: &str) -> Result<(), Fail> {
-    let shown = job_shown(alloc, line)?;
-    assert_eq!(rt; shown.as_str(), wanted, "at {line}");
-    Ok(())
-}
-
 #[test]
 fn words_ask_for_jobs(rt: HostRuntime) -> Result<(), Fail> {
-    const CASES: &[(&str, &str)] = &[
-        ("check a.adb", "Ok(Check { file: \"a.adb\" })"),
+    let cases = [
+        ("check a.adb", "Check { file: \"a.adb\" }"),
         (
             "run a.adb",
-            "Ok(Run { file: \"a.adb\", show: Output, order: Newest, steps: 10000000 })",
+            "Run { file: \"a.adb\", show: Output, order: Newest, steps: 10000000 }",
         ),
         (
             "run a.adb --trace --order oldest --steps 5",
-            "Ok(Run { file: \"a.adb\", show: Trace, order: Oldest, steps: 5 })",
+            "Run { file: \"a.adb\", show: Trace, order: Oldest, steps: 5 }",
         ),
         (
             "run --steps=18446744073709551615 --order=newest a.adb",
-            "Ok(Run { file: \"a.adb\", show: Output, order: Newest, steps: 18446744073709551615 })",
+            "Run { file: \"a.adb\", show: Output, order: Newest, steps: 18446744073709551615 }",
         ),
         (
             "run --trace -- --trace",
-            "Ok(Run { file: \"--trace\", show: Trace, order: Newest, steps: 10000000 })",
+            "Run { file: \"--trace\", show: Trace, order: Newest, steps: 10000000 }",
         ),
     ];
-    for (line, wanted) in CASES {
-        asks_for(&rt, rt.alloc(), line, wanted)?;
+    for (line, wanted) in cases {
+        let shown = job_shown(rt.alloc(), line)?;
+        let wanted = format!(in rt.alloc(); "Ok({wanted})")?;
+        assert_eq!(rt; shown.as_str(), wanted.as_str(), "at {line}");
     }
     Ok(())
 }
 
 #[test]
 fn other_words_are_usage_faults(rt: HostRuntime) -> Result<(), Fail> {
-    const LINES: &[&str] = &[
+    let lines = [
         "",
         "--help",
         "-h",
@@ -80,8 +74,9 @@ fn other_words_are_usage_faults(rt: HostRuntime) -> Result<(), Fail> {
         "run a.adb --steps",
         "run a.adb --trace=yes",
     ];
-    for line in LINES {
-        asks_for(&rt, rt.alloc(), line, "Err(Usage)")?;
+    for line in lines {
+        let shown = job_shown(rt.alloc(), line)?;
+        assert_eq!(rt; shown.as_str(), "Err(Usage)", "at {line}");
     }
     Ok(())
 }
