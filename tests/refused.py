@@ -25,6 +25,12 @@ ITEM = "procedure Main is "
 
 CONTROLLED = "with Ada.Finalization; use Ada.Finalization; procedure Main is "
 
+POOLS = "with Block_Pools; use Block_Pools; procedure Main is "
+
+ADDRESSES = "with System; with System.Storage_Elements; use System.Storage_Elements; " + POOLS
+
+MARK_POOLS = "with MR_Pools; use MR_Pools; procedure Main is "
+
 NESTED = "procedure Main is X : Integer; begin X := {}1{}; end Main;"
 
 # a text, and the code, line and column of its fault
@@ -157,6 +163,31 @@ TEXTS = [
     (ITEM + "type R is record N : Integer; end record; type P is access all R; X : aliased R; V : P; begin V := X'Access; end Main;", ACCEPTED, 1, 1),
     ("with Ada.Unchecked_Deallocation; " + ITEM + "type R is record N : Integer; end record; type P is access R; procedure Free is new Ada.Unchecked_Deallocation (R, P); V : P; begin Free (V); end Main;", ACCEPTED, 1, 1),
     (ITEM + "type R is record N : Integer; end record; type P is access R; type Q is access P; V : Q; begin V := new P'(null); end Main;", 12, 1, 114),
+    # block pools are run, by themselves and extended, whose discriminants are computed from literals
+    (POOLS + "P : Block_Pool (16, 4); type R is record N : Integer; end record; type A is access R; for A'Storage_Pool use P; V : A; begin V := new R; V.N := 1; end Main;", ACCEPTED, 1, 1),
+    (POOLS + "type R is record N : Integer; end record; P : Block_Pool (Block_Count => 4, Block_Size => 16); type A is access R with Storage_Pool => P; X : R; V : A := new R'(X); begin null; end Main;", ACCEPTED, 1, 1),
+    (POOLS + "type K is new Block_Pool with record N : Integer := 1; end record; procedure Finalize (X : in out K); procedure Finalize (X : in out K) is begin X.N := 2; end Finalize; P : K (8, 1); begin P.N := P.N + 1; end Main;", ACCEPTED, 1, 1),
+    (POOLS + "P : Block_Pool (4 + 4, 1); begin null; end Main;", ACCEPTED, 1, 1),
+    (POOLS + "P : Block_Pool (16, 1); procedure Q (X : in out Block_Pool) is begin null; end Q; begin Q (P); end Main;", ACCEPTED, 1, 1),
+    # a pool type with an Allocate or a Deallocate of its own is left out at its heading, but where no object has that type
+    (ADDRESSES + "type K is new Block_Pool with null record; procedure Allocate (Pool : in out K; A : out System.Address; S, L : in Storage_Count); procedure Allocate (Pool : in out K; A : out System.Address; S, L : in Storage_Count) is begin null; end Allocate; P : K (16, 1); begin null; end Main;", 12, 1, 169),
+    (ADDRESSES + "type K is new Block_Pool with null record; procedure Deallocate (Pool : in out K; A : in System.Address; S, L : in Storage_Count); procedure Deallocate (Pool : in out K; A : in System.Address; S, L : in Storage_Count) is begin null; end Deallocate; P : K (16, 1); begin null; end Main;", 12, 1, 169),
+    (ADDRESSES + "type K is new Block_Pool with null record; procedure Deallocate (Pool : in out K; A : in System.Address; S, L : in Storage_Count); procedure Deallocate (Pool : in out K; A : in System.Address; S, L : in Storage_Count) is begin null; end Deallocate; begin null; end Main;", ACCEPTED, 1, 1),
+    # calls of the library's operations, variables of type Storage_Count and Address, and conversions to the first
+    (ADDRESSES + "P : Block_Pool (16, 1); A : System.Address; begin Allocate (P, A, 8, 8); end Main;", 12, 1, 150),
+    (POOLS + "P : Block_Pool (16, 1); begin Finalize (P); end Main;", 12, 1, 84),
+    (ADDRESSES + "N : Storage_Count := 8; P : Block_Pool (N, 1); begin null; end Main;", 12, 1, 126),
+    (ADDRESSES + "P : Block_Pool (Storage_Count (8), 1); begin null; end Main;", 12, 1, 126),
+    # a discriminant that is read: only types tell it from a component
+    (POOLS + "P, Q : Block_Pool (16, 4); begin if P.Block_Size = Q.Block_Size then null; end if; end Main;", 12, 1, 36),
+    (POOLS + "P : Block_Pool (16, 4); Q : Block_Pool (P.Block_Size, 1); begin null; end Main;", 12, 1, 78),
+    # pools with marks, and objects in a pool that are no records
+    (MARK_POOLS + "P : Mark_Release_Pool (64); begin null; end Main;", 12, 1, 48),
+    (MARK_POOLS + "type R is record N : Integer; end record; P : Mark_Release_Pool (64); type A is access R with Storage_Pool => P; V : A; begin V := new R; end Main;", 12, 1, 90),
+    (POOLS + "P : Block_Pool (16, 1); type A is access Integer with Storage_Pool => P; V : A; begin V := new Integer; end Main;", 12, 1, 78),
+    # a rule on types comes before
+    (POOLS + "P : Block_Pool (8, 2147483648); Q : Mark_Release_Pool (64); begin null; end Main;", 20, 1, 90),
+    (MARK_POOLS + "Q : Mark_Release_Pool (64); P : Mark_Release_Pool (2147483648); begin null; end Main;", 34, 1, 99),
     # handlers are run
     (ITEM + "begin null; exception when others => raise; end Main;", ACCEPTED, 1, 1),
     # a type that extends another of the text inherits its components

@@ -13,5 +13,6 @@ pub mod Numbered
 pub mod Numbers
 pub mod Shapes
 pub mod Small
+pub mod Storage
 pub mod Texts
 pub mod Whole

@@ -10,13 +10,17 @@ ghost use Rattle.ctl_code.specs.declared.code.Cell.{Cell};
 ghost use Rattle.ctl_code.specs.declared.code.Operator.{Operator};
 ghost use Rattle.ctl_code.specs.declared.code.Instr.TheVariants as I;
 ghost use Rattle.ctl_code.specs.Kinds.{changed, stack_at};
-ghost use Rattle.ctl_code.specs.Valid.{HasFormals, HaveOperands, IsCalled, IsOperandAt, Bounded, DropsPart, IsAccess, IsAllocable, HasCollection, IsAtEnd, IsDeclarable, IsEntry, IsFine, IsInScope, IsText, Leads, Puts, Taken, Takes, Under, outermost};
+ghost use Rattle.ctl_code.specs.Valid.{HasFormals, HaveOperands, IsCalled, IsOperandAt, Bounded, DropsPart, IsAtEnd, IsDeclarable, IsEntry, IsFine, IsInScope, IsText, Leads, Puts, Taken, Takes, Under, outermost};
 ghost use Rattle.ctl_code.specs.Windows.{depth, height, variable_at};
 
+use crate::accesses::{
+    is_free_fine, is_free_part_fine, is_gather_fine, is_new_copy_fine, is_new_fine,
+};
 use crate::code::{Cell, Code, Instr, Named, Operator, Way};
 use crate::images::count_images;
 use crate::kinds::{Kind, is_same_kind};
 use crate::layouts::{is_declarable, is_in_scope};
+use crate::pools::is_pool_fine;
 use crate::types::{is_binary_of, is_cell_of, is_scalar, is_unary_of};
 use ctl_program::operators::SubprogramKind;
 use ctl_program::types::Ty;
@@ -24,7 +28,7 @@ use ctl_program::types::Ty;
 // Where an instruction leads -------------------------------------------------------------------
 
 /// Tells whether the change of the stack that an instruction makes leads to the next place.
-fn leads_on(code: &Code, place: usize, taken: usize, new: Option<Kind>) -> bool
+pub(crate) fn leads_on(code: &Code, place: usize, taken: usize, new: Option<Kind>) -> bool
     requires { place + 1 < 2 ^ 64 }
     ensures { IsTrue result ↔ Leads code.now (place + 1) (changed taken new (stack_at code.now.kinds place)) }
 {
@@ -77,7 +81,7 @@ pub fn is_entry(code: &Code, number: usize) -> bool
 // Cells ----------------------------------------------------------------------------------------
 
 /// Tells whether this stands on top, under so many newer ones.
-fn has(code: &Code, place: usize, depth: usize, kind: Kind) -> bool
+pub(crate) fn has(code: &Code, place: usize, depth: usize, kind: Kind) -> bool
     ensures { IsTrue result ↔ (slice_get (stack_at code.now.kinds place) depth ≡ Some kind) }
 {
     match code.kinds.kind_at(place, depth) {
@@ -87,7 +91,7 @@ fn has(code: &Code, place: usize, depth: usize, kind: Kind) -> bool
 }
 
 /// Tells whether an operand of this type stands in this cell, under so many newer ones.
-fn is_operand(code: &Code, place: usize, before: usize, at: usize, ty: Ty) -> bool
+pub(crate) fn is_operand(code: &Code, place: usize, before: usize, at: usize, ty: Ty) -> bool
     requires { before + 1 < 2 ^ 64 }
     ensures { let stack = stack_at code.now.kinds place in
         IsTrue result ↔ ((drop before stack ≡ Operand ty ∷ drop (before + 1) stack) × (at ≡ height (drop (before + 1) stack))) }
@@ -131,7 +135,7 @@ fn taken(code: &Code, place: usize, before: usize, cell: Cell, ty: Ty) -> Option
 }
 
 /// Tells whether a new operand stands in this cell, where so many were taken, and the next place finds it.
-fn puts_operand(code: &Code, place: usize, taken: usize, at: usize, ty: Ty) -> bool
+pub(crate) fn puts_operand(code: &Code, place: usize, taken: usize, at: usize, ty: Ty) -> bool
     requires { place + 1 < 2 ^ 64 }
     ensures { let stack = drop taken (stack_at code.now.kinds place) in
         IsTrue result ↔ ((at ≡ height stack) × Leads code.now (place + 1) (Operand ty ∷ stack)) }
@@ -218,7 +222,7 @@ fn is_part(code: &Code, place: usize, before: usize, record: usize) -> bool
 }
 
 /// Tells whether a part of this record type stands on top, where so many were taken, and the next place finds what is below it.
-fn drops_part(code: &Code, place: usize, before: usize, record: usize) -> bool
+pub(crate) fn drops_part(code: &Code, place: usize, before: usize, record: usize) -> bool
     requires { (place + 1 < 2 ^ 64) × (before + 1 < 2 ^ 64) }
     ensures { IsTrue result ↔ DropsPart code.now place «record» (drop before (stack_at code.now.kinds place)) }
 {
@@ -612,94 +616,6 @@ fn is_assign_fine(code: &Code, place: usize, number: usize) -> bool
     is_declarable(code, OUTERMOST, number) && drops_parts(code, place, number)
 }
 
-/// Tells whether the collection of an access type stands in one of so many masters around a place, and objects of a record type may be
-/// declared where it does (RM 4.8).
-fn is_allocable(code: &Code, masters: usize, access: usize, record: usize) -> bool
-    ensures { IsTrue result ↔ IsAllocable code.now masters access «record» }
-{
-    match code.accesses.get(access) {
-        Some(collection) => {
-            1 <= collection.level
-                && collection.level <= masters
-                && is_declarable(code, collection.level, record)
-        }
-        None => false,
-    }
-}
-
-/// Tells whether it is the number of an access type (RM 3.10).
-fn is_access(code: &Code, access: usize) -> bool
-    ensures { IsTrue result ↔ IsAccess code.now access }
-{
-    match code.accesses.get(access) {
-        Some(_) => true,
-        None => false,
-    }
-}
-
-/// Checks that a collection is made (RM 7.6.1): of an access type of the table, in a master.
-fn is_gather_fine(code: &Code, place: usize, access: usize) -> bool
-    requires { place + 1 < 2 ^ 64 }
-    ensures { let stack = stack_at code.now.kinds place in
-        IsTrue result ↔ (IsAccess code.now access × (1 ≤ depth stack) × Leads code.now (place + 1) stack) }
-{
-    is_access(code, access) && 1 <= code.kinds.depth_at(place) && leads_on(code, place, 0, None)
-}
-
-/// Checks an allocator: the collection of its access type stands in a master that is seen (RM 4.8).
-fn is_new_fine(code: &Code, place: usize, access: usize, record: usize, ty: Ty, at: usize) -> bool
-    requires { place + 1 < 2 ^ 64 }
-    ensures { IsTrue result ↔ IsFine code.now place (I.New access «record» ty at) (stack_at code.now.kinds place) }
-{
-    is_scalar(ty)
-        && is_allocable(code, code.kinds.depth_at(place), access, record)
-        && puts_operand(code, place, 0, at, ty)
-}
-
-/// Checks an allocator with the value of a part, which stands on top, in this cell (RM 4.8).
-fn is_new_copy_fine(
-    code: &Code,
-    place: usize,
-    access: usize,
-    record: usize,
-    ty: Ty,
-    at: usize,
-) -> bool
-    requires { place + 1 < 2 ^ 64 }
-    ensures { IsTrue result ↔ IsFine code.now place (I.NewCopy access «record» ty at) (stack_at code.now.kinds place) }
-{
-    is_scalar(ty)
-        && is_allocable(code, code.kinds.depth_at(place), access, record)
-        && is_operand(code, place, 0, at, Ty::Record(record))
-        && leads_on(code, place, 1, Some(Kind::Operand(ty)))
-}
-
-/// Tells whether the collection of an access type stands in one of so many masters around a place (RM 7.6.1).
-fn has_collection(code: &Code, masters: usize, access: usize) -> bool
-    ensures { IsTrue result ↔ HasCollection code.now masters access }
-{
-    match code.accesses.get(access) {
-        Some(collection) => 1 <= collection.level && collection.level <= masters,
-        None => false,
-    }
-}
-
-/// Checks that an object is freed whose access value is in a variable (RM 13.11.2).
-fn is_free_fine(code: &Code, place: usize, access: usize) -> bool
-    requires { place + 1 < 2 ^ 64 }
-    ensures { (out slot : ℕ) → IsTrue result ↔ IsFine code.now place (I.Free access out slot) (stack_at code.now.kinds place) }
-{
-    has_collection(code, code.kinds.depth_at(place), access) && leads_on(code, place, 0, None)
-}
-
-/// Checks that an object is freed whose access value is in a component: the part that has it stands on top (RM 13.11.2).
-fn is_free_part_fine(code: &Code, place: usize, access: usize, record: usize) -> bool
-    requires { place + 1 < 2 ^ 64 }
-    ensures { (position : ℕ) → IsTrue result ↔ IsFine code.now place (I.FreePart access «record» position) (stack_at code.now.kinds place) }
-{
-    has_collection(code, code.kinds.depth_at(place), access) && drops_part(code, place, 0, record)
-}
-
 /// Checks a dereference: a number stands on top, in this cell (RM 4.1).
 fn is_dereference_fine(code: &Code, place: usize, record: usize, at: usize) -> bool
     requires { place + 1 < 2 ^ 64 }
@@ -794,6 +710,12 @@ pub fn is_fine(code: &Code, place: usize, instr: &Instr) -> bool
         Instr::RaiseAgain => true,
         Instr::Declare { slot: _, record } => is_declare_fine(code, place, record),
         Instr::DeclareCopy { record, .. } => is_copy_fine(code, place, record),
+        Instr::DeclarePool {
+            record,
+            order: _,
+            at,
+            ..
+        } => is_pool_fine(code, place, record, at),
         Instr::Gather { access, count: _ } => is_gather_fine(code, place, access),
         Instr::New {
             access,

@@ -1,7 +1,7 @@
 //! Whether record types are laid out well: their operations and the types of their components are in scope where they are, and those
 //! components that are finalized are told apart.
 
-ghost use Rattle.std.specs.Prelude.{◌≡◌, ◌↔◌, ℕ, ◌<◌, ◌≤◌, [], ◌∷◌, length, slice_get, IfSome, IsNone, IsTrue, List, Some, if◌then◌else◌};
+ghost use Rattle.std.specs.Prelude.{◌≡◌, ◌↔◌, ℕ, ◌<◌, ◌≤◌, ◌*◌, [], ◌∷◌, length, slice_get, IfSome, IsNone, IsTrue, List, Some, if◌then◌else◌};
 ghost use Rattle.ctl_meaning.specs.Lists.{keep};
 ghost use Rattle.ctl_code.specs.declared.code.Begun.{Begun as BegunOf};
 ghost use Rattle.ctl_code.specs.declared.code.Layout.{Layout as LayoutOf};
@@ -10,6 +10,9 @@ ghost use Rattle.ctl_code.specs.Valid as valid;
 ghost use Rattle.ctl_code.specs.Valid.{AreBegunBy, AreInScope, IsBegunBy, IsDeclarable, IsInScope, IsLaid, PositionsRise, told_before};
 
 use crate::code::{Begun, Code, Initial, Layout, Parts};
+
+/// How many storage units a value of an elementary type takes (RM 13.3).
+const SCALAR_SIZE: usize = 8;
 
 /// Tells whether there is no operation, or one that is declared in one of so many masters around.
 pub(crate) fn is_in_scope(code: &Code, masters: usize, number: Option<usize>) -> bool
@@ -157,11 +160,25 @@ fn are_in_scope(code: &Code, masters: usize, number: usize) -> bool
     }
 }
 
+/// Tells whether each cell of an object has its storage units (RM 13.3).
+fn has_units(layout: &Layout) -> bool
+    ensures { IsTrue result ↔ (8 * layout.now.cells ≤ layout.now.units) }
+{
+    let units = layout.units;
+    match layout.cells.checked_mul(SCALAR_SIZE) {
+        Some(least) => least <= units,
+        None => false,
+    }
+}
+
 /// Tells whether the record type of this number is laid out well.
 fn is_laid(code: &Code, number: usize, layout: &Layout) -> bool
     ensures { IsTrue result ↔ IsLaid code.now number layout.now }
 {
-    if !are_in_scope(code, layout.level, number) || !are_begun_by(code, layout) {
+    if !are_in_scope(code, layout.level, number)
+        || !are_begun_by(code, layout)
+        || !has_units(layout)
+    {
         return false;
     }
     do_positions_rise(layout) && are_told_apart(code, layout)

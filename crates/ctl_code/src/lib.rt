@@ -1,12 +1,14 @@
 //! The code that the machine runs.
 #![tactic(auto)]
 
+mod accesses;
 pub mod code;
 mod fine;
 mod images;
 pub mod kinds;
 pub mod laws;
 mod layouts;
+mod pools;
 mod stacks;
 pub mod template;
 mod types;

@@ -19,13 +19,14 @@ use Rattle.ctl_gen.proofs.Plain.{none_held, root_tagged}
 use Rattle.ctl_gen.proofs.Setting.{Setting, tools_with}
 use Rattle.ctl_gen.proofs.Follow.{add_none}
 
--- a type of the table that is controlled descends from Controlled, and the table of the code names its Adjust
+-- of a type of the table that is controlled the table of the code names its Adjust
 pub adjust_named : (k : Tables) (code : Code) → Setting k code → (t : ℕ) → IsPlainType k (Record t) → is_controlled k t ≡ true → operation_of (λ x. x.adjust) code t ≡ operation (λ x. x.adjust) k t
 unfolding operation operation_in is_tagged_root
 adjust_named k code setting t plain is = by plain.0 plain.1 plain.2.kind
   where
     by : (r : RecordType) → slice_get k.records t ≡ Some r → IsRootRun r → operation_of (λ x. x.adjust) code t ≡ operation (λ x. x.adjust) k t
-    by r here (inl controlled) = setting.adjust t r here ∙ ap (λ x. adjust_by x r.operations.adjust) controlled ∙ sym (ap (operation_in (λ x. x.adjust)) here)
+    by r here (inl (inl controlled)) = setting.adjust t r here ∙ ap (λ x. adjust_by x r.operations.adjust) controlled ∙ sym (ap (operation_in (λ x. x.adjust)) here)
+    by r here (inl (inr pool)) = setting.adjust t r here ∙ ap (λ x. adjust_by x r.operations.adjust) pool ∙ sym (ap (operation_in (λ x. x.adjust)) here)
     by r here (inr untagged) = absurd (let bad : true ≡ false = sym is ∙ root_tagged k t r here ∙ ap is_tagged_root untagged in cc)
 
 -- nothing is adjusted of a part of a type that has no controlled part

@@ -43,7 +43,8 @@ module _ (k : Tables) (code : Code) where
 
   -- and the record type of a well-formed allocator is declared around it
   pub may_allocate : (access t : ℕ) (d : List ℕ) (s : List Kind) (w0 w : World) → IsAllocable code (depth s) access t → IsSeen w0 d s → Since k code w0 w → MayAllocate code access t d w
-  may_allocate access t d s w0 w (v, found, low, within, declared) (old, home, long) since x at =
+  may_allocate access t d s w0 w (a, found, low, within, declared) (old, home, long) since x at =
+      let v = a.collection in
       let high : v.level ≤ length d = omega (arith, long, within) in
       let sees : Sees d s w0 = record { old = old; home = home; long = long; deep = omega (arith, low, high) } in
       subst (λ n. IsDeclarable code n t) (sym (collection_seen v d s w0 w x low high sees since (ap (λ o. set_seen o d w) (sym found) ∙ at))) declared

@@ -1,29 +1,32 @@
 -- Allocators: the code of one creates an object for the collection of its access type, by default or with the value of a part, or raises, as it
 -- means (4.8).
-use Rattle.std.proofs.Common.{◌≡◌, ℕ, zero, suc, ◌+◌, ◌≤◌, List, [], ◌∷◌, ◌++◌, length, append_assoc, length-append, Option, Some, None, Bool, true, false, refl, sym, ap, ◌∙◌, subst, arith, inl}
-use Rattle.std.specs.Prelude.{slice_get, replicate, ◌&&◌, if◌then◌else◌, option_map}
+use Rattle.std.proofs.Common.{◌≡◌, ◌≢◌, ℕ, zero, suc, ◌+◌, ◌≤◌, List, [], ◌∷◌, ◌++◌, length, append_assoc, length-append, Option, Some, None, Bool, true, false, refl, sym, ap, ◌∙◌, subst, arith, inl}
+use Rattle.std.specs.Prelude.{slice_get, replicate, ◌&&◌, ◌||◌, not, nat_eq, nat_lt, if◌then◌else◌, option_map}
 use Rattle.std.proofs.lemmas.Option.{slice_get_within}
 use Rattle.ctl_program.specs.declared.types.Ty.{Ty}
 use Rattle.ctl_program.specs.declared.types.Ty.TheVariants.{Record}
 use Rattle.ctl_program.specs.declared.types.AccessType.{AccessType}
+use Rattle.ctl_program.specs.declared.types.Root.{Root}
+use Rattle.ctl_program.specs.declared.types.Root.TheVariants as RootOf
 use Rattle.ctl_program.specs.declared.types.Var.{Var}
 use Rattle.ctl_program.specs.declared.expression.Actual.TheOpen.{Expr-F}
 use Rattle.ctl_tree.specs.declared.ending.Stop.TheVariants.{UseAfterFree}
 use Rattle.ctl_tree.specs.declared.event.Owner.TheVariants as OwnerOf
-use Rattle.ctl_meaning.specs.World.{Standard, Allocated, Object, Collection, Log, World}
+use Rattle.ctl_meaning.specs.World.{Place, InBlock, Allocated, Object, Collection, Content, Nothing, Holds, Binds, Copies, Gathers, BlockPool, Log, World}
 use Rattle.ctl_meaning.specs.Lists.{opened_lists}
 use Rattle.ctl_meaning.specs.Activations.{master_of}
 use Rattle.ctl_meaning.specs.Ledger.{collection_at}
 use Rattle.ctl_meaning.specs.Objects.{cells_at}
-use Rattle.ctl_meaning.specs.Changes.{create, create_at, forget, join, new_object, object_at, owner_of, put_into, slot_at}
+use Rattle.ctl_meaning.specs.Pools.{block_pool_at, take_block}
+use Rattle.ctl_meaning.specs.Changes.{create_at, forget, in_pools, join, new_object, object_at, owner_of, slot_at}
 use Rattle.ctl_meaning.specs.Choice.{Ask, picked}
-use Rattle.ctl_meaning.specs.Outcome.{program_error, ByRaise, Result, Goes, Leaves, Out, Gives, Stops, Cut, Act, Done, Fine, add, bind, on_goes, ◌>>=◌, done, nothing, raise, change, told, look, either, on_some, spend, opened_outcome}
-use Rattle.ctl_meaning.specs.Types.{Tables, begin_cells, depth as table_depth, of_record, size_of}
-use Rattle.ctl_meaning.specs.Names.{OfAllocator, Returned, Call, Default, Tools, gone, must_exist, scalar_of, opened_names}
+use Rattle.ctl_meaning.specs.Outcome.{program_error, storage_error, ByRaise, Result, Goes, Leaves, Out, Gives, Stops, Cut, Act, Done, Fine, add, bind, on_goes, ◌>>=◌, ◌>>◌, done, nothing, raise, change, told, look, either, on_some, spend, opened_outcome}
+use Rattle.ctl_meaning.specs.Types.{Tables, begin_cells, depth as table_depth, of_record, operation, record_of, root_of, size_of}
+use Rattle.ctl_meaning.specs.Names.{OfAllocator, Returned, Call, Default, Tools, existing, find_var, found_in, gone, must_exist, object_of, scalar_of, opened_names}
 use Rattle.ctl_meaning.specs.Finalization.{Spot, whole}
 use Rattle.ctl_meaning.specs.Adjustment.{Birth, birth_of}
 use Rattle.ctl_meaning.specs.Initialization.{fill, initialize, initialize_part}
-use Rattle.ctl_meaning.specs.Storage.{storage}
+use Rattle.ctl_meaning.specs.Storage.{block_storage, library_allocate, storage, storage_in, user_allocate, with_block_pool}
 use Rattle.ctl_meaning.specs.Allocation.{allocate, allocate_for, created, created_or_gone, is_new, join_collection, refuses, set_in, set_of, with_set, opened_allocation}
 use Rattle.ctl_meaning.specs.Run.{completed}
 use Rattle.ctl_meaning.specs.Expressions.{Valued, eval_step, opened_expressions}
@@ -35,17 +38,20 @@ use Rattle.ctl_code.specs.declared.kinds.Kind.{Kind}
 use Rattle.ctl_code.specs.declared.kinds.Kind.TheVariants.{Operand}
 use Rattle.ctl_code.specs.States.{Move, Word, Scalar, Located, Complete, Point, AfterFunction, ByAllocator, Frame, Creating, Filling, State, whole_spot}
 use Rattle.ctl_code.specs.Table as Table
-use Rattle.ctl_code.specs.Table.{Here, begun_of, come_to_life, is_refused, joins, newborn, set_seen, size_of as code_size, with_member}
+use Rattle.ctl_code.specs.Table.{Exhausted, Grant, Granted, Here, UnknownPool, begun_of, come_to_life, grant, is_refused, joins, newborn, pool_in, set_seen, size_of as code_size, units_of, with_member}
+use Rattle.ctl_code.proofs.Storage.{OnGrant, granted_keeps}
 use Rattle.ctl_code.specs.Steps.{moved, step}
 use Rattle.ctl_code.specs.Valid.{IsAllocable, IsDeclarable}
 use Rattle.ctl_code.specs.Windows.{depth, height}
 use Rattle.ctl_layout.specs.Around.{Line}
 use Rattle.ctl_layout.specs.Parts.{OfVariable, Reached, part_code, part_runs}
 use Rattle.ctl_layout.specs.Values.{moved_to, new, new_copy}
-use Rattle.ctl_gen.proofs.Known.{IsPlainType}
+use Rattle.ctl_layout.specs.Layout.{home_of}
+use Rattle.ctl_gen.proofs.Known.{IsPlainType, no_allocate, no_mark_pool}
+use Rattle.ctl_gen.proofs.Each.{IfFound}
 use Rattle.ctl_gen.proofs.Parted.{GivesDefaults}
 use Rattle.ctl_gen.proofs.Collections.{found_number, home}
-use Rattle.ctl_gen.proofs.Worlds.{Since, allocated_there, keeps_itself, since_allocate, since_forget, since_join, since_on}
+use Rattle.ctl_gen.proofs.Worlds.{Fits, IsNoCopy, Settled, Since, allocated_there, keeps_itself, no_copy_at, object_fits, since_allocate, since_forget, since_granted, since_join, since_on}
 use Rattle.ctl_gen.proofs.Scopes.{type_inside}
 use Rattle.ctl_gen.proofs.CreatedParts.{IsAround, parts_run}
 use Rattle.ctl_gen.proofs.Allocable.{may_allocate}
@@ -77,8 +83,8 @@ module _ (ask : Ask) (k : Tables) (code : Code) (setting : Setting k code) (call
   fills None birth n = initialize_part K birth (suc (length k.records)) (whole_spot n) t
   fills (Some v) birth n = T.taking ask k code setting call default constants bound calls t plain birth n v
 
-  abbrev begins : Option (List ℕ) → ℕ → Act Done
-  begins value set c l w = fills value (birth_of (Allocated set Standard) w) w.ledger.next_object c l (with_member code set t w)
+  abbrev begins : Option (List ℕ) → ℕ → Place → Act Done
+  begins value set place c l w = fills value (birth_of (Allocated set place) w) w.ledger.next_object c l (with_member code set t place w)
 
   settled_is : (n : ℕ) (o : Out Done) → bind (bind (add 0 (bind (bind o (on_goes (λ _. must_exist n))) told)) (on_goes (created_or_gone n))) (on_goes completed) ≡ bind o (stands n)
   settled_is n o =
@@ -92,17 +98,88 @@ module _ (ask : Ask) (k : Tables) (code : Code) (setting : Setting k code) (call
   unfolding begin_cells
   cells_are = ap (λ i. replicate i 0) (sym (setting.sizes t plain.2.laid.is))
 
-  -- where the object is created
-  created_is : (value : Option (List ℕ)) (set c : ℕ) (l : Log) (w : World) → bind (created K set (Record t) value Standard c l w) (on_goes completed) ≡ bind (begins value set c l w) (stands w.ledger.next_object)
-  unfolding created fill initialize of_record table_depth whole create_at put_into opened_outcome
-  created_is None set c l w =
+  -- Storage (13.11) -------------------------------------------------------------------------------------
+
+  -- what a request of storage gives
+  abbrev gives_place : Grant → Act Place
+  gives_place (Granted place w1) c l w = Gives (Goes place) 0 c l w1
+  gives_place Exhausted c l w = Gives (Leaves (ByRaise storage_error)) 0 c l w
+  gives_place UnknownPool c l w = Stops UseAfterFree 0 l
+
+  -- a block is a place
+  abbrev in_block : ℕ → ℕ → Act Place
+  in_block n a = done (InBlock n a)
+
+  -- a block of a pool
+  abbrev takes_block : ℕ → ℕ → BlockPool → Act ℕ
+  takes_block n size p = either p.is_open (either (nat_eq p.free 0 || nat_lt p.block_size size) (raise storage_error) (look (λ w. change (in_pools (take_block n)) >> done w.pools.next_address))) gone
+
+  block_is : (n size : ℕ) (p : BlockPool) (c : ℕ) (l : Log) (w : World) → bind (takes_block n size p c l w) (on_goes (in_block n)) ≡ gives_place (Table.block_grant n size p w) c l w
+  unfolding opened_outcome opened_names
+  block_is n size p c l w = by p.is_open (nat_eq p.free 0 || nat_lt p.block_size size)
+    where
+      by : (opened full : Bool) → bind (either opened (either full (raise storage_error) (look (λ v. change (in_pools (take_block n)) >> done v.pools.next_address))) gone c l w) (on_goes (in_block n)) ≡ gives_place (if not opened then UnknownPool else if full then Exhausted else Granted (InBlock n w.pools.next_address) (in_pools (take_block n) w)) c l w
+      by false full = refl
+      by true true = refl
+      by true false = refl
+
+  pool_is : (n size : ℕ) (o : Option BlockPool) (c : ℕ) (l : Log) (w : World) → bind (on_some o gone (takes_block n size) c l w) (on_goes (in_block n)) ≡ gives_place (Table.pool_grant n size o w) c l w
+  unfolding opened_outcome opened_names
+  pool_is n size None c l w = refl
+  pool_is n size (Some p) c l w = block_is n size p c l w
+
+  -- of a pool object that is there: it has the library's Allocate
+  block_storage_is : (n size c : ℕ) (l : Log) (w : World) (o : Object) → object_at n w ≡ Some o → operation (λ x. x.allocate) k (record_of o.ty) ≡ None → block_storage K n size c l w ≡ gives_place (Table.pool_grant n size (block_pool_at n w.pools) w) c l w
+  unfolding block_storage library_allocate with_block_pool existing opened_outcome
+  block_storage_is n size c l w o at none =
+      ap (λ q. bind (on_some q gone (λ y. on_some (operation (λ x. x.allocate) k (record_of y.ty)) (library_allocate n size) (user_allocate K n size)) c l w) (on_goes (in_block n))) at
+      ∙ ap (λ q. bind (on_some q (library_allocate n size) (user_allocate K n size) c l w) (on_goes (in_block n))) none
+      ∙ pool_is n size (block_pool_at n w.pools) c l w
+
+  -- of one that is no mark pool
+  no_mark : (n size : ℕ) (r : Root) → r ≢ RootOf.MarkPool → storage_in K n None size r ≡ block_storage K n size
+  unfolding storage_in
+  no_mark n size RootOf.Untagged other = refl
+  no_mark n size RootOf.Controlled other = refl
+  no_mark n size RootOf.BlockPool other = refl
+  no_mark n size RootOf.MarkPool other = absurd (other refl)
+
+  object_is : (n size c : ℕ) (l : Log) (w : World) → Fits k code w → existing n (λ o. storage_in K n None size (root_of k (record_of o.ty))) c l w ≡ gives_place (Table.object_grant n size (object_at n w) w) c l w
+  unfolding existing gone opened_outcome
+  object_is n size c l w fits = by (object_at n w) refl (object_fits k code n w fits)
+    where
+      by : (o : Option Object) → object_at n w ≡ o → IfFound (Settled k code w.ledger.next_master w.activations w.ledger.collections) o → on_some o gone (λ y. storage_in K n None size (root_of k (record_of y.ty))) c l w ≡ gives_place (Table.object_grant n size o w) c l w
+      by None at settled = refl
+      by (Some o) at settled = ap (λ (f : Act Place). f c l w) (no_mark n size (root_of k (record_of o.ty)) (no_mark_pool k o.ty settled.plain)) ∙ block_storage_is n size c l w o at (no_allocate k o.ty settled.plain)
+
+  -- a slot names the pool, unless its declaration was not elaborated
+  found_is : (m i : ℕ) (x : Content) (size c : ℕ) (l : Log) (w : World) → IsNoCopy x → Fits k code w → bind (found_in m i x c l w) (on_goes (λ f. existing (object_of f) (λ o. storage_in K (object_of f) None size (root_of k (record_of o.ty))))) ≡ gives_place (Table.holder_grant (Table.spot_of x) size w) c l w
+  unfolding found_in object_of gone opened_outcome
+  found_is m i (Holds n) size c l w no_copy fits = add_none (existing n (λ o. storage_in K n None size (root_of k (record_of o.ty))) c l w) ∙ object_is n size c l w fits
+  found_is m i (Binds n offset path) size c l w no_copy fits = add_none (existing n (λ o. storage_in K n None size (root_of k (record_of o.ty))) c l w) ∙ object_is n size c l w fits
+  found_is m i (Copies v) size c l w no_copy fits = absurd no_copy
+  found_is m i Nothing size c l w no_copy fits = refl
+  found_is m i (Gathers n) size c l w no_copy fits = refl
+
+  -- what storage means is what comes of its request
+  storage_is : (pool : Option Var) (d : List ℕ) (size c : ℕ) (l : Log) (w : World) → Fits k code w → storage K d pool None size c l w ≡ gives_place (grant pool d size w) c l w
+  unfolding storage find_var opened_outcome
+  storage_is None d size c l w fits = refl
+  storage_is (Some v) d size c l w fits = found_is (master_of d v) v.slot (slot_at (master_of d v) v.slot w).content size c l w (no_copy_at k code (master_of d v) v.slot w fits) fits
+
+  -- Creation --------------------------------------------------------------------------------------------
+
+  -- where the object is created, at a place
+  created_is : (value : Option (List ℕ)) (set : ℕ) (place : Place) (c : ℕ) (l : Log) (w : World) → bind (created K set (Record t) value place c l w) (on_goes completed) ≡ bind (begins value set place c l w) (stands w.ledger.next_object)
+  unfolding created fill initialize of_record table_depth whole opened_outcome
+  created_is None set place c l w =
       let n = w.ledger.next_object in
-      ap (λ cells. bind (bind (add 0 (bind (bind (fills None (birth_of (Allocated set Standard) w) n c l (create (Record t) cells (Allocated set Standard) w)) (on_goes (λ _. must_exist n))) told)) (on_goes (created_or_gone n))) (on_goes completed)) cells_are
-      ∙ settled_is n (begins None set c l w)
-  created_is (Some v) set c l w =
+      ap (λ cells. bind (bind (add 0 (bind (bind (fills None (birth_of (Allocated set place) w) n c l (create_at (Record t) cells set place w)) (on_goes (λ _. must_exist n))) told)) (on_goes (created_or_gone n))) (on_goes completed)) cells_are
+      ∙ settled_is n (begins None set place c l w)
+  created_is (Some v) set place c l w =
       let n = w.ledger.next_object in
-      ap (λ cells. bind (bind (add 0 (bind (bind (fills (Some v) (birth_of (Allocated set Standard) w) n c l (create (Record t) cells (Allocated set Standard) w)) (on_goes (λ _. must_exist n))) told)) (on_goes (created_or_gone n))) (on_goes completed)) cells_are
-      ∙ settled_is n (begins (Some v) set c l w)
+      ap (λ cells. bind (bind (add 0 (bind (bind (fills (Some v) (birth_of (Allocated set place) w) n c l (create_at (Record t) cells set place w)) (on_goes (λ _. must_exist n))) told)) (on_goes (created_or_gone n))) (on_goes completed)) cells_are
+      ∙ settled_is n (begins (Some v) set place c l w)
 
   -- the access value, which is the number of the object
   abbrev value : ℕ → Returned
@@ -129,18 +206,16 @@ module _ (ask : Ask) (k : Tables) (code : Code) (setting : Setting k code) (call
   raised_is n e c l w = refl
 
   -- for this collection, if there is one
-  abbrev for_set : Option (List ℕ) → ℕ → Option Collection → Act Returned
-  for_set value set o = on_some o gone (λ x. either (refuses k (Record t) x) (raise program_error) (done Standard >>= created K set (Record t) value)) >>= completed
+  abbrev for_set : Option (List ℕ) → Option Var → List ℕ → ℕ → Option Collection → Act Returned
+  for_set value pool d set o = on_some o gone (λ x. either (refuses k (Record t) x) (raise program_error) (storage K d pool None (size_of k (Record t)) >>= created K set (Record t) value)) >>= completed
 
   abbrev set_number : List ℕ → Var → World → ℕ
   set_number d v w = set_in (slot_at (master_of d v) v.slot w).content
 
-  -- of an access type whose objects lie in the standard pool
-  allocate_is : (value : Option (List ℕ)) (d : List ℕ) (access : ℕ) (a : AccessType) → slice_get k.accesses access ≡ Some a → a.pool ≡ None → (c : ℕ) (l : Log) (w : World) → bind (allocate K d access (Record t) None value c l w) (on_goes completed) ≡ for_set value (set_number d a.collection w) (set_seen (Some a.collection) d w) c l w
-  unfolding allocate allocate_for with_set storage opened_outcome opened_allocation
-  allocate_is value d access a found standard c l w =
-      ap (λ o. bind (on_some o gone (allocate_for K d (Record t) None value) c l w) (on_goes completed)) found
-      ∙ ap (λ p. bind (on_some (set_seen (Some a.collection) d w) gone (λ x. either (refuses k (Record t) x) (raise program_error) (storage K d p None (size_of k (Record t)) >>= created K (set_number d a.collection w) (Record t) value)) c l w) (on_goes completed)) standard
+  -- of an access type of the table
+  allocate_is : (value : Option (List ℕ)) (d : List ℕ) (access : ℕ) (a : AccessType) → slice_get k.accesses access ≡ Some a → (c : ℕ) (l : Log) (w : World) → bind (allocate K d access (Record t) None value c l w) (on_goes completed) ≡ for_set value a.pool d (set_number d a.collection w) (set_seen (Some (home_of a)) d w) c l w
+  unfolding allocate allocate_for with_set opened_outcome opened_allocation
+  allocate_is value d access a found c l w = ap (λ o. bind (on_some o gone (allocate_for K d (Record t) None value) c l w) (on_goes completed)) found
 
   allocate_none : (value : Option (List ℕ)) (d : List ℕ) (access : ℕ) → slice_get k.accesses access ≡ None → (c : ℕ) (l : Log) (w : World) → bind (allocate K d access (Record t) None value c l w) (on_goes completed) ≡ Stops UseAfterFree 0 l
   unfolding allocate opened_outcome opened_allocation opened_names
@@ -191,98 +266,140 @@ module _ (ask : Ask) (k : Tables) (code : Code) (setting : Setting k code) (call
         subst (Gets 1 3 (returns {A = Done} (Creating ByAllocator n t p ∷ ks) (Leaves (ByRaise e)) l w) c p ks) (sym (raised_is n e c l w))
         (last_step_to ask code (Allocates k code w0) 1 3 _ c 1 (returned_to (AfterFunction p) ks) (Leaves (ByRaise e)) l (forget n w) (omega arith) (tt, since_forget k code n w0 w (since_on k code w0 w1 w fits1 told1.1)) refl)) y told1.0
 
-    -- the worlds with a new object for a collection that stands: the operations of its type are in scope
-    member_fits : (set : ℕ) (x : Collection) (w : World) → collection_at set w.ledger ≡ Some x → IsDeclarable code (length (home x.master w.activations)) t → Since k code w0 w → Since k code w0 (with_member code set t w)
+    -- a collection stands, and the operations of the type are in scope around its master
+    abbrev MayStand : ℕ → Collection → World → Type 0
+    MayStand set x w = (collection_at set w.ledger ≡ Some x) × IsDeclarable code (length (home x.master w.activations)) t
+
+    -- the worlds with a new object for such a collection
+    member_fits : (set : ℕ) (x : Collection) (place : Place) (w : World) → MayStand set x w → Since k code w0 w → Since k code w0 (with_member code set t place w)
     unfolding collection_at
-    member_fits set x w is inside fits = since_allocate k code (Record t) (replicate (code_size code t) 0) set x.master w0 w (x, is, refl) plain inside fits
+    member_fits set x place w may fits = since_allocate k code (Record t) (replicate (code_size code t) 0) set place x.master w0 w (x, may.0, refl) plain may.1 fits
 
     -- it is there, and its type is declared around its operations
-    member_around : (set : ℕ) (w : World) → Since k code w0 w → Since k code w0 (with_member code set t w) → IsAround code w.ledger.next_object t (with_member code set t w)
+    member_around : (set : ℕ) (place : Place) (w : World) → Since k code w0 w → Since k code w0 (with_member code set t place w) → IsAround code w.ledger.next_object t (with_member code set t place w)
     unfolding new_object
-    member_around set w fits fits1 =
-        let there = allocated_there k code (Record t) (replicate (code_size code t) 0) set w fits.0 in
-        (_, there, type_inside k code w.ledger.next_object (with_member code set t w) _ t fits1.0 there refl)
+    member_around set place w fits fits1 =
+        let there = allocated_there k code (Record t) (replicate (code_size code t) 0) set place w fits.0 in
+        (_, there, type_inside k code w.ledger.next_object (with_member code set t place w) _ t fits1.0 there refl)
 
     -- the step of the creation, for a collection that is there
-    abbrev creates : Option (List ℕ) → ℕ → Point → List Frame → World → Move
-    creates None set p ks w = Table.begin_part code (newborn w.ledger.next_object t (OwnerOf.Collection set)) (Creating ByAllocator w.ledger.next_object t p ∷ ks) (with_member code set t w)
-    creates (Some v) set p ks w = Table.take_value code ByAllocator (newborn w.ledger.next_object t (OwnerOf.Collection set)) v (object_at w.ledger.next_object (with_member code set t w)) p ks (with_member code set t w)
+    abbrev creates : Option (List ℕ) → ℕ → Place → Point → List Frame → World → Move
+    creates None set place p ks w = Table.begin_part code (newborn w.ledger.next_object t (OwnerOf.Collection set)) (Creating ByAllocator w.ledger.next_object t p ∷ ks) (with_member code set t place w)
+    creates (Some v) set place p ks w = Table.take_value code ByAllocator (newborn w.ledger.next_object t (OwnerOf.Collection set)) v (object_at w.ledger.next_object (with_member code set t place w)) p ks (with_member code set t place w)
 
     -- the creation, from that step
-    created_runs : (value : Option (List ℕ)) (set : ℕ) (x : Collection) (p : Point) (ks : List Frame) (s0 : State) (c0 c : ℕ) (l : Log) (w : World) → c ≤ bound → c ≤ c0 → c0 ≤ c + 1 → collection_at set w.ledger ≡ Some x → IsDeclarable code (length (home x.master w.activations)) t → Since k code w0 w → step ask code s0 ≡ moved l (creates value set p ks w)
-        → Gets 6 8 s0 c0 p ks (bind (created K set (Record t) value Standard c l w) (on_goes completed))
+    created_runs : (value : Option (List ℕ)) (set : ℕ) (x : Collection) (place : Place) (p : Point) (ks : List Frame) (s0 : State) (c0 c : ℕ) (l : Log) (w : World) → c ≤ bound → c ≤ c0 → c0 ≤ c + 1 → MayStand set x w → Since k code w0 w → step ask code s0 ≡ moved l (creates value set place p ks w)
+        → Gets 6 8 s0 c0 p ks (bind (created K set (Record t) value place c l w) (on_goes completed))
     unfolding birth_of owner_of
-    created_runs value set x p ks s0 c0 c l w le lo hi is inside fits first = subst (Gets 6 8 s0 c0 p ks) (sym (created_is value set c l w)) (by value first)
+    created_runs value set x place p ks s0 c0 c l w le lo hi may fits first = subst (Gets 6 8 s0 c0 p ks) (sym (created_is value set place c l w)) (by value first)
       where
         n : ℕ
         n = w.ledger.next_object
 
         w1 : World
-        w1 = with_member code set t w
+        w1 = with_member code set t place w
 
         fits1 : Since k code w0 w1
-        fits1 = member_fits set x w is inside fits
+        fits1 = member_fits set x place w may fits
 
-        by : (v : Option (List ℕ)) → step ask code s0 ≡ moved l (creates v set p ks w) → Gets 6 8 s0 c0 p ks (bind (begins v set c l w) (stands n))
+        by : (v : Option (List ℕ)) → step ask code s0 ≡ moved l (creates v set place p ks w) → Gets 6 8 s0 c0 p ks (bind (begins v set place c l w) (stands n))
         by None go =
             let mid = Creating ByAllocator n t p ∷ ks in
             let s1 = gives (Filling (newborn n t (OwnerOf.Collection set)) (begun_of code t) (begun_of code t) ∷ mid) (Fine Complete) l w1 in
-            one_step_to ask code (Allocates k code w0) 5 7 6 8 s0 s1 c0 c (returned_to (AfterFunction p) ks) (bind (begins None set c l w) (stands n)) (omega arith) (omega arith) lo hi go
-            (both_to ask code (λ r v. Told k code w1 (way_of r) v) (Allocates k code w0) 3 3 1 3 5 7 s1 c (returns mid) (returned_to (AfterFunction p) ks) (begins None set c l w) (stands n) (omega arith) (omega arith) (omega arith)
-            (parts_run ask k code setting call default constants bound calls (suc (length k.records)) t (let within = slice_get_within k.records t plain.0 plain.1 in omega (arith, within)) plain (whole_spot n) (OwnerOf.Collection set) (birth_of (Allocated set Standard) w) refl w1 fits1.0 (member_around set w fits fits1) mid c l w1 le (fits1.0, keeps_itself k code w1))
+            one_step_to ask code (Allocates k code w0) 5 7 6 8 s0 s1 c0 c (returned_to (AfterFunction p) ks) (bind (begins None set place c l w) (stands n)) (omega arith) (omega arith) lo hi go
+            (both_to ask code (λ r v. Told k code w1 (way_of r) v) (Allocates k code w0) 3 3 1 3 5 7 s1 c (returns mid) (returned_to (AfterFunction p) ks) (begins None set place c l w) (stands n) (omega arith) (omega arith) (omega arith)
+            (parts_run ask k code setting call default constants bound calls (suc (length k.records)) t (let within = slice_get_within k.records t plain.0 plain.1 in omega (arith, within)) plain (whole_spot n) (OwnerOf.Collection set) (birth_of (Allocated set place) w) refl w1 fits1.0 (member_around set place w fits fits1) mid c l w1 le (fits1.0, keeps_itself k code w1))
             (λ r c1 l1 w2 lo1 told1. stands_runs w1 n p ks fits1 r c1 l1 w2 told1))
         by (Some v) go =
-            T.taken_runs ask k code setting call default constants bound calls t plain ByAllocator n (OwnerOf.Collection set) (birth_of (Allocated set Standard) w) refl p ks w1 fits1.0 (member_around set w fits fits1) (Allocates k code w0) (returned_to (AfterFunction p) ks) (stands n)
+            T.taken_runs ask k code setting call default constants bound calls t plain ByAllocator n (OwnerOf.Collection set) (birth_of (Allocated set place) w) refl p ks w1 fits1.0 (member_around set place w fits fits1) (Allocates k code w0) (returned_to (AfterFunction p) ks) (stands n)
             (λ s1 d0 d l1 w2 lo1 hi1 fits2 go1. lives_on n p ks s1 d0 d l1 w2 lo1 hi1 (since_on k code w0 w1 w2 fits1 fits2) go1)
             (λ r c1 l1 w2 told1. stands_runs w1 n p ks fits1 r c1 l1 w2 told1)
             v s0 c0 c l le lo hi go
 
-    -- where there is no collection, or there is this one
-    no_set : (value : Option (List ℕ)) (ops : List Word) (h : Here) (l : Log) → moved l (by_allocator code t value None ops h) ≡ moved l (Table.gone h.control h.world)
-    no_set None ops h l = refl
-    no_set (Some v) ops h l = refl
+    -- what comes of a request of storage: the creation, an exception, or a stop
+    abbrev grants : Option (List ℕ) → ℕ → Grant → Point → List Frame → World → Move
+    grants value set (Granted place w1) p ks w = creates value set place p ks w1
+    grants value set Exhausted p ks w = Table.transfers (ByRaise storage_error) ks w
+    grants value set UnknownPool p ks w = Table.gone ks w
 
-    this_set : (value : Option (List ℕ)) (x : Collection) (ops : List Word) (h : Here) (l : Log) → moved l (by_allocator code t value (Some x) ops h) ≡ moved l (if is_refused code t x then Table.transfers (ByRaise program_error) h.control h.world else creates value x.number (point_at h.display (h.place + 1) ops) h.control h.world)
-    this_set None x ops h l = refl
-    this_set (Some v) x ops h l = refl
+    new_is : (set : ℕ) (g : Grant) (ops : List Word) (h : Here) → Table.new_at code t set g ops h ≡ grants None set g (point_at h.display (h.place + 1) ops) h.control h.world
+    new_is set (Granted place w) ops h = refl
+    new_is set Exhausted ops h = refl
+    new_is set UnknownPool ops h = refl
+
+    copy_is : (v : List ℕ) (set : ℕ) (g : Grant) (ops : List Word) (h : Here) → Table.copy_at code t v set g ops h ≡ grants (Some v) set g (point_at h.display (h.place + 1) ops) h.control h.world
+    copy_is v set (Granted place w) ops h = refl
+    copy_is v set Exhausted ops h = refl
+    copy_is v set UnknownPool ops h = refl
+
+    -- where there is no collection, or there is this one
+    no_set : (value : Option (List ℕ)) (pool : Option Var) (ops : List Word) (h : Here) (l : Log) → moved l (by_allocator code t value pool None ops h) ≡ moved l (Table.gone h.control h.world)
+    no_set None pool ops h l = refl
+    no_set (Some v) pool ops h l = refl
+
+    abbrev tests : Option (List ℕ) → Option Var → Collection → List Word → Here → Move
+    tests value pool x ops h = if is_refused code t x then Table.transfers (ByRaise program_error) h.control h.world else grants value x.number (grant pool h.display (units_of code t) h.world) (point_at h.display (h.place + 1) ops) h.control h.world
+
+    this_set : (value : Option (List ℕ)) (pool : Option Var) (x : Collection) (ops : List Word) (h : Here) (l : Log) → moved l (by_allocator code t value pool (Some x) ops h) ≡ moved l (tests value pool x ops h)
+    this_set None pool x ops h l = ap (λ m. moved l (if is_refused code t x then Table.transfers (ByRaise program_error) h.control h.world else m)) (new_is x.number (grant pool h.display (units_of code t) h.world) ops h)
+    this_set (Some v) pool x ops h l = ap (λ m. moved l (if is_refused code t x then Table.transfers (ByRaise program_error) h.control h.world else m)) (copy_is v x.number (grant pool h.display (units_of code t) h.world) ops h)
+
+    -- what comes of a request of storage, for a collection that stands
+    granted_runs : (value : Option (List ℕ)) (set : ℕ) (x : Collection) (g : Grant) (p : Point) (ks : List Frame) (s0 : State) (c0 c : ℕ) (l : Log) (w : World) → c ≤ bound → c ≤ c0 → c0 ≤ c + 1 → OnGrant (MayStand set x) g → OnGrant (Since k code w0) g → Since k code w0 w → step ask code s0 ≡ moved l (grants value set g p ks w)
+        → Gets 6 8 s0 c0 p ks (bind (bind (gives_place g c l w) (on_goes (created K set (Record t) value))) (on_goes completed))
+    unfolding opened_outcome
+    granted_runs value set x (Granted place w1) p ks s0 c0 c l w le lo hi may fits1 fits first =
+        subst (λ o. Gets 6 8 s0 c0 p ks (bind o (on_goes completed))) (sym (add_none (created K set (Record t) value place c l w1)))
+        (created_runs value set x place p ks s0 c0 c l w1 le lo hi may fits1 first)
+    granted_runs value set x Exhausted p ks s0 c0 c l w le lo hi may fits1 fits first = one_step_to ask code (Allocates k code w0) 5 7 6 8 s0 (transferred (ByRaise storage_error) ks l w) c0 c (returned_to (AfterFunction p) ks) (Gives (Leaves (ByRaise storage_error)) 0 c l w) (omega arith) (omega arith) lo hi first (raises 5 7 storage_error p ks c l w fits)
+    granted_runs value set x UnknownPool p ks s0 c0 c l w le lo hi may fits1 fits first = stop_step_to ask code (Allocates k code w0) 6 8 s0 _ c0 0 (returned_to (AfterFunction p) ks) UseAfterFree l (omega arith) first refl refl
 
     -- for this collection, if there is one
-    set_runs : (value : Option (List ℕ)) (set : ℕ) (o : Option Collection) (d : List ℕ) (place : ℕ) (ks : List Frame) (ops : List Word) (s0 : State) (c0 c : ℕ) (l : Log) (w : World) → c ≤ bound → c ≤ c0 → c0 ≤ c + 1 → collection_at set w.ledger ≡ o → ((x : Collection) → o ≡ Some x → IsDeclarable code (length (home x.master w.activations)) t) → Since k code w0 w → step ask code s0 ≡ moved l (by_allocator code t value o ops (here d place ks w)) → Gets 6 8 s0 c0 (point_at d (place + 1) ops) ks (for_set value set o c l w)
-    unfolding refuses opened_outcome opened_names
-    set_runs value set None d place ks ops s0 c0 c l w le lo hi is may fits first = stop_step_to ask code (Allocates k code w0) 6 8 s0 _ c0 0 (returned_to (AfterFunction (point_at d (place + 1) ops)) ks) UseAfterFree l (omega arith) (first ∙ no_set value ops (here d place ks w) l) refl refl
-    set_runs value set (Some x) d place ks ops s0 c0 c l w le lo hi is may fits first =
-        subst (λ b. Gets 6 8 s0 c0 p ks (bind (either (b && x.started) (raise program_error) (done Standard >>= created K set (Record t) value) c l w) (on_goes completed))) (sym (setting.agrees default constants t plain).has)
-        (by (is_refused code t x) (first ∙ this_set value x ops (here d place ks w) l))
+    set_runs : (value : Option (List ℕ)) (pool : Option Var) (set : ℕ) (o : Option Collection) (d : List ℕ) (place : ℕ) (ks : List Frame) (ops : List Word) (s0 : State) (c0 c : ℕ) (l : Log) (w : World) → c ≤ bound → c ≤ c0 → c0 ≤ c + 1 → collection_at set w.ledger ≡ o → ((x : Collection) → o ≡ Some x → IsDeclarable code (length (home x.master w.activations)) t) → Since k code w0 w → step ask code s0 ≡ moved l (by_allocator code t value pool o ops (here d place ks w)) → Gets 6 8 s0 c0 (point_at d (place + 1) ops) ks (for_set value pool d set o c l w)
+    unfolding refuses opened_outcome opened_names in_pools
+    set_runs value pool set None d place ks ops s0 c0 c l w le lo hi is may fits first = stop_step_to ask code (Allocates k code w0) 6 8 s0 _ c0 0 (returned_to (AfterFunction (point_at d (place + 1) ops)) ks) UseAfterFree l (omega arith) (first ∙ no_set value pool ops (here d place ks w) l) refl refl
+    set_runs value pool set (Some x) d place ks ops s0 c0 c l w le lo hi is may fits first =
+        subst (λ b. Gets 6 8 s0 c0 p ks (bind (either (b && x.started) (raise program_error) (storage K d pool None size >>= created K set (Record t) value) c l w) (on_goes completed))) (sym (setting.agrees default constants t plain).has)
+        (by (is_refused code t x) (first ∙ this_set value pool x ops (here d place ks w) l))
       where
         p : Point
         p = point_at d (place + 1) ops
+
+        size : ℕ
+        size = size_of k (Record t)
 
         number : x.number ≡ set
         number = found_number set w x is
 
-        by : (b : Bool) → step ask code s0 ≡ moved l (if b then Table.transfers (ByRaise program_error) ks w else creates value x.number p ks w) → Gets 6 8 s0 c0 p ks (bind (either b (raise program_error) (done Standard >>= created K set (Record t) value) c l w) (on_goes completed))
+        by : (b : Bool) → step ask code s0 ≡ moved l (if b then Table.transfers (ByRaise program_error) ks w else grants value x.number (grant pool d (units_of code t) w) p ks w) → Gets 6 8 s0 c0 p ks (bind (either b (raise program_error) (storage K d pool None size >>= created K set (Record t) value) c l w) (on_goes completed))
         by true go = one_step_to ask code (Allocates k code w0) 5 7 6 8 s0 (transferred (ByRaise program_error) ks l w) c0 c (returned_to (AfterFunction p) ks) (Gives (Leaves (ByRaise program_error)) 0 c l w) (omega arith) (omega arith) lo hi go (raises 5 7 program_error p ks c l w fits)
         by false go =
-            subst (λ o. Gets 6 8 s0 c0 p ks (bind o (on_goes completed))) (sym (add_none (created K set (Record t) value Standard c l w)))
-            (created_runs value set x p ks s0 c0 c l w le lo hi is (may x refl) fits (go ∙ ap (λ i. moved l (creates value i p ks w)) number))
+            subst (λ o. Gets 6 8 s0 c0 p ks (bind (bind o (on_goes (created K set (Record t) value))) (on_goes completed))) (sym (storage_is pool d size c l w fits.0))
+            (granted_runs value set x (grant pool d size w) p ks s0 c0 c l w le lo hi
+            (granted_keeps (MayStand set x) (λ f v h. h) pool d size w (is, may x refl))
+            (since_granted k code pool d size w0 w fits) fits
+            (go ∙ ap (λ i. moved l (grants value x.number (grant pool d i w) p ks w)) (setting.units t plain.2.laid.is) ∙ ap (λ i. moved l (grants value i (grant pool d size w) p ks w)) number))
 
     -- an allocator, from its step
-    pub allocator_runs : (access : ℕ) → slice_get code.accesses.items access ≡ option_map (λ a. a.collection) (slice_get k.accesses access) → ((a : AccessType) → slice_get k.accesses access ≡ Some a → a.pool ≡ None)
-        → (value : Option (List ℕ)) (d : List ℕ) (place : ℕ) (ks : List Frame) (ops : List Word) (s0 : State) (c0 c : ℕ) (l : Log) (w : World) → c ≤ bound → c ≤ c0 → c0 ≤ c + 1 → Since k code w0 w → MayAllocate code access t d w → step ask code s0 ≡ moved l (by_allocator code t value (set_seen (slice_get code.accesses.items access) d w) ops (here d place ks w))
+    pub allocator_runs : (access : ℕ) → slice_get code.accesses.items access ≡ option_map home_of (slice_get k.accesses access)
+        → (value : Option (List ℕ)) (d : List ℕ) (place : ℕ) (ks : List Frame) (ops : List Word) (s0 : State) (c0 c : ℕ) (l : Log) (w : World) → c ≤ bound → c ≤ c0 → c0 ≤ c + 1 → Since k code w0 w → MayAllocate code access t d w → step ask code s0 ≡ moved l (by_allocator code t value (pool_in (slice_get code.accesses.items access)) (set_seen (slice_get code.accesses.items access) d w) ops (here d place ks w))
         → Gets 6 8 s0 c0 (point_at d (place + 1) ops) ks (bind (allocate K d access (Record t) None value c l w) (on_goes completed))
-    allocator_runs access named standard value d place ks ops s0 c0 c l w le lo hi fits may first = by (slice_get k.accesses access) refl (first ∙ ap (λ o. moved l (by_allocator code t value (set_seen o d w) ops (here d place ks w))) named)
+    allocator_runs access named value d place ks ops s0 c0 c l w le lo hi fits may first = by (slice_get k.accesses access) refl
       where
         p : Point
         p = point_at d (place + 1) ops
 
-        by : (o : Option AccessType) → slice_get k.accesses access ≡ o → step ask code s0 ≡ moved l (by_allocator code t value (set_seen (option_map (λ a. a.collection) (slice_get k.accesses access)) d w) ops (here d place ks w)) → Gets 6 8 s0 c0 p ks (bind (allocate K d access (Record t) None value c l w) (on_goes completed))
-        by None found go =
+        -- its step, where this is its access type
+        from : (o : Option AccessType) → slice_get k.accesses access ≡ o → step ask code s0 ≡ moved l (by_allocator code t value (pool_in (option_map home_of o)) (set_seen (option_map home_of o) d w) ops (here d place ks w))
+        from o found = first ∙ ap (λ y. moved l (by_allocator code t value (pool_in y) (set_seen y d w) ops (here d place ks w))) (named ∙ ap (option_map home_of) found)
+
+        by : (o : Option AccessType) → slice_get k.accesses access ≡ o → Gets 6 8 s0 c0 p ks (bind (allocate K d access (Record t) None value c l w) (on_goes completed))
+        by None found =
             subst (Gets 6 8 s0 c0 p ks) (sym (allocate_none value d access found c l w))
-            (stop_step_to ask code (Allocates k code w0) 6 8 s0 _ c0 0 (returned_to (AfterFunction p) ks) UseAfterFree l (omega arith) (go ∙ ap (λ o. moved l (by_allocator code t value (set_seen (option_map (λ a. a.collection) o) d w) ops (here d place ks w))) found ∙ no_set value ops (here d place ks w) l) refl refl)
-        by (Some a) found go =
-            subst (Gets 6 8 s0 c0 p ks) (sym (allocate_is value d access a found (standard a found) c l w))
-            (set_runs value (set_number d a.collection w) (set_seen (Some a.collection) d w) d place ks ops s0 c0 c l w le lo hi refl (λ x is. may x (ap (λ o. set_seen o d w) (named ∙ ap (option_map (λ y. y.collection)) found) ∙ is)) fits
-            (go ∙ ap (λ o. moved l (by_allocator code t value (set_seen (option_map (λ a. a.collection) o) d w) ops (here d place ks w))) found))
+            (stop_step_to ask code (Allocates k code w0) 6 8 s0 _ c0 0 (returned_to (AfterFunction p) ks) UseAfterFree l (omega arith) (from None found ∙ no_set value None ops (here d place ks w) l) refl refl)
+        by (Some a) found =
+            subst (Gets 6 8 s0 c0 p ks) (sym (allocate_is value d access a found c l w))
+            (set_runs value a.pool (set_number d a.collection w) (set_seen (Some (home_of a)) d w) d place ks ops s0 c0 c l w le lo hi refl (λ x is. may x (ap (λ o. set_seen o d w) (named ∙ ap (option_map home_of) found) ∙ is)) fits (from (Some a) found))
 
 -- As a value ----------------------------------------------------------------------------------------------
 
@@ -315,7 +432,7 @@ module _ (ask : Ask) (k : Tables) (code : Code) (setting : Setting k code) (call
   allocated d value = call (OfAllocator access (Record t) None value) d >>= cells
 
   -- from its step, with the operands that it leaves, to where its value is wanted
-  step_runs : (value : Option (List ℕ)) (to : Cell) (ty : Ty) (s : List Kind) (d : List ℕ) (place : ℕ) (ks : List Frame) (ops : List Word) (c0 c : ℕ) (l : Log) (w : World) (s0 : State) → c + 1 ≤ bound → c ≤ c0 → c0 ≤ c + 1 → Since k code w0 w → IsSeen w0 d s → IsAllocable code (depth s) access t → Laid code (place + 1) (moved_to to ty s) → step ask code s0 ≡ moved l (by_allocator code t value (set_seen (slice_get code.accesses.items access) d w) ops (here d place ks w)) → RunsTo ask code (OneCell (Since k code w0) Any) 8 8 s0 c0 (landed to.named d (place + 1 + length (moved_to to ty s)) ks ops) (allocated d value c l w)
+  step_runs : (value : Option (List ℕ)) (to : Cell) (ty : Ty) (s : List Kind) (d : List ℕ) (place : ℕ) (ks : List Frame) (ops : List Word) (c0 c : ℕ) (l : Log) (w : World) (s0 : State) → c + 1 ≤ bound → c ≤ c0 → c0 ≤ c + 1 → Since k code w0 w → IsSeen w0 d s → IsAllocable code (depth s) access t → Laid code (place + 1) (moved_to to ty s) → step ask code s0 ≡ moved l (by_allocator code t value (pool_in (slice_get code.accesses.items access)) (set_seen (slice_get code.accesses.items access) d w) ops (here d place ks w)) → RunsTo ask code (OneCell (Since k code w0) Any) 8 8 s0 c0 (landed to.named d (place + 1 + length (moved_to to ty s)) ks ops) (allocated d value c l w)
   unfolding opened_outcome
   step_runs value to ty s d place ks ops c0 c l w s0 le lo hi fits long allocable has first =
       both_to ask code (Allocates k code w0) (OneCell (Since k code w0) Any) 6 8 1 1 8 8 s0 c0 (returned_to (AfterFunction (point_at d (place + 1) ops)) ks) (landed to.named d (place + 1 + length (moved_to to ty s)) ks ops) (call (OfAllocator access (Record t) None value) d c l w) (on_goes cells) (omega arith) (omega arith) (omega arith)
@@ -376,7 +493,7 @@ module _ (ask : Ask) (k : Tables) (code : Code) (setting : Setting k code) (call
         s0 : State
         s0 = at d place ks (Located q ∷ ops) l w
 
-        by : (o : Option Object) → step ask code s0 ≡ moved l (Table.new_from code t q.offset o (set_seen (slice_get code.accesses.items access) d w) ops (here d place ks w)) → RunsTo ask code (OneCell (Since k code w0) Any) 8 8 s0 c (landed to.named d (place + 1 + length (moved_to to ty s)) ks ops) (taken_from ask k code setting call default t plain (λ v. allocated d (Some v)) q.offset o c l w)
+        by : (o : Option Object) → step ask code s0 ≡ moved l (Table.new_from code t q.offset o (pool_in (slice_get code.accesses.items access)) (set_seen (slice_get code.accesses.items access) d w) ops (here d place ks w)) → RunsTo ask code (OneCell (Since k code w0) Any) 8 8 s0 c (landed to.named d (place + 1 + length (moved_to to ty s)) ks ops) (taken_from ask k code setting call default t plain (λ v. allocated d (Some v)) q.offset o c l w)
         by None go = stop_step_to ask code (OneCell (Since k code w0) Any) 8 8 s0 _ c 0 (landed to.named d (place + 1 + length (moved_to to ty s)) ks ops) UseAfterFree l (omega arith) go refl refl
         by (Some o) go = step_runs (Some (cells_at q.offset (code_size code t) o)) to ty s d place ks ops c c l w s0 le (omega arith) (omega arith) fits long (setting.valid.each place i (Operand (Record t) ∷ s) has.0 has.1).1 has.2 go
 

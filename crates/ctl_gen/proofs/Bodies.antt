@@ -24,7 +24,7 @@ use Rattle.ctl_code.specs.declared.code.Instr.TheVariants as InstrOf
 use Rattle.ctl_code.specs.declared.code.Code.{Code}
 use Rattle.ctl_code.specs.declared.kinds.Kind.TheVariants as KindOf
 use Rattle.ctl_code.specs.States.{Word, After, AfterBlock, AfterProcedure, AfterFunction, AfterBody, Frame, State}
-use Rattle.ctl_code.specs.Table.{behind, enter_body, set_seen}
+use Rattle.ctl_code.specs.Table.{behind, enter_body, pool_in, set_seen}
 use Rattle.ctl_code.specs.Steps.{moved, step, start}
 use Rattle.ctl_layout.specs.Layout.{MasterCode, body_code, entry_at, master_code, nowhere}
 use Rattle.ctl_layout.proofs.StatementLayers.{master_is}
@@ -160,12 +160,12 @@ module _ (ask : Ask) (p : Meaning) (code : Code) (setting : Setting p.tables cod
       (number_runs (execution ask p (suc n)) n below f s here w0 v actuals after ks (suc c) c l w s0 kind count ends (omega (arith, le)) (omega arith) (omega arith) fits callable nested plain first)
 
   -- an allocator has taken one before
-  allocate_runs : (n : ℕ) → Below n → (access t : ℕ) → IsPlainType k (Record t) → (value : Option (List ℕ)) (w0 : World) (d : List ℕ) (place : ℕ) (ks : List Frame) (ops : List Word) (c0 c : ℕ) (l : Log) (w : World) (s0 : State) → c + 1 ≤ n → c ≤ c0 → c0 ≤ c + 1 → Since k code w0 w → MayAllocate code access t d w → step ask code s0 ≡ moved l (by_allocator code t value (set_seen (slice_get code.accesses.items access) d w) ops (here d place ks w)) → RunsTo ask code (Allocates k code w0) 6 8 s0 c0 (returned_to (AfterFunction (point_at d (place + 1) ops)) ks) (execution ask p (suc n) (OfAllocator access (Record t) None value) d c l w)
+  allocate_runs : (n : ℕ) → Below n → (access t : ℕ) → IsPlainType k (Record t) → (value : Option (List ℕ)) (w0 : World) (d : List ℕ) (place : ℕ) (ks : List Frame) (ops : List Word) (c0 c : ℕ) (l : Log) (w : World) (s0 : State) → c + 1 ≤ n → c ≤ c0 → c0 ≤ c + 1 → Since k code w0 w → MayAllocate code access t d w → step ask code s0 ≡ moved l (by_allocator code t value (pool_in (slice_get code.accesses.items access)) (set_seen (slice_get code.accesses.items access) d w) ops (here d place ks w)) → RunsTo ask code (Allocates k code w0) 6 8 s0 c0 (returned_to (AfterFunction (point_at d (place + 1) ops)) ks) (execution ask p (suc n) (OfAllocator access (Record t) None value) d c l w)
   unfolding execution execute tools_with opened_outcome
   allocate_runs zero below access t plain value w0 d place ks ops c0 c l w s0 le lo hi fits may first = absurd (omega (arith, le))
   allocate_runs (suc n) below access t plain value w0 d place ks ops c0 c l w s0 le lo hi fits may first =
       let inner = execution ask p (suc n) in
-      allocator_runs ask k code setting inner (default_in p.defaults (expression_tools ask p inner)) (constants inner) n below t plain w0 access (setting.accesses access) (setting.standard access) value d place ks ops s0 c0 c l w (omega (arith, le)) lo hi fits may first
+      allocator_runs ask k code setting inner (default_in p.defaults (expression_tools ask p inner)) (constants inner) n below t plain w0 access (setting.accesses access) value d place ks ops s0 c0 c l w (omega (arith, le)) lo hi fits may first
 
   all_below : (n : ℕ) → Below n
   all_below zero = tt

@@ -2,7 +2,7 @@
 use Rattle.std.proofs.Common.{◌≡◌, ℕ, zero, suc, ◌+◌, ◌<◌, ◌≤◌, List, [], ◌∷◌, ◌++◌, length, Some, Bool, true, false, refl, sym, ap, ◌∙◌, subst, arith}
 use Rattle.std.specs.Prelude.{if◌then◌else◌, nat_eq, not, ◌||◌, map, take, slice_get}
 use Rattle.std.proofs.lemmas.Bool.{eqb-true, eq-eqb, ne_eqb}
-use Rattle.ctl_meaning.specs.World.{Standard, InBlock, InSubpool, Origin, Declared, Allocated, Collection, Content, Nothing, Holds, Binds, Copies, Gathers, Slot, Activation, World}
+use Rattle.ctl_meaning.specs.World.{Origin, Declared, Allocated, Collection, Content, Nothing, Holds, Binds, Copies, Gathers, Slot, Activation, World}
 use Rattle.ctl_meaning.specs.Lists.{first_with, change_each, keep, contains, item_or, opened_lists}
 use Rattle.ctl_meaning.specs.Ledger.{with_started, collection_at, master_in, opened_ledger}
 use Rattle.ctl_meaning.specs.Activations.{with_slot, display_in, activation_at, opened_activations}
@@ -183,34 +183,26 @@ held_in a b cs ds more kept m (Gathers c) h = let less = h.0 in (omega (arith, l
 
 -- Owners of objects -------------------------------------------------------------------------------------
 
--- the origin of an object that belongs to this master: it was declared there, or allocated in the standard pool for a collection of it
+-- the origin of an object that belongs to this master: it was declared there, or allocated for a collection of it, wherever its storage lies
 abbrev pub Belongs : List Collection → ℕ → Origin → Type 0
 Belongs cs m (Declared n) = n ≡ m
-Belongs cs m (Allocated c Standard) = IsOf c m cs
-Belongs cs m (Allocated c (InBlock p a)) = ⊥
-Belongs cs m (Allocated c (InSubpool s)) = ⊥
+Belongs cs m (Allocated c place) = IsOf c m cs
 
 pub belongs_in : (cs ds : List Collection) (m : ℕ) → ((c : ℕ) → IsOf c m cs → IsOf c m ds) → (x : Origin) → Belongs cs m x → Belongs ds m x
 belongs_in cs ds m kept (Declared n) h = h
-belongs_in cs ds m kept (Allocated c Standard) h = kept c h
-belongs_in cs ds m kept (Allocated c (InBlock p a)) h = h
-belongs_in cs ds m kept (Allocated c (InSubpool s)) h = h
+belongs_in cs ds m kept (Allocated c place) h = kept c h
 
 -- that is where its operations are called
 pub belongs_home : (m : ℕ) (w : World) (x : Origin) → Belongs w.ledger.collections m x → home_of x w ≡ home m w.activations
 unfolding opened_changes opened_ledger
 belongs_home m w (Declared n) h = ap (λ z. home z w.activations) h
-belongs_home m w (Allocated c Standard) h = ap (λ z. home z w.activations) (ap master_in h.1 ∙ h.2)
-belongs_home m w (Allocated c (InBlock p a)) h = absurd h
-belongs_home m w (Allocated c (InSubpool s)) h = absurd h
+belongs_home m w (Allocated c place) h = ap (λ z. home z w.activations) (ap master_in h.1 ∙ h.2)
 
 -- an object that is not gone with a master belongs to another one
 pub belongs_other : (n m : ℕ) (w : World) (x : Origin) → not (ends_with n w x) ≡ true → Belongs w.ledger.collections m x → nat_eq m n ≡ false
 unfolding opened_changes opened_objects
 belongs_other n m w (Declared a) e h = ap (λ z. nat_eq z n) (sym h) ∙ not_true (nat_eq a n) e
-belongs_other n m w (Allocated c Standard) e h = ap (λ z. nat_eq z n) (sym h.2) ∙ of_other n c w.ledger.collections h.0 h.1 (not_true (contains c (sets_of n w)) e)
-belongs_other n m w (Allocated c (InBlock p a)) e h = absurd h
-belongs_other n m w (Allocated c (InSubpool s)) e h = absurd h
+belongs_other n m w (Allocated c place) e h = ap (λ z. nat_eq z n) (sym h.2) ∙ of_other n c w.ledger.collections h.0 h.1 (not_true (contains c (sets_of n w)) e)
 
 -- a collection that is found by its number has it
 pub found_number : (n : ℕ) (w : World) (x : Collection) → collection_at n w.ledger ≡ Some x → x.number ≡ n

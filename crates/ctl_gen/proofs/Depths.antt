@@ -1,13 +1,14 @@
 -- How deep the meaning looks into types that are laid out: a depth at which each component is found is enough (3.8).
-use Rattle.std.proofs.Common.{◌≡◌, ℕ, zero, suc, ◌<◌, List, [], ◌∷◌, length, Bool, true, false, refl, sym, ap, ◌∙◌, arith, inl, inr}
-use Rattle.std.specs.Prelude.{slice_get, is_some, ◌||◌}
+use Rattle.std.proofs.Common.{◌≡◌, ℕ, zero, suc, ◌+◌, ◌<◌, List, [], ◌∷◌, length, Bool, true, false, refl, sym, ap, ◌∙◌, arith, inl, inr}
+use Rattle.std.specs.Prelude.{slice_get, is_some, ◌||◌, if◌then◌else◌}
 use Rattle.ctl_program.specs.declared.types.Ty.{Ty}
 use Rattle.ctl_program.specs.declared.types.Ty.TheVariants as TyOf
 use Rattle.ctl_program.specs.declared.types.Ty.TheVariants.{Record}
 use Rattle.ctl_program.specs.declared.types.Component.{Component}
 use Rattle.ctl_program.specs.declared.types.RecordType.{RecordType}
 use Rattle.ctl_meaning.specs.Lists.{any_of}
-use Rattle.ctl_meaning.specs.Types.{Tables, opened_types, cells_of, cells_within, components, controlled_within, default_within, has_controlled, has_default, is_controlled, is_tagged_root, of_record, root_in, total}
+use Rattle.ctl_meaning.specs.Limits.{scalar_size, tag_size}
+use Rattle.ctl_meaning.specs.Types.{Tables, opened_types, as_record_size, cells_of, cells_within, components, controlled_within, default_within, has_controlled, has_default, is_controlled, is_tagged_root, of_record, root_in, size_of, size_within, total}
 use Rattle.ctl_layout.specs.Records.{is_laid}
 use Rattle.ctl_gen.proofs.Known.{AreParts, IsLaid, IsPart, IsScalar, laid_if, part_laid}
 
@@ -74,6 +75,21 @@ module _ (records : List RecordType) where
       ∙ (total_alike records t _ _ (λ c part. part_alike records t 1 (cells_within n records) (cells_within m records) (λ u first is. cells_enough n m u is (omega (arith, first, lt)) (omega (arith, first, less))) c part) x.0 x.1.parts
       ∙ ap (total (of_record 1 (cells_within m records))) (sym (x.1.has.found (suc m) less)))
 
+  -- the storage units of the tag, if there is one (13.3)
+  abbrev pub tag_units : ℕ → ℕ
+  tag_units t = if is_tagged_root (root_in (slice_get records t)) then tag_size else 0
+
+  pub size_enough : (n m t : ℕ) → is_laid records t ≡ true → t < n → t < m → size_within n records t ≡ size_within m records t
+  unfolding size_within
+  size_enough zero m t e lt less = absurd (omega (arith, lt))
+  size_enough (suc n) zero t e lt less = absurd (omega (arith, less))
+  size_enough (suc n) (suc m) t e lt less =
+      let x = laid_if records t e in
+      ap (λ u. as_record_size (u + tag_units t))
+      (ap (total (of_record scalar_size (size_within n records))) (x.1.has.found (suc n) lt)
+      ∙ (total_alike records t _ _ (λ c part. part_alike records t scalar_size (size_within n records) (size_within m records) (λ u first is. size_enough n m u is (omega (arith, first, lt)) (omega (arith, first, less))) c part) x.0 x.1.parts
+      ∙ ap (total (of_record scalar_size (size_within m records))) (sym (x.1.has.found (suc m) less))))
+
 -- what is said of a type is said of its components
 module _ (k : Tables) (t : ℕ) (cs : List Component) (laid : IsLaid k.records t cs) where
   pub all_within : components (suc (length k.records)) k.records t ≡ cs
@@ -104,3 +120,12 @@ module _ (k : Tables) (t : ℕ) (cs : List Component) (laid : IsLaid k.records t
       let n = length k.records in
       ap (total (of_record 1 (cells_within n k.records))) all_within
       ∙ total_alike k.records t _ _ (λ c part. part_alike k.records t 1 (cells_within n k.records) (cells_within (suc n) k.records) (λ u less is. cells_enough k.records n (suc n) u is (deeper u less) (let lt = deeper u less in omega (arith, lt))) c part) cs laid.parts
+
+  -- its storage units are those of its components and of its tag (13.3)
+  pub size_laid : size_of k (Record t) ≡ as_record_size (total (size_of k) cs + tag_units k.records t)
+  unfolding opened_types
+  size_laid =
+      let n = length k.records in
+      ap (λ u. as_record_size (u + tag_units k.records t))
+      (ap (total (of_record scalar_size (size_within n k.records))) all_within
+      ∙ total_alike k.records t _ _ (λ c part. part_alike k.records t scalar_size (size_within n k.records) (size_within (suc n) k.records) (λ u less is. size_enough k.records n (suc n) u is (deeper u less) (let lt = deeper u less in omega (arith, lt))) c part) cs laid.parts)

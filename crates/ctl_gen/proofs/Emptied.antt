@@ -213,7 +213,7 @@ module _ (ask : Ask) (k : Tables) (code : Code) (setting : Setting k code) (call
               (added ask code (Sure k code w0) (suc (length os) + 0) 2 2 1 1 _ c (tells ks) _ (omega arith) (omega arith)
               (both_counted ask k code (Sure k code w0) (Sure k code w0) (c + count k (begin_finalization m.number w)) 1 1 1 1 2 2 _ c (tells frames) (tells ks) _ _ (omega arith) (omega arith) (omega arith)
               (turn_counted (member_of m) m c a.1 w le one.there)
-              (typed_runs ask k code setting call default constants bound calls Collection (λ y sure. sure) m w0 frames c a.1 w _ le fits one.there one.plain one.part (turn_step sets failed ks h l w (o ∷ os) (Some a) are is))
+              (typed_runs ask k code setting call default constants bound calls Collection (λ n1 v. refl) (λ y sure. sure) m w0 frames c a.1 w _ le fits one.there one.plain one.part (turn_step sets failed ks h l w (o ∷ os) (Some a) are is))
               rest))
             where
               m : Object

@@ -1,5 +1,5 @@
 -- The layouts of the record types of a well-typed program are well formed: the type of a component is declared where the record type is, or
--- around.
+-- around, and each cell has its storage units.
 use Rattle.std.proofs.Common.{◌≡◌, ℕ, zero, suc, ◌+◌, ◌<◌, ◌≤◌, List, [], ◌∷◌, ◌++◌, length, Bool, true, false, Option, Some, None, refl, sym, ap, ◌∙◌, subst, arith, take}
 use Rattle.std.specs.Prelude.{slice_get, if◌then◌else◌}
 use Rattle.std.proofs.lemmas.List.{length-take}
@@ -22,7 +22,7 @@ use Rattle.ctl_code.specs.Table as Table
 use Rattle.ctl_code.specs.Valid.{AreBegunBy, AreInScope, IsBegunBy, IsDeclarable, IsDeclaredIn, IsLaid, is_finalized}
 use Rattle.ctl_layout.specs.Layout.{IsLaidOut, cells_by, next_position, parent_layout}
 use Rattle.ctl_layout.specs.Defaults.{begun_before, begun_from, by_type, constant_of, finalized_by, initial_by, initial_of, is_begun, is_finalized_by, type_if}
-use Rattle.ctl_gen.proofs.Layouts.{IsAt, Perhaps, at, controlled_are, rise_to, told, type_of}
+use Rattle.ctl_gen.proofs.Layouts.{IsAt, Perhaps, at, controlled_are, rise_to, roomy, told, type_of}
 
 -- Tables -------------------------------------------------------------------------------------------
 
@@ -157,6 +157,7 @@ module _ (program : Checked) (typed : WellTyped program) (code : Code) (laid : I
       record {
         operations = subst (λ n. AreInScope code n t) level (in_scope t r.0 home.0 r.1 home.1);
         types = subst (λ n. AreBegunBy code n x.begun.items) level (subst (λ o. AreBegunBy code (length home.0) (Table.begun_in o)) there (begun_within (suc t) t (omega arith) r.0 home.0 r.1 home.1));
+        units = (roomy program.records code.layouts.items laid.layouts t x there).units;
         rise = rise_to (length x.offsets.items) 0 x.begun.items (told program.records code.layouts.items laid.layouts t x there).rise;
         controlled = controlled_are program.records code.layouts.items laid.layouts t x there ∙ finalized_same code x.begun.items;
       }

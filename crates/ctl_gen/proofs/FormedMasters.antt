@@ -4,11 +4,13 @@ use Rattle.std.specs.Prelude.{◌&&◌, slice_get}
 use Rattle.ctl_program.specs.declared.types.Ty.{Ty}
 use Rattle.ctl_program.specs.declared.types.Ty.TheVariants.{Integer, Count, Boolean, Address, Handle, Access, Record}
 use Rattle.ctl_program.specs.declared.types.Var.{Var}
+use Rattle.ctl_program.specs.declared.types.Root.{Root}
 use Rattle.ctl_program.specs.declared.types.RecordType.{RecordType}
 use Rattle.ctl_program.specs.declared.expression.Actual.{Actual}
 use Rattle.ctl_program.specs.declared.expression.Expr.{Expr}
+use Rattle.ctl_program.specs.declared.statement.Association.{Association}
 use Rattle.ctl_program.specs.declared.statement.Item.{Item}
-use Rattle.ctl_program.specs.declared.statement.Item.TheVariants.{Collections, Object}
+use Rattle.ctl_program.specs.declared.statement.Item.TheVariants.{Collections, Object, Pool}
 use Rattle.ctl_program.specs.declared.statement.Stmt.{Stmt}
 use Rattle.ctl_program.specs.declared.statement.Stmt.TheVariants.{rolls-Assign, rolls-AssignRecord, rolls-Block, rolls-Call, rolls-Dispatch, rolls-Exit, rolls-For, rolls-Free, rolls-If, rolls-LibraryAllocate, rolls-LibraryDeallocate, rolls-Loop, rolls-NewLine, rolls-Nothing, rolls-Null, rolls-Put, rolls-PutLine, rolls-Raise, rolls-RaiseAgain, rolls-Release, rolls-Return, rolls-While}
 use Rattle.ctl_program.specs.declared.statement.Arm.{Arm}
@@ -22,6 +24,7 @@ use Rattle.ctl_well_typed.specs.Statements.{Chosen, Done, DoneEach, Elaborated, 
 use Rattle.ctl_well_typed.specs.Statements as D
 use Rattle.ctl_code.specs.declared.kinds.Kind.{Kind}
 use Rattle.ctl_code.specs.declared.kinds.Kind.TheVariants.{Block}
+use Rattle.ctl_code.specs.declared.code.DiscriminantOrder.{DiscriminantOrder}
 use Rattle.ctl_code.specs.declared.code.Instr.TheVariants as InstrOf
 use Rattle.ctl_code.specs.declared.code.Way.TheVariants as WayOf
 use Rattle.ctl_code.specs.declared.code.Code.{Code}
@@ -30,10 +33,10 @@ use Rattle.ctl_code.specs.Valid.{IsAtEnd, IsDeclarable, HasCollection, outermost
 use Rattle.ctl_layout.specs.Around.{behind, local_at, out_to}
 use Rattle.ctl_layout.specs.Parts.{Reached, Variable, Part, Object, part_runs, parts_run}
 use Rattle.ctl_layout.specs.Values.{ValueCode, actual_code, copied, sourced, value_code, value_type, reached_by}
-use Rattle.ctl_layout.specs.Records.{is_run_type}
+use Rattle.ctl_layout.specs.Records.{is_pool, is_run_type}
 use Rattle.ctl_layout.specs.Defaults.{is_assignable, is_outermost}
 use Rattle.ctl_layout.specs.Layout as Layout
-use Rattle.ctl_layout.specs.Layout.{ArmCode, HandlerCode, ItemCode, MasterCode, StatementCode, all, all_items, arm_code, arms_run, assign, assign_record, block, call, exit, free, gathers_code, return, handled, handler_code, handlers_run, has_choice, in_master, inside, item_code, master_code, missing_statement, statement_code, tested, valued, with_value}
+use Rattle.ctl_layout.specs.Layout.{ArmCode, HandlerCode, ItemCode, MasterCode, StatementCode, all, all_items, arm_code, arms_run, assign, assign_record, block, call, exit, free, gathers_code, return, handled, handler_code, handlers_run, has_choice, in_master, inside, item_code, master_code, missing_statement, order_of, ordered_pool, statement_code, tested, valued, with_value}
 use Rattle.ctl_layout.proofs.Extensions.{both_true}
 use Rattle.ctl_layout.proofs.TreeLayers.{arm_roll, layer_of, master_roll, handler_roll}
 use Rattle.ctl_gen.proofs.Place.{HasAt}
@@ -46,7 +49,7 @@ use Rattle.ctl_gen.proofs.FormedExpressions.{copied_found, name_found, source_fo
 use Rattle.ctl_gen.proofs.FormedLines.{block_formed}
 use Rattle.ctl_gen.proofs.FormedParts.{IsBegun, IsFound, record_formed}
 use Rattle.ctl_gen.proofs.Walked.{part_begun}
-use Rattle.ctl_gen.proofs.FormedStatements.{MayDeclare, Stays, all_stay, assign_formed, assign_part_formed, copy_formed, declaration_formed, for_stays, free_formed, free_part_formed, leaves_stay, leaves_when_stay, loop_stays, returned_formed, tested_turns, valued_formed}
+use Rattle.ctl_gen.proofs.FormedStatements.{MayDeclare, Stays, all_stay, assign_formed, assign_part_formed, copy_formed, declaration_formed, for_stays, free_formed, free_part_formed, leaves_stay, leaves_when_stay, loop_stays, pool_formed, returned_formed, tested_turns, valued_formed}
 use Rattle.ctl_gen.proofs.FormedTexts.{print_formed}
 use Rattle.ctl_gen.proofs.FormedTypes.{run_scalar}
 use Rattle.ctl_gen.proofs.FormedValues.{Fine, usable_as, value_usable}
@@ -114,11 +117,31 @@ module _ (code : Code) (records : List RecordType) (k : W.Setting) (declarable :
   collections_good [] h = λ runs s agrees. absurd (cc)
   collections_good (a ∷ more) h = λ runs s agrees. gathers_good h 0 s agrees
 
+  -- a block pool is declared with a value for each of its discriminants
+  ordered_good : (env : W.Frames) (slot t : ℕ) (o : Option DiscriminantOrder) (x y : Expr) → W.InView k env (Record t) → T.Typed k env x Count → T.Typed k env y Count → GoodItem env (ordered_pool slot t o (value_code x) (value_code y))
+  ordered_good env slot t None x y view h g = λ runs s agrees. absurd (cc)
+  ordered_good env slot t (Some order) x y view h g = λ runs s agrees.
+      let masters = length env in
+      let both_run = (both_true (is_pool records t) ((value_code x).runs records && (value_code y).runs records) runs).1 in
+      let each_runs = both_true ((value_code x).runs records) ((value_code y).runs records) both_run in
+      let usable = λ (e : Expr) (fine : Fine code masters (value_code e) Count). usable_as code masters (value_code e) Count tt fine in
+      pool_formed code masters slot t order (value_code x) (value_code y) s agrees.deep
+      (usable x (typed_fine code records k may_call may_new h each_runs.0))
+      (usable y (typed_fine code records k may_call may_new g each_runs.1))
+      (subst (λ n. IsDeclarable code n t) (sym agrees.deep) (declarable env t view))
+
+  -- which are both of them, in one order or the other
+  pool_good : {env : W.Frames} {r : Root} {ds : List Association} (slot t : ℕ) → W.InView k env (Record t) → D.Given k env r ds → GoodItem env (item_code (Pool slot t ds))
+  pool_good slot t view D.no_more_values = λ runs s agrees. absurd (cc)
+  pool_good slot t view (D.one_more_value d h D.no_more_values) = λ runs s agrees. absurd (cc)
+  pool_good {env} slot t view (D.one_more_value {i = i} {x = x} d h (D.one_more_value {i = j} {x = y} e g D.no_more_values)) = ordered_good env slot t (order_of i j) x y view h g
+  pool_good slot t view (D.one_more_value d h (D.one_more_value e g (D.one_more_value f m rest))) = λ runs s agrees. absurd (cc)
+
   item_good : {env : W.Frames} {x : Item} → Elaborated k env x → GoodItem env (item_code x)
   item_good {env} (D.object {number = slot} {t = ty} {value = o} fresh view perhaps) = object_good env slot ty o fresh view perhaps
   item_good D.silent = λ runs s agrees. none code s
   item_good (D.collections {as' = as'} gathers) = collections_good as' gathers
-  item_good (D.pool fresh view rooted pool long given) = λ runs s agrees. absurd (cc)
+  item_good (D.pool {number = slot} {t = t} fresh view rooted pool long given) = pool_good slot t view given
 
   items_good : {env : W.Frames} {xs : List Item} → ElaboratedEach k env xs → GoodItem env (all_items (map item_code xs))
   items_good D.no_more_items = λ runs s agrees. none code s

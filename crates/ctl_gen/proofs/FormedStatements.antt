@@ -9,15 +9,16 @@ use Rattle.ctl_program.specs.declared.operators.Direction.{Direction}
 use Rattle.ctl_well_typed.specs.Setting as W
 use Rattle.ctl_code.specs.declared.kinds.Kind.{Kind}
 use Rattle.ctl_code.specs.declared.kinds.Kind.TheVariants.{Operand}
+use Rattle.ctl_code.specs.declared.code.DiscriminantOrder.{DiscriminantOrder}
 use Rattle.ctl_code.specs.declared.code.Instr.TheVariants as InstrOf
 use Rattle.ctl_code.specs.declared.code.Code.{Code}
 use Rattle.ctl_code.specs.declared.template.TextPart.{TextPart}
-use Rattle.ctl_code.specs.Windows.{depth, variable_at}
+use Rattle.ctl_code.specs.Windows.{depth, height, variable_at}
 use Rattle.ctl_code.specs.Valid.{IsCellOf, IsDeclarable, HasCollection, Leads}
 use Rattle.ctl_layout.specs.Parts.{Start, Reached, are_followed, located_code, part_code, part_runs}
 use Rattle.ctl_layout.specs.Around.{Line, Around, behind, local_at, local_cell, new_operand, newest_at, newest_cell, out_to}
 use Rattle.ctl_layout.specs.Values.{ValueCode, held, value_type}
-use Rattle.ctl_layout.specs.Layout.{StatementCode, all, assign_code, assign_part_code, bounds_code, copy, declaration, for, free_part_code, in_loop, leaves_code, loop, return_held, scalar_code, store_part_code, test_code, test_held, test_length, tested_code, turns_code, valued_code, with_bounds}
+use Rattle.ctl_layout.specs.Layout.{StatementCode, all, assign_code, assign_part_code, bounds_code, copy, declaration, discriminants_code, for, free_part_code, in_loop, leaves_code, loop, pool_code, return_held, scalar_code, store_part_code, test_code, test_held, test_length, tested_code, turns_code, valued_code, with_bounds, with_discriminants}
 use Rattle.ctl_layout.specs.Defaults.{is_declared}
 use Rattle.ctl_layout.specs.Records.{is_plain}
 use Rattle.ctl_layout.proofs.Extensions.{both_true}
@@ -72,6 +73,20 @@ module _ (code : Code) where
       let begun = found_so.1 (part_begun records o (both_true (is_plain records t) (part_runs o records) runs).1) in
       both code (part_code o t s) ((declare, over) ∷ []) s over (Some s) (part_formed code (depth s) o t s refl found_so.0 begun)
       (one code declare over (Some s) (λ p next. (may, (s, refl, next))))
+
+  -- two values of one type, one after the other
+  two_formed : (masters : ℕ) (ty : Ty) (x y : ValueCode) (s : List Kind) → depth s ≡ masters → Usable code masters x ty → Usable code masters y ty → Formed code (x.code (new_operand s) ty s ++ y.code (new_operand (Operand ty ∷ s)) ty (Operand ty ∷ s)) s (Some (Operand ty ∷ Operand ty ∷ s))
+  two_formed masters ty x y s deep from to =
+      let one_up = Operand ty ∷ s in
+      both code (x.code (new_operand s) ty s) (y.code (new_operand one_up) ty one_up) s one_up (Some (Operand ty ∷ one_up)) (from.formed (new_operand s) s deep refl) (to.formed (new_operand one_up) one_up deep refl)
+
+  -- a block pool, with its discriminants (3.7.1, 13.11)
+  pub pool_formed : (masters slot t : ℕ) (order : DiscriminantOrder) (x y : ValueCode) (s : List Kind) → depth s ≡ masters → Usable code masters x Count → Usable code masters y Count → IsDeclarable code (depth s) t → Formed code (pool_code slot t order x y s) s (Some s)
+  pool_formed masters slot t order x y s deep from to may =
+      let two = with_discriminants s in
+      let declare = InstrOf.DeclarePool slot t order (height s) in
+      both code (discriminants_code x y s) ((declare, two) ∷ []) s two (Some s) (two_formed masters Count x y s deep from to)
+      (one code declare two (Some s) (λ p next. (may, (s, refl, (refl, next)))))
 
   -- Statements -------------------------------------------------------------------------------------
 
@@ -177,12 +192,10 @@ module _ (code : Code) where
       let s = a.stack in
       let one_up = Operand Integer ∷ s in
       let top = with_bounds s in
-      let first = low.code (new_operand s) Integer s in
-      let second = high.code (new_operand one_up) Integer one_up in
       let turn = body.code (in_loop top) n in
       let q = p + length (bounds_code low high s) in
       let cell = parameter s agrees in
       both_at code p (bounds_code low high s) (turns_code (newest_at s v) v way turn s) s top (Some s)
-      (both code first second s one_up (Some top) (from.formed (new_operand s) s agrees.deep refl) (to.formed (new_operand one_up) one_up agrees.deep refl) p)
+      (two_formed (length env) Integer low high s agrees.deep from to p)
       (subst (λ o. FormedAt code q (turns_code o v way turn s) top (Some s)) (sym cell.1)
       (turns_formed code q s v way cell.0 turn cell.2 (λ lead. h (in_loop top) n (q + 1 + 1) (agrees_under env one_up Integer (agrees_under env s Integer agrees)) texts (q + 1, refl, lead))))

@@ -3,7 +3,7 @@ use Rattle.std.proofs.Common.{◌<◌, ◌≡◌, ℕ, zero, suc, ◌+◌, ◌�
 use Rattle.std.specs.Prelude.{option_map, slice_get}
 use Rattle.std.proofs.lemmas.List.{length-map}
 use Rattle.std.proofs.lemmas.Bool.{leb-true}
-use Rattle.ctl_program.specs.declared.types.AccessType.{AccessType}
+use Rattle.std.proofs.lemmas.Option.{slice_get-map}
 use Rattle.ctl_program.specs.declared.types.RecordType.{RecordType}
 use Rattle.ctl_program.specs.declared.types.Root.{Root}
 use Rattle.ctl_program.specs.declared.types.Root.TheVariants.{BlockPool, Controlled, MarkPool, Untagged}
@@ -23,14 +23,14 @@ use Rattle.ctl_code.specs.declared.code.Operations.{Operations}
 use Rattle.ctl_code.specs.declared.code.Code.{Code}
 use Rattle.ctl_code.specs.Valid.{AreInScope, IsBegun, IsDeclarable, IsEntry, IsFine, IsInScope, HasCollection, IsValid, Leads, MayBeEntry, TakesObject, outermost}
 use Rattle.ctl_layout.specs.Around.{Line, Around, behind}
+use Rattle.ctl_layout.specs.Layout as Layout
 use Rattle.ctl_layout.specs.Layout.{bodies, body_code, entries_from, entry_at, HasKinds, in_body, instructions_of, IsLaidOut, kinds_of, master_code, nowhere, operations_in, operations_of, program_code}
 use Rattle.ctl_layout.specs.Defaults.{is_outermost}
 use Rattle.ctl_layout.specs.Records.{adjust_by}
-use Rattle.ctl_layout.specs.Run.{AreLinked, IsBody, IsRun, IsWritten, are_standard}
+use Rattle.ctl_layout.specs.Run.{AreLinked, IsBody, IsRun, IsWritten}
 use Rattle.ctl_gen.proofs.Known.{both_true}
 use Rattle.ctl_gen.proofs.Place.{HasAt, has_all}
 use Rattle.ctl_gen.proofs.Place as Place
-use Rattle.ctl_gen.proofs.Gathers.{collection_in}
 use Rattle.ctl_gen.proofs.Formed.{AreFine, fine_both, FormedAt, Has, has_back, has_front}
 use Rattle.ctl_gen.proofs.FormedAround.{Agrees, agrees_body}
 use Rattle.ctl_gen.proofs.FormedLayouts.{alike, declarable, declarable_in, home_of, layouts_laid, not_more}
@@ -265,10 +265,10 @@ module _ (program : Checked) (code : Code) (laid : IsLaidOut program code) (kind
       ((e, x.1, omega (arith, level, least)), (e, x.1, kind_told s.fine.result, subst (λ m. length is.formals ≤ m) (sym (slots_told s.fine.body)) (formals_first is.formals s.fine.others)))
 
   -- the table has the collection of each access type in view, which stands in one of the masters around
-  collection_there : (env : W.Frames) (a : ℕ) → (to : W.HasAccess typed.k env a) → slice_get code.accesses.items a ≡ Some to.is.collection
+  collection_there : (env : W.Frames) (a : ℕ) → (to : W.HasAccess typed.k env a) → slice_get code.accesses.items a ≡ Some (Layout.home_of to.is)
   collection_there env a to =
       let there : slice_get program.accesses a ≡ Some to.is = sym (ap (λ xs. slice_get xs a) typed.fits.accesses) ∙ to.found in
-      ap (λ vs. slice_get vs a) laid.accesses ∙ collection_in program.accesses a ∙ ap (option_map (λ (x : AccessType). x.collection)) there
+      ap (λ vs. slice_get vs a) laid.accesses ∙ slice_get-map Layout.home_of program.accesses a ∙ ap (option_map Layout.home_of) there
 
   access_fine : (env : W.Frames) (a : ℕ) → (to : W.HasAccess typed.k env a) → AccessFine typed.k a to.is to.home
   access_fine env a to = typed.each_access a to.is to.home (sym (ap (λ xs. slice_get xs a) typed.fits.accesses) ∙ to.found) to.at_home
@@ -278,7 +278,7 @@ module _ (program : Checked) (code : Code) (laid : IsLaidOut program code) (kind
       let fine = access_fine env a to in
       let level = fine.level in
       let least = not_more to.home env to.encloses in
-      (to.is.collection, collection_there env a to, named_level fine.collection, omega (arith, level, least))
+      (Layout.home_of to.is, collection_there env a to, named_level fine.collection, omega (arith, level, least))
 
   -- and its record type is in view there
   may_new : MayNew code typed.k
@@ -286,7 +286,7 @@ module _ (program : Checked) (code : Code) (laid : IsLaidOut program code) (kind
       let fine = access_fine env a to in
       let level = fine.level in
       let least = not_more to.home env to.encloses in
-      (to.is.collection, collection_there env a to, named_level fine.collection, omega (arith, level, least), subst (λ n. IsDeclarable code n t) (sym level) (declarable program typed code laid to.home t (subst (W.InView typed.k to.home) designates fine.designated)))
+      (Layout.home_of to.is, collection_there env a to, named_level fine.collection, omega (arith, level, least), subst (λ n. IsDeclarable code n t) (sym level) (declarable program typed code laid to.home t (subst (W.InView typed.k to.home) designates fine.designated)))
 
   -- the level of a type says how many masters are around it
   assignable : (t : ℕ) → is_outermost (slice_get program.records t) ≡ true → IsDeclarable code outermost t
@@ -324,7 +324,7 @@ module _ (program : Checked) (code : Code) (laid : IsLaidOut program code) (kind
       good_body s is.0 (typed.each_subprogram f s is.0 e is.1)
 
   formed : BodiesFormed code program.records nowhere 1 0 program.subprograms
-  formed = bodies_formed code program.records program.subprograms (both_true (are_standard program.accesses) ((bodies program.subprograms).runs program.records) run_it).1 good nowhere 1 0 printed stands.1
+  formed = bodies_formed code program.records program.subprograms run_it good nowhere 1 0 printed stands.1
 
   -- the main procedure is declared in no master, and has no formals
   all_fine : AreFine code 0 (program_code program)

@@ -1,5 +1,5 @@
 -- Unchecked_Deallocation: the code frees the object that an access value designates as the program means it (13.11.2). The value is read once;
--- what held it becomes null behind the finalization, and then the object is gone.
+-- what held it becomes null behind the finalization, and then the object is gone and its storage given back (13.11).
 use Rattle.std.proofs.Common.{◌≡◌, ℕ, zero, suc, ◌+◌, ◌≤◌, List, [], ◌∷◌, ◌++◌, length, Option, Some, None, Bool, true, false, refl, sym, ap, ◌∙◌, subst, arith, length-append}
 use Rattle.std.specs.Prelude.{slice_get, nat_eq, not, ◌&&◌, if◌then◌else◌, option_map}
 use Rattle.std.proofs.lemmas.Bool.{eqb-true, ne_eqb}
@@ -9,36 +9,38 @@ use Rattle.ctl_program.specs.declared.types.AccessType.{AccessType}
 use Rattle.ctl_program.specs.declared.types.Var.{Var}
 use Rattle.ctl_program.specs.declared.expression.Step.{Step}
 use Rattle.ctl_program.specs.declared.expression.Step.TheVariants.{Component}
-use Rattle.ctl_tree.specs.declared.ending.Stop.TheVariants.{UseAfterFree, FreeWhileFinalizing, ForeignFree}
+use Rattle.ctl_tree.specs.declared.ending.Stop.TheVariants.{UseAfterFree, FreeWhileFinalizing, ForeignFree, BadAddress}
 use Rattle.ctl_tree.specs.declared.event.Cause.TheVariants as CauseOf
-use Rattle.ctl_meaning.specs.World.{Standard, InBlock, InSubpool, Origin, Declared, Allocated, Object, Collection, Log, World}
+use Rattle.ctl_tree.specs.declared.event.Event.TheVariants.{Deallocate}
+use Rattle.ctl_meaning.specs.World.{Standard, InBlock, InSubpool, Origin, Declared, Allocated, BlockPool, Object, Log, World}
 use Rattle.ctl_meaning.specs.Lists.{opened_lists}
 use Rattle.ctl_meaning.specs.Activations.{master_of}
 use Rattle.ctl_meaning.specs.Objects.{cells_at, first_cells, is_untouched, is_finalizing, is_of_set, object_in}
-use Rattle.ctl_meaning.specs.Changes.{object_at, forget, set_value, slot_at, write_cells}
+use Rattle.ctl_meaning.specs.Changes.{in_pools, is_vacant, object_at, forget, set_value, slot_at, write_cells}
+use Rattle.ctl_meaning.specs.Pools.{block_at, block_pool_at, give_block}
 use Rattle.ctl_meaning.specs.Choice.{Ask, picked}
 use Rattle.ctl_meaning.specs.Members.{member_of, is_due}
-use Rattle.ctl_meaning.specs.Outcome.{program_error, ByRaise, Result, Goes, Leaves, Out, Gives, Stops, Act, Done, Fine, add, bind, on_goes, ◌>>=◌, done, nothing, raise, stop, counted, ticked, look, change, either, on_some, opened_outcome}
-use Rattle.ctl_meaning.specs.Types.{Tables, has_controlled, offset_in, placed}
-use Rattle.ctl_meaning.specs.Names.{Found, Call, Default, Tools, existing, gone, moved as found_behind, read_found, read_part, scalar_of, write_found, write_part}
+use Rattle.ctl_meaning.specs.Outcome.{program_error, ByRaise, Result, Goes, Leaves, Out, Gives, Stops, Act, Done, Fine, add, bind, on_goes, ◌>>=◌, ◌>>◌, done, nothing, stop, counted, ticked, look, change, show, either, on_some, opened_outcome}
+use Rattle.ctl_meaning.specs.Types.{Tables, has_controlled, offset_in, operation, placed, record_of, size_of}
+use Rattle.ctl_meaning.specs.Names.{Found, Call, Default, Tools, existing, gone, moved as found_behind, read_found, read_part, scalar_of, write_found, write_part, OfSubprogram, opened_names}
 use Rattle.ctl_meaning.specs.Names as Names
-use Rattle.ctl_meaning.specs.Finalization.{Spot, finalize_object}
-use Rattle.ctl_meaning.specs.Storage.{program_error_if}
+use Rattle.ctl_meaning.specs.Finalization.{Spot, finalize_object, with_home}
+use Rattle.ctl_meaning.specs.Storage.{give_back, library_deallocate, program_error_if, storage_actuals, with_block_pool}
 use Rattle.ctl_meaning.specs.Allocation.{finalize_unfinalized, free, free_object, free_value, freed, returns_storage, set_in, with_set}
 use Rattle.ctl_code.specs.declared.code.Code.{Code}
 use Rattle.ctl_code.specs.declared.code.Instr.TheVariants as InstrOf
 use Rattle.ctl_code.specs.declared.kinds.Kind.TheVariants.{Operand}
 use Rattle.ctl_code.specs.States.{Word, Located, Complete, Point, Nulled, NullVariable, NullPart, Frame, Freeing, State}
 use Rattle.ctl_code.specs.Table as Table
-use Rattle.ctl_code.specs.Table.{by_free, by_free_part, component_of, finalize_freed, finalize_typed, free_member, freed_in, freed_part, has_part_in, out_of}
+use Rattle.ctl_code.specs.Table.{GivenBack, Returned, NotReturned, by_free, by_free_part, component_of, finalize_freed, finalize_typed, free_member, freed_by, freed_in, freed_part, has_part_in, object_return, out_of, pool_return, return_to, storage_of}
 use Rattle.ctl_code.specs.Steps.{moved, step}
 use Rattle.ctl_layout.specs.Around.{Line, out_to}
 use Rattle.ctl_layout.specs.Parts.{Start, are_followed, located_code, parts_run}
-use Rattle.ctl_layout.specs.Layout.{free_part_code}
-use Rattle.ctl_gen.proofs.Known.{both_true}
+use Rattle.ctl_code.proofs.Storage.{OnReturn}
+use Rattle.ctl_layout.specs.Layout.{free_part_code, home_of}
+use Rattle.ctl_gen.proofs.Known.{both_true, no_deallocate}
 use Rattle.ctl_gen.proofs.Each.{IfFound, found_passes}
-use Rattle.ctl_gen.proofs.Collections.{Belongs}
-use Rattle.ctl_gen.proofs.Worlds.{Settled, Since, Kept, object_fits, since_forget, since_value, since_written}
+use Rattle.ctl_gen.proofs.Worlds.{Fits, Settled, Since, Kept, object_fits, since_forget, since_returned, since_value, since_written}
 use Rattle.ctl_gen.proofs.Parted.{GivesDefaults}
 use Rattle.ctl_gen.proofs.Setting.{Setting, Calls, Sure, seen, tools_with}
 use Rattle.ctl_gen.proofs.Place.{laid_front, laid_back}
@@ -58,42 +60,93 @@ abbrev place_of : List ℕ → Nulled → Found
 place_of d (NullVariable out slot) = Names.InVariable (out_of d out) slot
 place_of d (NullPart s) = found_at s
 
--- the storage of an object of the standard pool is left alone
-no_storage : (K : Tools) (ty : Ty) (x : Origin) (cs : List Collection) (m : ℕ) → Belongs cs m x → returns_storage K ty x ≡ nothing
-unfolding returns_storage
-no_storage K ty (Declared n) cs m h = refl
-no_storage K ty (Allocated c Standard) cs m h = refl
-no_storage K ty (Allocated c (InBlock p a)) cs m h = absurd h
-no_storage K ty (Allocated c (InSubpool s)) cs m h = absurd h
+-- what giving storage back comes to
+abbrev gives_back : GivenBack → ℕ → Log → Out Done
+gives_back (Returned v) c l = Gives (Goes tt) 0 c l v
+gives_back (NotReturned s) c l = Stops s 0 l
+
+-- the library's Deallocate takes it back
+library_is : (n a c : ℕ) (l : Log) (w : World) → library_deallocate n a c l w ≡ gives_back (pool_return n a (block_pool_at n w.pools) w) c l
+unfolding library_deallocate with_block_pool opened_names opened_outcome
+library_is n a c l w = by (block_pool_at n w.pools)
+  where
+    vacated : (vacant : Bool) → either vacant (change (in_pools (give_block n a))) (stop BadAddress) c l w ≡ gives_back (if vacant then Returned (in_pools (give_block n a) w) else NotReturned BadAddress) c l
+    vacated true = refl
+    vacated false = refl
+
+    shut_or : (p : BlockPool) (opened : Bool) → either opened (look (λ v. either (is_vacant v (block_at a p)) (change (in_pools (give_block n a))) (stop BadAddress))) gone c l w ≡ gives_back (if not opened then NotReturned UseAfterFree else if is_vacant w (block_at a p) then Returned (in_pools (give_block n a) w) else NotReturned BadAddress) c l
+    shut_or p false = refl
+    shut_or p true = vacated (is_vacant w (block_at a p))
+
+    by : (p : Option BlockPool) → on_some p gone (λ x. either x.is_open (look (λ v. either (is_vacant v (block_at a x)) (change (in_pools (give_block n a))) (stop BadAddress))) gone) c l w ≡ gives_back (pool_return n a p w) c l
+    by None = refl
+    by (Some p) = shut_or p p.is_open
+
+-- so does the Deallocate of a pool, which no user wrote (13.11)
+block_is : (k : Tables) (code : Code) (K : Tools) (n a size c : ℕ) (l : Log) (w : World) → K.tables ≡ k → Fits k code w → give_back K n a size c l w ≡ gives_back (object_return n a (object_at n w) w) c l
+unfolding give_back existing gone opened_outcome
+block_is k code K n a size c l w same fits = by (object_at n w) (object_fits k code n w fits)
+  where
+    user : Object → ℕ → Act Done
+    user o f = show (Deallocate n size) >> with_home n (λ d. K.call (OfSubprogram f (storage_actuals n a size)) d) >> nothing
+
+    by : (y : Option Object) → IfFound (Settled k code w.ledger.next_master w.activations w.ledger.collections) y → on_some y gone (λ o. on_some (operation (λ x. x.deallocate) K.tables (record_of o.ty)) (library_deallocate n a) (user o)) c l w ≡ gives_back (object_return n a y w) c l
+    by None known = refl
+    by (Some o) known =
+        ap (λ x. on_some x (library_deallocate n a) (user o) c l w) (ap (λ y. operation (λ x. x.deallocate) y (record_of o.ty)) same ∙ no_deallocate k o.ty known.plain)
+        ∙ library_is n a c l w
+
+-- the storage of an object goes back as the machine gives it back
+storage_is : (k : Tables) (code : Code) (K : Tools) (ty : Ty) (x : Origin) (c : ℕ) (l : Log) (w : World) → K.tables ≡ k → Fits k code w → returns_storage K ty x c l w ≡ gives_back (return_to (storage_of x) w) c l
+unfolding returns_storage opened_outcome
+storage_is k code K ty (Declared m) c l w same fits = refl
+storage_is k code K ty (Allocated set Standard) c l w same fits = refl
+storage_is k code K ty (Allocated set (InBlock n a)) c l w same fits = block_is k code K n a (size_of K.tables ty) c l w same fits
+storage_is k code K ty (Allocated set (InSubpool s)) c l w same fits = refl
 
 -- Program_Error where a Finalize failed
 abbrev outcome : Bool → Result Done
 outcome false = Goes tt
 outcome true = Leaves (ByRaise program_error)
 
+-- what follows where storage was given back, or not
+abbrev finished : Bool → GivenBack → ℕ → Log → Out Done
+finished failed (Returned v) c l = Gives (outcome failed) 1 c l v
+finished failed (NotReturned s) c l = Stops s 1 l
+
 -- what follows where a place has become null
 abbrev vanishes : Object → Bool → Act Done
-vanishes o failed c l w = Gives (outcome failed) 1 c l (forget o.number w)
+vanishes o failed c l w = finished failed (return_to (storage_of o.origin) (forget o.number w)) c l
 
--- an object of the standard pool, whose value was in a variable
-variable_freed : (K : Tools) (m i : ℕ) (o : Object) (failed : Bool) (c : ℕ) (l : Log) (w : World) → returns_storage K o.ty o.origin ≡ nothing → freed K (Names.InVariable m i) o failed c l w ≡ vanishes o failed c l (set_value m i 0 w)
-unfolding freed write_found program_error_if scalar_of opened_lists opened_outcome
-variable_freed K m i o false c l w none = ap (λ (f : Act Done). bind (bind (add 0 (Gives (outcome false) 1 c l (forget o.number (set_value m i 0 w)))) (on_goes (λ _. f))) (on_goes (λ _. nothing))) none
-variable_freed K m i o true c l w none = ap (λ (f : Act Done). bind (bind (add 0 (Gives (outcome false) 1 c l (forget o.number (set_value m i 0 w)))) (on_goes (λ _. f))) (on_goes (λ _. raise program_error))) none
+finished_is : (failed : Bool) (g : GivenBack) (c : ℕ) (l : Log) → bind (add 1 (gives_back g c l)) (on_goes (λ _. program_error_if failed)) ≡ finished failed g c l
+unfolding program_error_if opened_outcome
+finished_is true (Returned v) c l = refl
+finished_is false (Returned v) c l = refl
+finished_is failed (NotReturned s) c l = refl
+
+-- an object is gone and its storage given back, behind the place that has become null
+gone_is : (k : Tables) (code : Code) (K : Tools) (o : Object) (failed : Bool) (c : ℕ) (l : Log) (w : World) → K.tables ≡ k → Fits k code (forget o.number w) → bind (add 1 (returns_storage K o.ty o.origin c l (forget o.number w))) (on_goes (λ _. program_error_if failed)) ≡ vanishes o failed c l w
+gone_is k code K o failed c l w same fits =
+    ap (λ x. bind (add 1 x) (on_goes (λ _. program_error_if failed))) (storage_is k code K o.ty o.origin c l (forget o.number w) same fits)
+    ∙ finished_is failed (return_to (storage_of o.origin) (forget o.number w)) c l
+
+-- an object whose value was in a variable
+variable_freed : (K : Tools) (m i : ℕ) (o : Object) (failed : Bool) (c : ℕ) (l : Log) (w : World) → freed K (Names.InVariable m i) o failed c l w ≡ bind (add 1 (returns_storage K o.ty o.origin c l (forget o.number (set_value m i 0 w)))) (on_goes (λ _. program_error_if failed))
+unfolding freed write_found scalar_of opened_lists opened_outcome
+variable_freed K m i o failed c l w = refl
 
 -- or in a component, whose object may be gone by then
-abbrev part_vanishes : Spot → Object → Bool → Option Object → Act Done
-part_vanishes s o failed None c l w = Stops UseAfterFree 0 l
-part_vanishes s o failed (Some x) c l w = vanishes o failed c l (write_cells s.object s.offset (0 ∷ []) w)
+abbrev part_vanishes : Tools → Spot → Object → Bool → Option Object → Act Done
+part_vanishes K s o failed None c l w = Stops UseAfterFree 0 l
+part_vanishes K s o failed (Some x) c l w = bind (add 1 (returns_storage K o.ty o.origin c l (forget o.number (write_cells s.object s.offset (0 ∷ []) w)))) (on_goes (λ _. program_error_if failed))
 
-part_freed : (K : Tools) (s : Spot) (o : Object) (failed : Bool) (c : ℕ) (l : Log) (w : World) → returns_storage K o.ty o.origin ≡ nothing → freed K (found_at s) o failed c l w ≡ part_vanishes s o failed (object_at s.object w) c l w
-unfolding freed write_found write_part existing gone program_error_if opened_outcome
-part_freed K s o failed c l w none = ap (λ (f : Act Done). bind (bind (bind (on_some (object_at s.object w) gone (λ x. change (write_cells s.object s.offset (0 ∷ []))) c l w) (on_goes (λ _. counted 1 (change (forget o.number))))) (on_goes (λ _. f))) (on_goes (λ _. program_error_if failed))) none ∙ by (object_at s.object w) failed
+part_freed : (K : Tools) (s : Spot) (o : Object) (failed : Bool) (c : ℕ) (l : Log) (w : World) → freed K (found_at s) o failed c l w ≡ part_vanishes K s o failed (object_at s.object w) c l w
+unfolding freed write_found write_part existing gone opened_outcome
+part_freed K s o failed c l w = by (object_at s.object w)
   where
-    by : (x : Option Object) (b : Bool) → bind (bind (bind (on_some x gone (λ y. change (write_cells s.object s.offset (0 ∷ []))) c l w) (on_goes (λ _. counted 1 (change (forget o.number))))) (on_goes (λ _. nothing))) (on_goes (λ _. program_error_if b)) ≡ part_vanishes s o b x c l w
-    by None b = refl
-    by (Some x) true = refl
-    by (Some x) false = refl
+    by : (x : Option Object) → bind (bind (bind (on_some x gone (λ y. change (write_cells s.object s.offset (0 ∷ []))) c l w) (on_goes (λ _. counted 1 (change (forget o.number))))) (on_goes (λ _. returns_storage K o.ty o.origin))) (on_goes (λ _. program_error_if failed)) ≡ part_vanishes K s o failed x c l w
+    by None = refl
+    by (Some x) = refl
 
 -- what an access value designates, which is to exist, where the collection of its type is seen
 abbrev designated_freed : Tools → List ℕ → ℕ → Found → ℕ → Act Done
@@ -136,23 +189,33 @@ module _ (ask : Ask) (k : Tables) (code : Code) (setting : Setting k code) (call
     abbrev Frees : ℕ → ℕ → State → ℕ → Target → Point → List Frame → Out Done → Type 0
     Frees b h s c e p ks o = Runs ask code (Kept k code w0) b h s c (arrives e p.display p.place ks p.operands) o
 
-    -- the object vanishes, and Program_Error is raised where a Finalize failed
-    vanishes_runs : (o : Object) (failed : Bool) (e : Target) (p : Point) (ks : List Frame) (s0 : State) (c : ℕ) (l : Log) (w : World) → Since k code w0 w → step ask code s0 ≡ moved l (Table.freed o.number failed p ks w) → Frees 1 3 s0 c e p ks (vanishes o failed c l w)
-    vanishes_runs o false e p ks s0 c l w fits first = last_step ask code (Kept k code w0) 1 3 s0 c 1 (arrives e p.display p.place ks p.operands) (Goes tt) l (forget o.number w) (omega arith) (since_forget k code o.number w0 w fits) first
-    vanishes_runs o true e p ks s0 c l w fits first = last_step ask code (Kept k code w0) 1 3 s0 c 1 (arrives e p.display p.place ks p.operands) (Leaves (ByRaise program_error)) l (forget o.number w) (omega arith) (since_forget k code o.number w0 w fits) first
+    -- what held its value is null: the object is gone, its storage is given back, and Program_Error is raised where a Finalize failed
+    vanishes_runs : (o : Object) (failed : Bool) (e : Target) (p : Point) (ks : List Frame) (s0 : State) (c : ℕ) (l : Log) (w : World) → Since k code w0 w → step ask code s0 ≡ moved l (Table.freed o.number (storage_of o.origin) failed p ks w) → Frees 1 3 s0 c e p ks (vanishes o failed c l w)
+    vanishes_runs o failed e p ks s0 c l w fits first = by failed (return_to (storage_of o.origin) (forget o.number w)) (since_returned k code (storage_of o.origin) w0 (forget o.number w) (since_forget k code o.number w0 w fits)) first
+      where
+        by : (b : Bool) (g : GivenBack) → OnReturn (Since k code w0) g → step ask code s0 ≡ moved l (freed_by b g p ks (forget o.number w)) → Frees 1 3 s0 c e p ks (finished b g c l)
+        by false (Returned v) fits1 go = last_step ask code (Kept k code w0) 1 3 s0 c 1 (arrives e p.display p.place ks p.operands) (Goes tt) l v (omega arith) fits1 go
+        by true (Returned v) fits1 go = last_step ask code (Kept k code w0) 1 3 s0 c 1 (arrives e p.display p.place ks p.operands) (Leaves (ByRaise program_error)) l v (omega arith) fits1 go
+        by b (NotReturned s) fits1 go = stop_step ask code (Kept k code w0) 1 3 s0 _ c 1 (arrives e p.display p.place ks p.operands) s l (omega arith) go refl refl
+
+    -- from the step in which it becomes null
+    gone_runs : (o : Object) (failed : Bool) (e : Target) (p : Point) (ks : List Frame) (s0 : State) (c : ℕ) (l : Log) (w : World) → Since k code w0 w → step ask code s0 ≡ moved l (Table.freed o.number (storage_of o.origin) failed p ks w) → Frees 1 3 s0 c e p ks (bind (add 1 (returns_storage K o.ty o.origin c l (forget o.number w))) (on_goes (λ _. program_error_if failed)))
+    gone_runs o failed e p ks s0 c l w fits first =
+        subst (Frees 1 3 s0 c e p ks) (sym (gone_is k code K o failed c l w refl (since_forget k code o.number w0 w fits).0))
+        (vanishes_runs o failed e p ks s0 c l w fits first)
 
     -- what held its value becomes null before
-    freed_runs : (nulled : Nulled) (o : Object) → returns_storage K o.ty o.origin ≡ nothing → (failed : Bool) (e : Target) (p : Point) (ks : List Frame) (s0 : State) (c : ℕ) (l : Log) (w : World) → Since k code w0 w → step ask code s0 ≡ moved l (freed_in nulled o.number failed p ks w) → Frees 1 3 s0 c e p ks (freed K (place_of p.display nulled) o failed c l w)
-    freed_runs (NullVariable out slot) o none failed e p ks s0 c l w fits first =
+    freed_runs : (nulled : Nulled) (o : Object) (failed : Bool) (e : Target) (p : Point) (ks : List Frame) (s0 : State) (c : ℕ) (l : Log) (w : World) → Since k code w0 w → step ask code s0 ≡ moved l (freed_in nulled o.number (storage_of o.origin) failed p ks w) → Frees 1 3 s0 c e p ks (freed K (place_of p.display nulled) o failed c l w)
+    freed_runs (NullVariable out slot) o failed e p ks s0 c l w fits first =
         let m = out_of p.display out in
-        subst (Frees 1 3 s0 c e p ks) (sym (variable_freed K m slot o failed c l w none))
-        (vanishes_runs o failed e p ks s0 c l (set_value m slot 0 w) (since_value k code m slot 0 w0 w fits) first)
-    freed_runs (NullPart s) o none failed e p ks s0 c l w fits first =
-        subst (Frees 1 3 s0 c e p ks) (sym (part_freed K s o failed c l w none)) (by (object_at s.object w) first)
+        subst (Frees 1 3 s0 c e p ks) (sym (variable_freed K m slot o failed c l w))
+        (gone_runs o failed e p ks s0 c l (set_value m slot 0 w) (since_value k code m slot 0 w0 w fits) first)
+    freed_runs (NullPart s) o failed e p ks s0 c l w fits first =
+        subst (Frees 1 3 s0 c e p ks) (sym (part_freed K s o failed c l w)) (by (object_at s.object w) first)
       where
-        by : (x : Option Object) → step ask code s0 ≡ moved l (freed_part s o.number failed x p ks w) → Frees 1 3 s0 c e p ks (part_vanishes s o failed x c l w)
+        by : (x : Option Object) → step ask code s0 ≡ moved l (freed_part s o.number (storage_of o.origin) failed x p ks w) → Frees 1 3 s0 c e p ks (part_vanishes K s o failed x c l w)
         by None go = stop_step ask code (Kept k code w0) 1 3 s0 _ c 0 (arrives e p.display p.place ks p.operands) UseAfterFree l (omega arith) go refl refl
-        by (Some x) go = vanishes_runs o failed e p ks s0 c l (write_cells s.object s.offset (0 ∷ []) w) (since_written k code s.object s.offset (0 ∷ []) w0 w fits) go
+        by (Some x) go = gone_runs o failed e p ks s0 c l (write_cells s.object s.offset (0 ∷ []) w) (since_written k code s.object s.offset (0 ∷ []) w0 w fits) go
 
     -- an object that is there belongs to a master, and is found by its own number
     settled_there : (n : ℕ) (w : World) (o : Object) → Since k code w0 w → object_at n w ≡ Some o → Settled k code w.ledger.next_master w.activations w.ledger.collections o
@@ -176,25 +239,19 @@ module _ (ask : Ask) (k : Tables) (code : Code) (setting : Setting k code) (call
         settled = settled_there n w o fits there
 
         by : (b : Bool) → (o.joined && (is_untouched o.state && has_part_in code o.ty)) ≡ b → step ask code s0 ≡ moved l (if b then finalize_typed code CauseOf.Free o.number o.ty ks w else Table.gives (Fine Complete) ks w) → Runs ask code (Sure k code w0) 1 1 s0 c (tells ks) (either b (finalize_object K CauseOf.Free (member_of o)) (done false) c l w)
-        by true is go = typed_runs ask k code setting call default constants bound calls CauseOf.Free (λ y sure. sure) o w0 ks c l w s0 le fits (found_itself n w o there) settled.plain (both_true _ _ (both_true _ _ is).1).1 go
+        by true is go = typed_runs ask k code setting call default constants bound calls CauseOf.Free (λ m v. refl) (λ y sure. sure) o w0 ks c l w s0 le fits (found_itself n w o there) settled.plain (both_true _ _ (both_true _ _ is).1).1 go
         by false is go = last_step ask code (Sure k code w0) 1 1 s0 c 0 (tells ks) (Goes false) l w (omega arith) (tt, fits) go
 
     -- behind its finalization
-    frees_due : (nulled : Nulled) (n : ℕ) (o : Object) (e : Target) (p : Point) (ks : List Frame) (s0 : State) (c : ℕ) (l : Log) (w : World) → c ≤ bound → Since k code w0 w → object_at n w ≡ Some o → step ask code s0 ≡ moved l (finalize_freed code o (Freeing nulled o.number p ∷ ks) w) → Frees 4 4 s0 c e p ks ((finalize_unfinalized K o >>= freed K (place_of p.display nulled) o) c l w)
+    frees_due : (nulled : Nulled) (n : ℕ) (o : Object) (e : Target) (p : Point) (ks : List Frame) (s0 : State) (c : ℕ) (l : Log) (w : World) → c ≤ bound → Since k code w0 w → object_at n w ≡ Some o → step ask code s0 ≡ moved l (finalize_freed code o (Freeing nulled o.number (storage_of o.origin) p ∷ ks) w) → Frees 4 4 s0 c e p ks ((finalize_unfinalized K o >>= freed K (place_of p.display nulled) o) c l w)
     unfolding picked opened_outcome
     frees_due nulled n o e p ks s0 c l w le fits there first =
-        both ask code (Sure k code w0) (Kept k code w0) 1 1 1 3 4 4 s0 c (tells (Freeing nulled o.number p ∷ ks)) (arrives e p.display p.place ks p.operands) (finalize_unfinalized K o c l w) (on_goes (freed K (place_of p.display nulled) o)) (omega arith) (omega arith) (omega arith)
-        (finalizes n o (Freeing nulled o.number p ∷ ks) s0 c l w le fits there first)
+        both ask code (Sure k code w0) (Kept k code w0) 1 1 1 3 4 4 s0 c (tells (Freeing nulled o.number (storage_of o.origin) p ∷ ks)) (arrives e p.display p.place ks p.operands) (finalize_unfinalized K o c l w) (on_goes (freed K (place_of p.display nulled) o)) (omega arith) (omega arith) (omega arith)
+        (finalizes n o (Freeing nulled o.number (storage_of o.origin) p ∷ ks) s0 c l w le fits there first)
         after
       where
-        settled : Settled k code w.ledger.next_master w.activations w.ledger.collections o
-        settled = settled_there n w o fits there
-
-        none : returns_storage K o.ty o.origin ≡ nothing
-        none = no_storage K o.ty o.origin w.ledger.collections settled.master settled.origin
-
-        after : (r : Result Bool) (c1 : ℕ) (l1 : Log) (w1 : World) → c1 ≤ c → Sure k code w0 (way_of r) w1 → Frees 1 3 (tells (Freeing nulled o.number p ∷ ks) r l1 w1) c1 e p ks (on_goes (freed K (place_of p.display nulled) o) r c1 l1 w1)
-        after (Goes b) c1 l1 w1 lo sure = freed_runs nulled o none b e p ks _ c1 l1 w1 sure.1 (ap (λ f. moved l1 (freed_in nulled o.number f p ks w1)) (heard b))
+        after : (r : Result Bool) (c1 : ℕ) (l1 : Log) (w1 : World) → c1 ≤ c → Sure k code w0 (way_of r) w1 → Frees 1 3 (tells (Freeing nulled o.number (storage_of o.origin) p ∷ ks) r l1 w1) c1 e p ks (on_goes (freed K (place_of p.display nulled) o) r c1 l1 w1)
+        after (Goes b) c1 l1 w1 lo sure = freed_runs nulled o b e p ks _ c1 l1 w1 sure.1 (ap (λ f. moved l1 (freed_in nulled o.number (storage_of o.origin) f p ks w1)) (heard b))
         after (Leaves y) c1 l1 w1 lo sure = absurd sure.0
 
     -- an object of this collection, unless it is being finalized
@@ -205,11 +262,11 @@ module _ (ask : Ask) (k : Tables) (code : Code) (setting : Setting k code) (call
         frees : Act Done
         frees = finalize_unfinalized K o >>= freed K (place_of p.display nulled) o
 
-        finalizing : (b : Bool) → step ask code s0 ≡ moved l (if b then Table.stopped FreeWhileFinalizing ks w else finalize_freed code o (Freeing nulled o.number p ∷ ks) w) → Frees 4 4 s0 c e p ks (either b (stop FreeWhileFinalizing) frees c l w)
+        finalizing : (b : Bool) → step ask code s0 ≡ moved l (if b then Table.stopped FreeWhileFinalizing ks w else finalize_freed code o (Freeing nulled o.number (storage_of o.origin) p ∷ ks) w) → Frees 4 4 s0 c e p ks (either b (stop FreeWhileFinalizing) frees c l w)
         finalizing true go = stop_step ask code (Kept k code w0) 4 4 s0 _ c 0 (arrives e p.display p.place ks p.operands) FreeWhileFinalizing l (omega arith) go refl refl
         finalizing false go = frees_due nulled n o e p ks s0 c l w le fits there go
 
-        foreign : (b : Bool) → step ask code s0 ≡ moved l (if b then Table.stopped ForeignFree ks w else if is_finalizing o.state then Table.stopped FreeWhileFinalizing ks w else finalize_freed code o (Freeing nulled o.number p ∷ ks) w) → Frees 4 4 s0 c e p ks (either b (stop ForeignFree) (either (is_finalizing o.state) (stop FreeWhileFinalizing) frees) c l w)
+        foreign : (b : Bool) → step ask code s0 ≡ moved l (if b then Table.stopped ForeignFree ks w else if is_finalizing o.state then Table.stopped FreeWhileFinalizing ks w else finalize_freed code o (Freeing nulled o.number (storage_of o.origin) p ∷ ks) w) → Frees 4 4 s0 c e p ks (either b (stop ForeignFree) (either (is_finalizing o.state) (stop FreeWhileFinalizing) frees) c l w)
         foreign true go = stop_step ask code (Kept k code w0) 4 4 s0 _ c 0 (arrives e p.display p.place ks p.operands) ForeignFree l (omega arith) go refl refl
         foreign false go = finalizing (is_finalizing o.state) go
 
@@ -227,7 +284,7 @@ module _ (ask : Ask) (k : Tables) (code : Code) (setting : Setting k code) (call
 
         -- the step, by the object and the access type, if there are such
         freed_as : Option Object → Option AccessType → State
-        freed_as o a = moved l (Table.free_object code nulled (option_map (λ z. z.collection) a) o ops (here d place ks w))
+        freed_as o a = moved l (Table.free_object code nulled (option_map home_of a) o ops (here d place ks w))
 
         known : (o : Option Object) (a : Option AccessType) → object_at (suc n) w ≡ o → slice_get k.accesses access ≡ a → step ask code s0 ≡ freed_as (object_at (suc n) w) (slice_get k.accesses access) → step ask code s0 ≡ freed_as o a
         known o a there found go = go ∙ ap (λ x. freed_as x (slice_get k.accesses access)) there ∙ ap (freed_as o) found

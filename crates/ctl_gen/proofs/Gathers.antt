@@ -19,7 +19,7 @@ use Rattle.ctl_code.specs.declared.kinds.Kind.{Kind}
 use Rattle.ctl_code.specs.States.{Word, Frame}
 use Rattle.ctl_code.specs.Table.{by_gather, numbers_to, with_sets}
 use Rattle.ctl_code.specs.Steps.{moved, step}
-use Rattle.ctl_layout.specs.Layout.{gathers_code}
+use Rattle.ctl_layout.specs.Layout.{gathers_code, home_of}
 use Rattle.ctl_gen.proofs.Place.{Laid}
 use Rattle.ctl_gen.proofs.Collections.{home}
 use Rattle.ctl_gen.proofs.Worlds.{Kept, Since, since_collection, since_layer}
@@ -28,11 +28,11 @@ use Rattle.ctl_gen.proofs.Cells.{here, by_code}
 use Rattle.ctl_gen.proofs.Does.{Does}
 use Rattle.ctl_gen.proofs.Follow.{Runs, Target, added, arrives, at, last_step, lands, one_step, stop_step}
 
--- where the collections of access types stand
-pub collection_in : (xs : List AccessType) (a : ℕ) → slice_get (map (λ x. x.collection) xs) a ≡ option_map (λ x. x.collection) (slice_get xs a)
-collection_in [] a = refl
-collection_in (x ∷ xs) zero = refl
-collection_in (x ∷ xs) (suc a) = collection_in xs a
+-- where the collections and the pools of access types stand
+pub home_in : (xs : List AccessType) (a : ℕ) → slice_get (map home_of xs) a ≡ option_map home_of (slice_get xs a)
+home_in [] a = refl
+home_in (x ∷ xs) zero = refl
+home_in (x ∷ xs) (suc a) = home_in xs a
 
 -- a further collection takes the next number
 pub next_gathered : (m slot : ℕ) (w : World) → (add_collection m slot (holding (Gathers w.ledger.next_collection)) w).ledger.next_collection - 1 ≡ w.ledger.next_collection
@@ -59,8 +59,8 @@ module _ (ask : Ask) (k : Tables) (code : Code) (setting : Setting k code) (call
 
   -- What its code does ----------------------------------------------------------------------------------
 
-  gather_step : (a count : ℕ) (s : List Kind) (o : Option AccessType) (d : List ℕ) (place : ℕ) (ks : List Frame) (ops : List Word) (l : Log) (w : World) → slice_get k.accesses a ≡ o → slice_get code.instructions.items place ≡ Some (InstrOf.Gather a count) → step ask code (at d place ks ops l w) ≡ moved l (by_gather (option_map (λ x. x.collection) o) count ops (here d place ks w))
-  gather_step a count s o d place ks ops l w there has = by_code ask code d place ks ops l w (InstrOf.Gather a count) has ∙ ap (λ y. moved l (by_gather y count ops (here d place ks w))) (setting.accesses a ∙ ap (option_map (λ x. x.collection)) there)
+  gather_step : (a count : ℕ) (s : List Kind) (o : Option AccessType) (d : List ℕ) (place : ℕ) (ks : List Frame) (ops : List Word) (l : Log) (w : World) → slice_get k.accesses a ≡ o → slice_get code.instructions.items place ≡ Some (InstrOf.Gather a count) → step ask code (at d place ks ops l w) ≡ moved l (by_gather (option_map home_of o) count ops (here d place ks w))
+  gather_step a count s o d place ks ops l w there has = by_code ask code d place ks ops l w (InstrOf.Gather a count) has ∙ ap (λ y. moved l (by_gather y count ops (here d place ks w))) (setting.accesses a ∙ ap (option_map home_of) there)
 
   -- the worlds with a further collection
   gathered_fits : (x : AccessType) (s : List Kind) (w0 : World) (d : List ℕ) (w : World) → Since k code w0 w → Sees d s w0 → Since k code w0 (gathered (last_of d) x w)

@@ -1,6 +1,6 @@
 -- The types of the variables of this version: scalar ones, and record types whose objects are declared, controlled or not tagged, whose
 -- defaults are constants and whose components are of such types again.
-use Rattle.std.proofs.Common.{◌≡◌, ℕ, zero, suc, ◌<◌, ◌≤◌, List, [], ◌∷◌, ◌++◌, length, get_or, Option, Some, None, Bool, true, false, refl, sym, ap, ◌∙◌, subst, arith, ◌⊎◌, inl, inr}
+use Rattle.std.proofs.Common.{◌≡◌, ◌≢◌, ℕ, zero, suc, ◌<◌, ◌≤◌, List, [], ◌∷◌, ◌++◌, length, get_or, Option, Some, None, Bool, true, false, refl, sym, ap, ◌∙◌, subst, arith, ◌⊎◌, inl, inr}
 use Rattle.std.specs.Prelude.{slice_get, is_none, if◌then◌else◌, ◌&&◌}
 use Rattle.std.proofs.lemmas.Option.{slice_get_cases, slice_get_past, slice_get_within}
 use Rattle.ctl_program.specs.declared.types.Ty.{Ty}
@@ -9,10 +9,10 @@ use Rattle.ctl_program.specs.declared.types.Root.{Root}
 use Rattle.ctl_program.specs.declared.types.Root.TheVariants.{Controlled, Untagged, BlockPool, MarkPool}
 use Rattle.ctl_program.specs.declared.types.Component.{Component}
 use Rattle.ctl_program.specs.declared.types.RecordType.{RecordType}
-use Rattle.ctl_meaning.specs.Types.{Tables, Elementary, category_of}
+use Rattle.ctl_meaning.specs.Types.{Tables, Elementary, category_of, of_record, operation, operation_in, record_of, root_in, root_of}
 use Rattle.ctl_layout.specs.declared.forms.Form.{Form}
 use Rattle.ctl_layout.specs.declared.forms.Form.TheVariants as FormOf
-use Rattle.ctl_layout.specs.Records.{are_parts, extends_such, form_by, forms_of, have_constants, is_laid, is_laid_by, is_laid_form, is_part, is_plain, is_plain_by, is_plain_form, is_root_run, is_run_type, may_default}
+use Rattle.ctl_layout.specs.Records.{are_parts, extends_such, form_by, forms_of, have_constants, is_laid, is_laid_by, is_laid_form, is_of_library, is_part, is_plain, is_plain_by, is_plain_form, is_root_run, is_run_type, may_default}
 pub use Rattle.ctl_layout.proofs.Extensions.{both_true}
 use Rattle.ctl_layout.proofs.Extensions.{HasComponents, IsRow, extends_none, extends_one, row_at, rows_length, same_components}
 
@@ -65,13 +65,14 @@ pub record IsLaid (records : List RecordType) (t : ℕ) (cs : List Component) : 
   pub has : HasComponents records t cs
   pub parts : AreParts records t cs
 
--- a type that descends from Controlled, or Limited_Controlled (7.6), or is not tagged
+-- a type that descends from Controlled or Limited_Controlled (7.6), or from Block_Pool, or is not tagged
 abbrev pub IsRootRun : RecordType → Type 0
-IsRootRun r = (r.root ≡ Controlled) ⊎ (r.root ≡ Untagged)
+IsRootRun r = ((r.root ≡ Controlled) ⊎ (r.root ≡ BlockPool)) ⊎ (r.root ≡ Untagged)
 
--- such a type that is laid out, with constants as defaults
+-- such a type that is laid out, with constants as defaults, and with no Allocate or Deallocate that the user wrote (13.11)
 pub record IsPlain (k : Tables) (t : ℕ) (r : RecordType) : Type 0 where
   pub kind : IsRootRun r
+  pub library : is_of_library r.operations ≡ true
   pub components : List Component
   pub laid : IsLaid k.records t components
   pub constants : have_constants components ≡ true
@@ -84,10 +85,10 @@ none_if : {A : Type 0} (o : Option A) → is_none o ≡ true → o ≡ None
 none_if None e = refl
 none_if (Some x) e = absurd (cc)
 
-root_if : (r : RecordType) (x : Root) → r.root ≡ x → is_root_run x r.operations ≡ true → IsRootRun r
-root_if r Controlled is e = inl is
-root_if r Untagged is e = inr is
-root_if r BlockPool is e = absurd (cc)
+root_if : (r : RecordType) (x : Root) → r.root ≡ x → is_root_run x r.operations ≡ true → IsRootRun r × (is_of_library r.operations ≡ true)
+root_if r Controlled is e = (inl (inl is), e)
+root_if r BlockPool is e = (inl (inr is), e)
+root_if r Untagged is e = (inr is, (both_true (is_of_library r.operations) (is_none r.operations.initialize && is_none r.operations.finalize) e).0)
 root_if r MarkPool is e = absurd (cc)
 
 -- Forms -------------------------------------------------------------------------------------------
@@ -141,6 +142,7 @@ pub record Extends (records : List RecordType) (t : ℕ) (r : RecordType) : Type
 -- and what one whose objects are declared does
 record ExtendsPlain (records : List RecordType) (t : ℕ) (r : RecordType) : Type 0 where
   kind : IsRootRun r
+  library : is_of_library r.operations ≡ true
   parts : AreParts records t r.own
   constants : have_constants r.own ≡ true
   parent : ExtendsSuch (is_plain records) t r
@@ -190,7 +192,8 @@ module _ (records : List RecordType) (t : ℕ) (r : RecordType) (here : slice_ge
       let h = both_true (is_root_run r.root r.operations) (extends_such is_plain_form made.before r.parent && (are_parts made.before r.own && have_constants r.own)) e in
       let g = both_true (extends_such is_plain_form made.before r.parent) (are_parts made.before r.own && have_constants r.own) h.1 in
       let f = both_true (are_parts made.before r.own) (have_constants r.own) g.1 in
-      record { kind = root_if r r.root refl h.0; parts = parts_if r.own f.0; constants = f.1; parent = parent_if is_plain_form plain_laid r.parent refl g.0 }
+      let x = root_if r r.root refl h.0 in
+      record { kind = x.0; library = x.1; parts = parts_if r.own f.0; constants = f.1; parent = parent_if is_plain_form plain_laid r.parent refl g.0 }
 
   -- a type that is plain is laid out too
   both_made : (is_plain_by made.before r ≡ true) ⊎ (is_laid_by made.before r ≡ true) → Extends records t r
@@ -274,8 +277,48 @@ plain_if k t e =
     let laid = laid_if k.records t (plain_laid (slice_get (forms_of k.records) t) e) in
     let y = constants_within (suc t) k.records t (omega arith) e in
     let constants = subst (λ cs. have_constants cs ≡ true) (same_components k.records t y.0 laid.0 y.1 laid.1.has) y.2 in
-    (x.0, x.1, record { kind = x.2.kind; components = laid.0; laid = laid.1; constants = constants })
+    (x.0, x.1, record { kind = x.2.kind; library = x.2.library; components = laid.0; laid = laid.1; constants = constants })
 
 -- so the type of a component is one of them
 pub part_plain : (k : Tables) (t : ℕ) (c : Component) (x : IsOfPlain k.records t c) → IsPlainType k (Record x.number)
 part_plain k t c x = plain_if k x.number x.plain
+
+-- Pools (13.11) -----------------------------------------------------------------------------------
+
+-- an object of such a type has the library's Allocate, if it is a pool
+pub no_allocate : (k : Tables) (ty : Ty) → IsPlainType k ty → operation (λ x. x.allocate) k (record_of ty) ≡ None
+unfolding operation operation_in record_of of_record
+no_allocate k (Record t) h = ap (operation_in (λ x. x.allocate)) h.1 ∙ none_if h.0.operations.allocate (both_true _ _ h.2.library).0
+no_allocate k Integer h = absurd h
+no_allocate k Count h = absurd h
+no_allocate k Boolean h = absurd h
+no_allocate k Address h = absurd h
+no_allocate k Handle h = absurd h
+no_allocate k (Access a) h = absurd h
+
+-- and the library's Deallocate
+pub no_deallocate : (k : Tables) (ty : Ty) → IsPlainType k ty → operation (λ x. x.deallocate) k (record_of ty) ≡ None
+unfolding operation operation_in record_of of_record
+no_deallocate k (Record t) h = ap (operation_in (λ x. x.deallocate)) h.1 ∙ none_if h.0.operations.deallocate (both_true _ _ h.2.library).1
+no_deallocate k Integer h = absurd h
+no_deallocate k Count h = absurd h
+no_deallocate k Boolean h = absurd h
+no_deallocate k Address h = absurd h
+no_deallocate k Handle h = absurd h
+no_deallocate k (Access a) h = absurd h
+
+never_mark_pool : (r : RecordType) → IsRootRun r → r.root ≢ MarkPool
+never_mark_pool r (inl (inl h)) e = let bad : Controlled ≡ MarkPool = sym h ∙ e in cc
+never_mark_pool r (inl (inr h)) e = let bad : BlockPool ≡ MarkPool = sym h ∙ e in cc
+never_mark_pool r (inr h) e = let bad : Untagged ≡ MarkPool = sym h ∙ e in cc
+
+-- and it is no mark pool
+pub no_mark_pool : (k : Tables) (ty : Ty) → IsPlainType k ty → root_of k (record_of ty) ≢ MarkPool
+unfolding root_of root_in record_of of_record
+no_mark_pool k (Record t) h = λ e. never_mark_pool h.0 h.2.kind (sym (ap root_in h.1) ∙ e)
+no_mark_pool k Integer h = absurd h
+no_mark_pool k Count h = absurd h
+no_mark_pool k Boolean h = absurd h
+no_mark_pool k Address h = absurd h
+no_mark_pool k Handle h = absurd h
+no_mark_pool k (Access a) h = absurd h

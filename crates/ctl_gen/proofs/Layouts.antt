@@ -1,14 +1,18 @@
 -- The layouts of record types in the code are those of the meaning.
-use Rattle.std.proofs.Common.{◌≡◌, ℕ, zero, suc, ◌+◌, ◌-◌, ◌<◌, ◌≤◌, List, [], ◌∷◌, ◌++◌, arith, length, length-append, append_assoc, append-nil, Option, Some, None, Bool, true, false, refl, sym, ap, ◌∙◌, subst, ◌⊎◌, inl, inr}
-use Rattle.std.specs.Prelude.{slice_get, if◌then◌else◌}
+use Rattle.std.proofs.Common.{◌≡◌, ℕ, zero, suc, ◌+◌, ◌*◌, ◌-◌, ◌<◌, ◌≤◌, List, [], ◌∷◌, ◌++◌, arith, length, length-append, append_assoc, append-nil, Option, Some, None, Bool, true, false, refl, sym, ap, ◌∙◌, subst, ◌⊎◌, inl, inr}
+use Rattle.std.specs.Prelude.{slice_get, nat_lt, if◌then◌else◌}
+use Rattle.std.proofs.lemmas.Bool.{ltb-true}
 use Rattle.std.proofs.lemmas.Option.{slice_get_within}
 use Rattle.ctl_program.specs.declared.types.Ty.{Ty}
 use Rattle.ctl_program.specs.declared.types.Ty.TheVariants as TyOf
 use Rattle.ctl_program.specs.declared.types.Ty.TheVariants.{Record}
+use Rattle.ctl_program.specs.declared.types.Root.{Root}
+use Rattle.ctl_program.specs.declared.types.Root.TheVariants.{BlockPool, Controlled, MarkPool, Untagged}
 use Rattle.ctl_program.specs.declared.types.Component.{Component}
 use Rattle.ctl_program.specs.declared.types.RecordType.{RecordType}
 use Rattle.ctl_meaning.specs.Lists.{item_or, keep}
-use Rattle.ctl_meaning.specs.Types.{Tables, cells_of, offset_in, placed, total}
+use Rattle.ctl_meaning.specs.Limits.{least_record_size, scalar_size, tag_size}
+use Rattle.ctl_meaning.specs.Types.{Tables, as_record_size, cells_of, is_tagged_root, offset_in, placed, root_in, size_of, total}
 use Rattle.ctl_code.specs.declared.code.Begun.{Begun}
 use Rattle.ctl_code.specs.declared.code.Initial.{Initial}
 use Rattle.ctl_code.specs.declared.code.Initial.TheVariants.{Constant, ByType}
@@ -16,11 +20,11 @@ use Rattle.ctl_code.specs.declared.code.Layout.{Layout}
 use Rattle.ctl_code.specs.Table as Table
 use Rattle.ctl_code.specs.Table.{has_part}
 use Rattle.ctl_code.specs.Valid.{PositionsRise}
-use Rattle.ctl_layout.specs.Layout.{AreLayouts, IsLayout, cells_by, next_position, offsets_from, offsets_in, parent_layout}
+use Rattle.ctl_layout.specs.Layout.{AreLayouts, IsLayout, cells_by, content_in, next_position, offsets_from, offsets_in, parent_layout, tag_of, units_by}
 use Rattle.ctl_layout.specs.Records.{is_laid}
 use Rattle.ctl_layout.specs.Defaults.{begun_before, begun_from, by_type, constant_of, finalized_by, initial_by, initial_of, is_begun, is_finalized_by, type_if}
 use Rattle.ctl_layout.proofs.Extensions.{HasComponents, extends_none, extends_one, get_behind, get_front, same_components}
-use Rattle.ctl_gen.proofs.Depths.{total_alike}
+use Rattle.ctl_gen.proofs.Depths.{scalar_of_record, size_laid, tag_units, total_alike}
 use Rattle.ctl_gen.proofs.Known.{AreParts, Extends, IsLaid, IsPart, IsScalar, extends_if, laid_if, part_laid}
 use Rattle.ctl_gen.proofs.Plain.{cells_laid, offset_laid, one_cell_each}
 
@@ -66,6 +70,7 @@ module _ (size : Ty → ℕ) where
 pub record Grows (layouts : List Layout) (x : Layout) (cs : List Component) (y : Layout) : Type 0 where
   pub level : y.level ≡ x.level
   pub cells : y.cells ≡ x.cells + total (cells_by layouts) cs
+  pub content : y.content ≡ x.content + total (units_by layouts) cs
   pub offsets : y.offsets.items ≡ x.offsets.items ++ offsets_from (cells_by layouts) x.cells cs
   pub begun : y.begun.items ≡ x.begun.items ++ begun_from layouts (cells_by layouts) (length x.offsets.items + 1) x.cells cs
 
@@ -73,18 +78,19 @@ pub record Grows (layouts : List Layout) (x : Layout) (cs : List Component) (y :
 pub record HasOwn (layouts : List Layout) (r : RecordType) (x : Layout) : Type 0 where
   pub level : x.level ≡ r.level
   pub cells : x.cells ≡ Table.size_in (parent_layout layouts r.parent) + total (cells_by layouts) r.own
+  pub content : x.content ≡ content_in (parent_layout layouts r.parent) + total (units_by layouts) r.own
   pub offsets : x.offsets.items ≡ offsets_in (parent_layout layouts r.parent) ++ offsets_from (cells_by layouts) (Table.size_in (parent_layout layouts r.parent)) r.own
   pub begun : x.begun.items ≡ Table.begun_in (parent_layout layouts r.parent) ++ begun_from layouts (cells_by layouts) (next_position (parent_layout layouts r.parent)) (Table.size_in (parent_layout layouts r.parent)) r.own
 
 pub grows_none : (layouts : List Layout) (x : Layout) → Grows layouts x [] x
 unfolding total
-grows_none layouts x = record { level = refl; cells = omega arith; offsets = sym (append-nil x.offsets.items); begun = sym (append-nil x.begun.items) }
+grows_none layouts x = record { level = refl; cells = omega arith; content = omega arith; offsets = sym (append-nil x.offsets.items); begun = sym (append-nil x.begun.items) }
 
 -- z is x with one more component
-pub grows_more : (layouts : List Layout) (x z : Layout) (c : Component) (cs : List Component) (y : Layout) → z.level ≡ x.level → z.cells ≡ x.cells + cells_by layouts c.ty → z.offsets.items ≡ x.offsets.items ++ x.cells ∷ []
+pub grows_more : (layouts : List Layout) (x z : Layout) (c : Component) (cs : List Component) (y : Layout) → z.level ≡ x.level → z.cells ≡ x.cells + cells_by layouts c.ty → z.content ≡ x.content + units_by layouts c.ty → z.offsets.items ≡ x.offsets.items ++ x.cells ∷ []
     → z.begun.items ≡ x.begun.items ++ begun_before (length x.offsets.items + 1) x.cells (initial_of layouts c) [] → Grows layouts z cs y → Grows layouts x (c ∷ cs) y
 unfolding total
-grows_more layouts x z c cs y level cells offsets begun h =
+grows_more layouts x z c cs y level cells content offsets begun h =
     let size = cells_by layouts in
     let p = length x.offsets.items + 1 in
     let n = x.cells + size c.ty in
@@ -92,6 +98,7 @@ grows_more layouts x z c cs y level cells offsets begun h =
     record {
       level = h.level ∙ level;
       cells = let more = h.cells in omega (arith, more, cells);
+      content = let more = h.content in omega (arith, more, content);
       offsets =
           h.offsets
           ∙ (ap (λ i. z.offsets.items ++ offsets_from size i cs) cells
@@ -107,13 +114,14 @@ grows_more layouts x z c cs y level cells offsets begun h =
     }
 
 -- behind what a type inherits
-pub grown : (layouts : List Layout) (r : RecordType) (x y : Layout) → x.level ≡ r.level → x.cells ≡ Table.size_in (parent_layout layouts r.parent) → x.offsets.items ≡ offsets_in (parent_layout layouts r.parent) → x.begun.items ≡ Table.begun_in (parent_layout layouts r.parent) → Grows layouts x r.own y → HasOwn layouts r y
-grown layouts r x y level cells offsets begun h =
+pub grown : (layouts : List Layout) (r : RecordType) (x y : Layout) → x.level ≡ r.level → x.cells ≡ Table.size_in (parent_layout layouts r.parent) → x.content ≡ content_in (parent_layout layouts r.parent) → x.offsets.items ≡ offsets_in (parent_layout layouts r.parent) → x.begun.items ≡ Table.begun_in (parent_layout layouts r.parent) → Grows layouts x r.own y → HasOwn layouts r y
+grown layouts r x y level cells content offsets begun h =
     let size = cells_by layouts in
     let o = parent_layout layouts r.parent in
     record {
       level = h.level ∙ level;
       cells = h.cells ∙ ap (λ n. n + total size r.own) cells;
+      content = h.content ∙ ap (λ n. n + total (units_by layouts) r.own) content;
       offsets =
           h.offsets
           ∙ (ap (λ n. x.offsets.items ++ offsets_from size n r.own) cells
@@ -395,6 +403,82 @@ module _ (records : List RecordType) (xs : List Layout) (laid : AreLayouts [] xs
       let same : z.layout ≡ x = (let e : Some z.layout ≡ Some x = sym z.there ∙ there in cc e) in
       subst (λ (y : Layout). y.controlled.items ≡ finalized_by xs y.begun.items) same (z.is.controlled ∙ finalized_alike z.before xs t z.same z.layout.begun.items (told t z.layout z.there).before)
 
+-- Storage units of each type (13.3) ---------------------------------------------------------------
+
+-- a record type has no fewer than it asks for
+least_units : (n : ℕ) → n ≤ as_record_size n
+unfolding as_record_size
+least_units n = by (nat_lt n least_record_size) refl
+  where
+    by : (b : Bool) → nat_lt n least_record_size ≡ b → n ≤ (if b then least_record_size else n)
+    by true e = let lt = ltb-true n least_record_size e in omega (arith, lt)
+    by false e = omega arith
+
+-- each cell of a value of such a type has its storage units
+abbrev HasUnits : List Layout → Ty → Type 0
+HasUnits layouts ty = 8 * cells_by layouts ty ≤ units_by layouts ty
+
+-- and so have components of such types together
+total_units : (layouts : List Layout) → ((u : ℕ) → HasUnits layouts (Record u)) → (cs : List Component) → 8 * total (cells_by layouts) cs ≤ total (units_by layouts) cs
+unfolding total
+total_units layouts each [] = omega arith
+total_units layouts each (c ∷ cs) = let one = by c.ty in let rest = total_units layouts each cs in omega (arith, one, rest)
+  where
+    by : (ty : Ty) → HasUnits layouts ty
+    by TyOf.Integer = omega arith
+    by TyOf.Count = omega arith
+    by TyOf.Boolean = omega arith
+    by TyOf.Address = omega arith
+    by TyOf.Handle = omega arith
+    by (TyOf.Access a) = omega arith
+    by (Record u) = each u
+
+module _ (records : List RecordType) (xs : List Layout) (laid : AreLayouts [] xs records) where
+  -- each cell of an object of any type has its storage units, also without those of its tag
+  pub record IsRoomy (x : Layout) : Type 0 where
+    pub content : 8 * x.cells ≤ x.content
+    pub units : 8 * x.cells ≤ x.units
+
+  abbrev RoomyAt : ℕ → Type 0
+  RoomyAt t = (x : Layout) → slice_get xs t ≡ Some x → IsRoomy x
+
+  -- of those that stand before a type
+  roomy_before : (t : ℕ) (z : List Layout) → ((p : ℕ) → p < t → slice_get xs p ≡ slice_get z p) → length z ≡ t → ((u : ℕ) → u < t → RoomyAt u) → (u : ℕ) (o : Option Layout) → slice_get z u ≡ o → (8 * Table.size_in o ≤ content_in o) × (8 * Table.size_in o ≤ Table.units_in o)
+  roomy_before t z same many before u None e = (omega arith, omega arith)
+  roomy_before t z same many before u (Some y) e =
+      let within = slice_get_within z u y e in
+      let less : u < t = omega (arith, within, many) in
+      let roomy = before u less y (same u less ∙ e) in
+      (roomy.content, roomy.units)
+
+  -- what is inherited
+  inherited_roomy : (t : ℕ) (z : List Layout) → ((p : ℕ) → p < t → slice_get xs p ≡ slice_get z p) → length z ≡ t → ((u : ℕ) → u < t → RoomyAt u) → (q : Option ℕ) → 8 * Table.size_in (parent_layout z q) ≤ content_in (parent_layout z q)
+  inherited_roomy t z same many before None = omega arith
+  inherited_roomy t z same many before (Some p) = (roomy_before t z same many before p (slice_get z p) refl).0
+
+  -- of a type, over those that stand before it
+  roomy_by : (t : ℕ) → ((u : ℕ) → u < t → RoomyAt u) → RoomyAt t
+  roomy_by t before x there =
+      let r = type_of records xs laid t x there in
+      let z = at records xs laid t r.0 r.1 in
+      let same : z.layout ≡ x = (let e : Some z.layout ≡ Some x = sym z.there ∙ there in cc e) in
+      let own = total_units z.before (λ u. (roomy_before t z.before z.same z.many before u (slice_get z.before u) refl).1) r.0.own in
+      let from = inherited_roomy t z.before z.same z.many before r.0.parent in
+      let cells = z.is.cells in
+      let whole = z.is.content in
+      let content : 8 * z.layout.cells ≤ z.layout.content = omega (arith, own, from, cells, whole) in
+      let least = least_units (z.layout.content + tag_of r.0.root) in
+      let units = z.is.units in
+      subst IsRoomy same (record { content = content; units = omega (arith, content, least, units) })
+
+  roomy_within : (n t : ℕ) → t < n → RoomyAt t
+  roomy_within zero t lt = absurd (omega (arith, lt))
+  roomy_within (suc n) t lt = roomy_by t (λ u less. roomy_within n u (omega (arith, less, lt)))
+
+  -- so it is of each type of the table
+  pub roomy : (t : ℕ) (x : Layout) → slice_get xs t ≡ Some x → IsRoomy x
+  roomy t = roomy_within (suc t) t (omega arith)
+
 -- Types that are laid out -------------------------------------------------------------------------
 
 module _ (k : Tables) (xs : List Layout) (laid : AreLayouts [] xs k.records) where
@@ -449,3 +533,88 @@ module _ (k : Tables) (xs : List Layout) (laid : AreLayouts [] xs k.records) whe
       offset_is (slice_get xs t) position
       ∙ (ap (λ ns. item_or 0 (slice_get ns (position - 1))) (sized t y.0 y.1).offsets
       ∙ sym (offset_laid k t y.0 y.1 position))
+
+-- Their storage units (13.3) ----------------------------------------------------------------------
+
+-- a component that is no record takes as many as the meaning says
+scalar_units : (layouts : List Layout) (ty : Ty) → IsScalar ty → units_by layouts ty ≡ scalar_size
+scalar_units layouts TyOf.Integer h = refl
+scalar_units layouts TyOf.Boolean h = refl
+scalar_units layouts TyOf.Count h = absurd h
+scalar_units layouts TyOf.Address h = absurd h
+scalar_units layouts TyOf.Handle h = absurd h
+scalar_units layouts (TyOf.Access a) h = refl
+scalar_units layouts (Record t) h = absurd h
+
+scalar_means : (k : Tables) (ty : Ty) → IsScalar ty → size_of k ty ≡ scalar_size
+unfolding size_of
+scalar_means k ty h = scalar_of_record scalar_size _ ty h
+
+-- and so does the tag
+tag_means : (r : Root) → tag_of r ≡ (if is_tagged_root r then tag_size else 0)
+unfolding is_tagged_root
+tag_means Untagged = refl
+tag_means Controlled = refl
+tag_means BlockPool = refl
+tag_means MarkPool = refl
+
+module _ (k : Tables) (xs : List Layout) (laid : AreLayouts [] xs k.records) where
+  -- a layout says as the meaning does how many storage units the components take, and the whole
+  record IsMeasured (t : ℕ) (cs : List Component) : Type 0 where
+    content : content_in (slice_get xs t) ≡ total (size_of k) cs
+    units : Table.units_in (slice_get xs t) ≡ size_of k (Record t)
+
+  abbrev AreMeasured : ℕ → Type 0
+  AreMeasured t = (cs : List Component) → IsLaid k.records t cs → IsMeasured t cs
+
+  -- a type that is laid out, over those that stand before it
+  measured_by : (t : ℕ) (r : RecordType) → slice_get k.records t ≡ Some r → Extends k.records t r → ((u : ℕ) → u < t → AreMeasured u) → AreMeasured t
+  unfolding root_in total
+  measured_by t r here extends before cs is = by extends.parent
+    where
+      x : IsAt xs t r
+      x = at k.records xs laid t r here
+
+      each : (c : Component) → IsPart k.records t c → units_by x.before c.ty ≡ size_of k c.ty
+      each c (inl scalar) = scalar_units x.before c.ty scalar ∙ sym (scalar_means k c.ty scalar)
+      each c (inr y) =
+          let z = laid_if k.records y.number (part_laid k.records t c y) in
+          ap (units_by x.before) y.ty
+          ∙ (ap Table.units_in (sym (x.same y.number y.less))
+          ∙ ((before y.number y.less z.0 z.1).units
+          ∙ ap (size_of k) (sym y.ty)))
+
+      tag : tag_of r.root ≡ tag_units k.records t
+      tag = tag_means r.root ∙ ap (λ o. if is_tagged_root (root_in o) then tag_size else 0) (sym here)
+
+      behind_those : (ds : List Component) → content_in (parent_layout x.before r.parent) ≡ total (size_of k) ds → HasComponents k.records t (ds ++ r.own) → IsMeasured t cs
+      behind_those ds inherited has =
+          let content : x.layout.content ≡ total (size_of k) cs =
+          x.is.content
+          ∙ (ap (λ n. n + total (units_by x.before) r.own) inherited
+          ∙ (ap (λ n. total (size_of k) ds + n) (total_alike k.records t (units_by x.before) (size_of k) each r.own extends.parts)
+          ∙ (sym (total_both (size_of k) ds r.own)
+          ∙ ap (total (size_of k)) (same_components k.records t (ds ++ r.own) cs has is.has)))) in
+          record {
+            content = ap content_in x.there ∙ content;
+            units =
+                ap Table.units_in x.there
+                ∙ (x.is.units
+                ∙ (ap (λ n. as_record_size (n + tag_of r.root)) content
+                ∙ (ap (λ n. as_record_size (total (size_of k) cs + n)) tag
+                ∙ sym (size_laid k t cs is))));
+          }
+
+      by : (r.parent ≡ None) ⊎ ((p : ℕ) × (r.parent ≡ Some p) × (p < t) × (is_laid k.records p ≡ true)) → IsMeasured t cs
+      by (inl none) = behind_those [] (ap (λ o. content_in (parent_layout x.before o)) none) (extends_none k.records t r here none)
+      by (inr q) =
+          let y = laid_if k.records q.0 q.3 in
+          behind_those y.0 (ap (λ o. content_in (parent_layout x.before o)) q.1 ∙ (ap content_in (sym (x.same q.0 q.2)) ∙ (before q.0 q.2 y.0 y.1).content)) (extends_one k.records t r q.0 y.0 here q.1 q.2 y.1.has)
+
+  measured_within : (n t : ℕ) → t < n → AreMeasured t
+  measured_within zero t lt cs is = absurd (omega (arith, lt))
+  measured_within (suc n) t lt cs is = let x = extends_if k.records t is.is in measured_by t x.0 x.1 x.2 (λ u less. measured_within n u (omega (arith, less, lt))) cs is
+
+  -- so many does an object take
+  pub units : (t : ℕ) → is_laid k.records t ≡ true → Table.units_in (slice_get xs t) ≡ size_of k (Record t)
+  units t e = let y = laid_if k.records t e in (measured_within (suc t) t (omega arith) y.0 y.1).units

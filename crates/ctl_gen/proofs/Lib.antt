@@ -16,6 +16,7 @@ pub mod Worth
 pub mod Expressions
 pub mod Each
 pub mod Collections
+pub mod Pooled
 pub mod Worlds
 pub mod Scopes
 pub mod Setting
@@ -47,6 +48,7 @@ pub mod AdjustedParts
 pub mod Gathers
 pub mod Leave
 pub mod Declare
+pub mod PoolDeclared
 pub mod Copies
 pub mod RecordAssign
 pub mod Freeing

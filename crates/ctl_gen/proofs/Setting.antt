@@ -3,7 +3,7 @@ use Rattle.std.proofs.Common.{◌≡◌, ℕ, ◌+◌, ◌<◌, ◌≤◌, List,
 use Rattle.std.specs.Prelude.{slice_get, option_map}
 use Rattle.ctl_program.specs.declared.program.Subprogram.{Subprogram}
 use Rattle.ctl_program.specs.declared.types.Ty.TheVariants.{Record}
-use Rattle.ctl_program.specs.declared.types.AccessType.{AccessType}
+use Rattle.ctl_program.specs.declared.types.Var.{Var}
 use Rattle.ctl_program.specs.declared.types.RecordType.{RecordType}
 use Rattle.ctl_program.specs.declared.operators.SubprogramKind.{SubprogramKind}
 use Rattle.ctl_program.specs.declared.operators.SubprogramKind.TheVariants.{Procedure, Function}
@@ -13,7 +13,7 @@ use Rattle.ctl_meaning.specs.World.{Collection, Log, World, Slot, Member}
 use Rattle.ctl_meaning.specs.Lists.{last_of}
 use Rattle.ctl_meaning.specs.Choice.{Ask}
 use Rattle.ctl_meaning.specs.Outcome.{raised_by, Way, Result, Goes, Leaves, Tried, Fine, tell}
-use Rattle.ctl_meaning.specs.Types.{Tables, cells_of, offset_in, operation, placed}
+use Rattle.ctl_meaning.specs.Types.{Tables, cells_of, offset_in, operation, placed, size_of as storage_size}
 use Rattle.ctl_meaning.specs.Names.{OfSubprogram, OfAllocator, Returned, Call, Default, Tools, scalar_of}
 use Rattle.ctl_meaning.specs.Finalization.{finalize_begun}
 use Rattle.ctl_meaning.proofs.Cuts.{UpTo}
@@ -22,11 +22,12 @@ use Rattle.ctl_code.specs.declared.code.Instr.TheVariants as InstrOf
 use Rattle.ctl_code.specs.declared.code.Code.{Code}
 use Rattle.ctl_code.specs.declared.kinds.Kind.{Kind}
 use Rattle.ctl_code.specs.States.{Move, Word, Scalar, Handed, Complete, After, AfterBlock, AfterProcedure, AfterFunction, AfterBody, Frame, State}
-use Rattle.ctl_code.specs.Table.{Here, by_new, enter_body, new_with, offset_of, operation_of, or_complete, set_seen, size_of, with_values}
+use Rattle.ctl_code.specs.Table.{Here, by_new, enter_body, new_with, offset_of, operation_of, or_complete, pool_in, set_seen, size_of, units_of, with_values}
 use Rattle.ctl_code.specs.Steps.{moved, step}
 use Rattle.ctl_code.specs.Valid.{IsDeclarable, IsValid, kinds_at}
 use Rattle.ctl_code.specs.Windows.{depth}
 use Rattle.ctl_layout.specs.Records.{adjust_by, is_laid}
+use Rattle.ctl_layout.specs.Layout.{home_of}
 use Rattle.ctl_layout.specs.Run.{IsBody}
 use Rattle.ctl_gen.proofs.Known.{IsPlainType}
 use Rattle.ctl_gen.proofs.Parted.{Agree, GivesDefaults}
@@ -47,13 +48,14 @@ pub record Setting (k : Tables) (code : Code) : Type 0 where
   pub valid : IsValid code
   pub places : ArePlaced k code
   pub sizes : (t : ℕ) → is_laid k.records t ≡ true → size_of code t ≡ cells_of k (Record t)
+  -- an object takes as many storage units (13.3)
+  pub units : (t : ℕ) → is_laid k.records t ≡ true → units_of code t ≡ storage_size k (Record t)
   pub agrees : (default : Default) → GivesDefaults k default → Agree k code default
   pub initialize : (t : ℕ) → operation_of (λ x. x.initialize) code t ≡ operation (λ x. x.initialize) k t
   pub adjust : (t : ℕ) (r : RecordType) → slice_get k.records t ≡ Some r → operation_of (λ x. x.adjust) code t ≡ adjust_by r.root r.operations.adjust
   pub finalize : (t : ℕ) → operation_of (λ x. x.finalize) code t ≡ operation (λ x. x.finalize) k t
-  -- the collection of each access type stands in the same slot, and its objects lie in the standard pool
-  pub accesses : (access : ℕ) → slice_get code.accesses.items access ≡ option_map (λ a. a.collection) (slice_get k.accesses access)
-  pub standard : (access : ℕ) (a : AccessType) → slice_get k.accesses access ≡ Some a → a.pool ≡ None
+  -- the collection of each access type stands in the same slot, and so does its storage pool
+  pub accesses : (access : ℕ) → slice_get code.accesses.items access ≡ option_map home_of (slice_get k.accesses access)
   pub body : (f : ℕ) (e : Entry) → slice_get code.entries.items f ≡ Some e → IsBody subprograms f
   pub initialize_body : (t f : ℕ) → operation (λ x. x.initialize) k t ≡ Some f → IsBody subprograms f
   pub adjust_body : (t f : ℕ) → operation (λ x. x.adjust) k t ≡ Some f → IsBody subprograms f
@@ -127,8 +129,8 @@ Sure k code w0 y w = IsSure y × Since k code w0 w
 abbrev pub MayAllocate : Code → ℕ → ℕ → List ℕ → World → Type 0
 MayAllocate code access t d w = (x : Collection) → set_seen (slice_get code.accesses.items access) d w ≡ Some x → IsDeclarable code (length (home x.master w.activations)) t
 
--- the step of an allocator whose value is at hand, if it has one
-abbrev pub by_allocator : Code → ℕ → Option (List ℕ) → Option Collection → List Word → Here → Move
+-- the step of an allocator whose value is at hand, if it has one, with storage of a pool
+abbrev pub by_allocator : Code → ℕ → Option (List ℕ) → Option Var → Option Collection → List Word → Here → Move
 by_allocator code t None = by_new code t
 by_allocator code t (Some v) = new_with code t v
 
@@ -143,7 +145,7 @@ Allocates k code w0 (Leaves y) w = IsRaise y × Since k code w0 w
 -- be finalized together than there were
 pub record Calls (ask : Ask) (k : Tables) (code : Code) (setting : Setting k code) (bound : ℕ) (call : Call) : Type 0 where
   pub runs : (f : ℕ) (s : Subprogram) → slice_get setting.subprograms f ≡ Some s → (w0 : World) (v : List ℕ) (actuals : List Slot) (after : After) (ks : List Frame) (c : ℕ) (l : Log) (w : World) (s0 : State) (kind : SubprogramKind) (count : ℕ) → EndsIn kind after → c ≤ bound → Since k code w0 w → IsCallable code kind (length v) f count → IsNested w v → Each IsPlainSlot actuals → step ask code s0 ≡ moved l (enter_body (slice_get code.entries.items f) [] v actuals after ks w) → Runs ask code (Told k code w0) 2 3 s0 c (returned_to after ks) (call (OfSubprogram f actuals) v c l w)
-  pub allocates : (access t : ℕ) → IsPlainType k (Record t) → (value : Option (List ℕ)) (w0 : World) (d : List ℕ) (place : ℕ) (ks : List Frame) (ops : List Word) (c0 c : ℕ) (l : Log) (w : World) (s0 : State) → c + 1 ≤ bound → c ≤ c0 → c0 ≤ c + 1 → Since k code w0 w → MayAllocate code access t d w → step ask code s0 ≡ moved l (by_allocator code t value (set_seen (slice_get code.accesses.items access) d w) ops (record { display = d; place = place; control = ks; world = w })) → RunsTo ask code (Allocates k code w0) 6 8 s0 c0 (returned_to (AfterFunction (record { display = d; place = place + 1; operands = ops })) ks) (call (OfAllocator access (Record t) None value) d c l w)
+  pub allocates : (access t : ℕ) → IsPlainType k (Record t) → (value : Option (List ℕ)) (w0 : World) (d : List ℕ) (place : ℕ) (ks : List Frame) (ops : List Word) (c0 c : ℕ) (l : Log) (w : World) (s0 : State) → c + 1 ≤ bound → c ≤ c0 → c0 ≤ c + 1 → Since k code w0 w → MayAllocate code access t d w → step ask code s0 ≡ moved l (by_allocator code t value (pool_in (slice_get code.accesses.items access)) (set_seen (slice_get code.accesses.items access) d w) ops (record { display = d; place = place; control = ks; world = w })) → RunsTo ask code (Allocates k code w0) 6 8 s0 c0 (returned_to (AfterFunction (record { display = d; place = place + 1; operands = ops })) ks) (call (OfAllocator access (Record t) None value) d c l w)
   pub counts : (default : Default) (m : Member) → UpTo k ask bound (finalize_begun (tools_with ask k call default) CauseOf.Collection m)
 
 -- what is shown when a body is entered is shown before

@@ -4,6 +4,7 @@ use Rattle.std.specs.Prelude.{slice_get, replicate, ◌&&◌, if◌then◌else�
 use Rattle.ctl_program.specs.declared.types.Ty.{Ty}
 use Rattle.ctl_program.specs.declared.types.Ty.TheVariants.{Integer, Count, Boolean, Address, Handle, Access, Record}
 use Rattle.ctl_program.specs.declared.expression.Expr.{Expr}
+use Rattle.ctl_program.specs.declared.statement.Association.{Association}
 use Rattle.ctl_program.specs.declared.statement.Item.{Item}
 use Rattle.ctl_program.specs.declared.statement.Item.TheVariants.{Collections, Object, Pool, Silent}
 use Rattle.ctl_meaning.specs.World.{Slot, unset, Log, World}
@@ -18,6 +19,7 @@ use Rattle.ctl_meaning.specs.Names as Names
 use Rattle.ctl_meaning.specs.Expressions.{Valued, eval, if_given}
 use Rattle.ctl_meaning.specs.Masters.{Elaborating, Left, leave, in_master, elaborate_item, elaborate, object, silent}
 use Rattle.ctl_meaning.specs.Statements.{Body, Doing, Guarding, choose_arm, do_block, do_each, do_first, guard, handle, handled, leaving, unset_slots}
+use Rattle.ctl_code.specs.declared.code.DiscriminantOrder.{DiscriminantOrder}
 use Rattle.ctl_code.specs.declared.code.Instr.TheVariants as InstrOf
 use Rattle.ctl_code.specs.declared.code.Code.{Code}
 use Rattle.ctl_code.specs.declared.kinds.Kind.{Kind}
@@ -29,7 +31,7 @@ use Rattle.ctl_code.specs.Windows.{depth}
 use Rattle.ctl_layout.specs.Around.{Line, Landing, OutOfMaster, BeforeLoop, Around, behind, land, further as further_on}
 use Rattle.ctl_layout.specs.Parts.{Reached}
 use Rattle.ctl_layout.specs.Values.{ValueCode, copied, value_code}
-use Rattle.ctl_layout.specs.Layout.{ArmCode, ItemCode, MasterCode, StatementCode, all, all_items, arms_code, arms_run, arms_texts, block, block_code, branches, copy, in_master as in_new, inside, item_code, leaves_code, turn_code, valued, with_value}
+use Rattle.ctl_layout.specs.Layout.{ArmCode, ItemCode, MasterCode, StatementCode, all, all_items, arms_code, arms_run, arms_texts, block, block_code, branches, copy, in_master as in_new, inside, item_code, leaves_code, order_of, ordered_pool, turn_code, valued, with_value}
 use Rattle.ctl_layout.specs.Defaults.{is_declared}
 use Rattle.ctl_gen.proofs.Known.{both_true, plain_if, scalar_if}
 use Rattle.ctl_gen.proofs.Place.{HasAt, has_front, has_back, Laid, laid_front, laid_back}
@@ -41,6 +43,7 @@ use Rattle.ctl_gen.proofs.Parted.{GivesDefaults}
 use Rattle.ctl_gen.proofs.Cells.{by_code}
 use Rattle.ctl_gen.proofs.Does.{Does}
 use Rattle.ctl_gen.proofs.Declare.{declare_runs}
+use Rattle.ctl_gen.proofs.PoolDeclared.{pool_does, root_is}
 use Rattle.ctl_gen.proofs.Copies.{copy_does}
 use Rattle.ctl_gen.proofs.Assign.{scalar_runs, valued_runs}
 use Rattle.ctl_gen.proofs.Expressions.{Value}
@@ -145,6 +148,18 @@ module _ (ask : Ask) (k : Tables) (code : Code) (setting : Setting k code) (call
   given_object slot Handle e runs = valued_object slot Handle e runs
   given_object slot (Access t) e runs = valued_object slot (Access t) e runs
 
+  -- a pool whose discriminants stand in this order
+  ordered_pool_elaborates : (slot t : ℕ) (x y : Association) (o : Option DiscriminantOrder) → order_of x.position y.position ≡ o → Elaborates (ordered_pool slot t o (value_code x.value) (value_code y.value)) (elaborate_item (Pool slot t (x ∷ y ∷ [])))
+  ordered_pool_elaborates slot t x y None ordered runs = absurd (cc)
+  ordered_pool_elaborates slot t x y (Some order) ordered runs =
+      let h = both_true _ _ runs in
+      let g = both_true _ _ h.0 in
+      let f = both_true _ _ h.1 in
+      let known = plain_if k t g.0 in
+      pool_does ask k code setting call default constants t known.0 known.1 known.2 (root_is k t known.0 known.1 g.1) bound calls slot x.position y.position order (value_code x.value) (value_code y.value) (eval x.value) (eval y.value) ordered
+      (λ w0. value_means ask k code setting call default bound calls w0 x.value f.0)
+      (λ w0. value_means ask k code setting call default bound calls w0 y.value f.1)
+
   item_elaborates : (x : Item) → Elaborates (item_code x) (elaborate_item x)
   unfolding silent opened_outcome
   item_elaborates (Object slot ty None) runs = bare_object slot ty runs
@@ -152,7 +167,10 @@ module _ (ask : Ask) (k : Tables) (code : Code) (setting : Setting k code) (call
   item_elaborates Silent runs = λ a w0 d place ks ops c l w le fits sees has. still_there 1 (lands a place) w0 d place ks ops c l w fits
   item_elaborates (Collections []) runs = absurd (cc)
   item_elaborates (Collections (a ∷ more)) runs = collections_do ask k code setting call default bound a more
-  item_elaborates (Pool slot t ds) runs = absurd (cc)
+  item_elaborates (Pool slot t []) runs = absurd (cc)
+  item_elaborates (Pool slot t (x ∷ [])) runs = absurd (cc)
+  item_elaborates (Pool slot t (x ∷ y ∷ [])) runs = ordered_pool_elaborates slot t x y (order_of x.position y.position) refl runs
+  item_elaborates (Pool slot t (x ∷ y ∷ z ∷ more)) runs = absurd (cc)
 
   items_run : (xs : List Item) → (all_items (map item_code xs)).runs k.records ≡ true → Does ask k code bound (λ a. (all_items (map item_code xs)).code a.stack) (λ d caught. elaborate K d (last_of d) (map elaborate_item xs))
   unfolding elaborate opened_outcome

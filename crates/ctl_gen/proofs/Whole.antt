@@ -1,9 +1,7 @@
 -- The whole program: what is shown is the beginning of what it means, and everything comes in time.
 use Rattle.std.proofs.Common.{◌≡◌, ◌≢◌, ℕ, zero, suc, ◌+◌, ◌*◌, ◌≤◌, List, [], ◌∷◌, ◌++◌, length, map, Option, Some, None, true, refl, sym, ap, ◌∙◌, subst, arith, ◌⊎◌, inl, inr, length-append, append-nil}
-use Rattle.std.specs.Prelude.{is_none, slice_get}
-use Rattle.ctl_program.specs.declared.types.AccessType.{AccessType}
+use Rattle.std.specs.Prelude.{slice_get}
 use Rattle.ctl_program.specs.declared.types.RecordType.{RecordType}
-use Rattle.ctl_program.specs.declared.types.Var.{Var}
 use Rattle.ctl_program.specs.declared.operators.SubprogramKind.TheVariants.{Procedure}
 use Rattle.ctl_program.specs.declared.program.Subprogram.{Subprogram}
 use Rattle.ctl_program.specs.declared.program.Checked.{Checked}
@@ -30,16 +28,16 @@ use Rattle.ctl_code.proofs.Logs.{obeys_none, obeys_itself, no_more_than, Stays, 
 use Rattle.ctl_layout.specs.Around.{Line}
 use Rattle.ctl_layout.specs.Layout.{HasKinds, IsLaidOut, bodies, body_code, entries_from, entry_at, instructions_of, kinds_of, nowhere, operations_of, program_code}
 use Rattle.ctl_gen.proofs.Defaults.{agrees}
-use Rattle.ctl_gen.proofs.Layouts.{places, sizes}
+use Rattle.ctl_gen.proofs.Layouts.{places, sizes, units}
 use Rattle.ctl_gen.proofs.Rows.{gives_defaults}
 use Rattle.ctl_layout.specs.Records.{adjust_by}
-use Rattle.ctl_layout.specs.Run.{AreLinked, IsBody, IsRun, IsWritten, are_standard, is_standard}
+use Rattle.ctl_layout.specs.Run.{AreLinked, IsBody, IsRun, IsWritten}
 use Rattle.ctl_gen.proofs.Known.{both_true}
 use Rattle.ctl_gen.specs.Correct.{HasReached, RunsAs, Behaves}
 use Rattle.ctl_gen.proofs.Place.{HasAt, has_front, has_back, has_all, Laid, laid_front, laid_back}
 use Rattle.ctl_gen.proofs.Scopes.{IsCallable}
 use Rattle.ctl_gen.proofs.Setting.{Setting, Told, told, returns}
-use Rattle.ctl_gen.proofs.Gathers.{collection_in}
+use Rattle.ctl_gen.proofs.Gathers.{home_in}
 use Rattle.ctl_gen.proofs.Bodies.{Stands, main_runs}
 use Rattle.ctl_gen.proofs.Follow.{by_raise, GoingBy, Runs, gives}
 use Rattle.ctl_meaning.specs.World.{empty_world}
@@ -121,16 +119,6 @@ finalize_in [] t = refl
 finalize_in (r ∷ rs) zero = refl
 finalize_in (r ∷ rs) (suc t) = finalize_in rs t
 
--- where the objects of access types lie
-standard_in : (xs : List AccessType) → are_standard xs ≡ true → (a : ℕ) (x : AccessType) → slice_get xs a ≡ Some x → x.pool ≡ None
-standard_in [] all a x e = absurd (cc)
-standard_in (y ∷ xs) all zero x e = let same : y ≡ x = cc e in subst (λ (z : AccessType). z.pool ≡ None) same (by y.pool (both_true (is_standard y) (are_standard xs) all).0)
-  where
-    by : (o : Option Var) → is_none o ≡ true → o ≡ None
-    by None h = refl
-    by (Some v) h = absurd (cc h)
-standard_in (y ∷ xs) all (suc a) x e = standard_in xs (both_true (is_standard y) (are_standard xs) all).1 a x e
-
 -- Ends ------------------------------------------------------------------------------------------
 
 no_rest : (a b rest : List Pick) → a ≡ b ++ rest → length a ≤ length b → a ≡ b
@@ -187,10 +175,10 @@ module _ (program : Checked) (code : Code) (laid : IsLaidOut program code) (kind
   setting = record {
     subprograms = program.subprograms;
     valid = valid;
-    accesses = λ a. ap (λ xs. slice_get xs a) laid.accesses ∙ collection_in program.accesses a;
-    standard = standard_in program.accesses (both_true (are_standard program.accesses) ((bodies program.subprograms).runs program.records) run_it).0;
+    accesses = λ a. ap (λ xs. slice_get xs a) laid.accesses ∙ home_in program.accesses a;
     places = places (tables_of program) code.layouts.items laid.layouts;
     sizes = sizes (tables_of program) code.layouts.items laid.layouts;
+    units = units (tables_of program) code.layouts.items laid.layouts;
     agrees = agrees (tables_of program) code laid.layouts;
     initialize = λ t. ap (λ xs. Table.operation_in (λ x. x.initialize) (slice_get xs t)) laid.records ∙ initialize_in program.records t;
     adjust = λ t r e. ap (λ xs. Table.operation_in (λ x. x.adjust) (slice_get xs t)) laid.records ∙ adjust_in program.records t r e;
@@ -205,7 +193,7 @@ module _ (program : Checked) (code : Code) (laid : IsLaidOut program code) (kind
   unfolding tables_of
   stands f s here =
       let x = find code code.texts.items program.subprograms 1 0 has_whole.2 has_texts f s here in
-      record { place = x.place; before = x.before; entry = ap (λ es. slice_get es f) laid.entries ∙ x.entry; instructions = x.instructions; texts = x.printed; runs = body_is_run program.records program.subprograms (both_true (are_standard program.accesses) ((bodies program.subprograms).runs program.records) run_it).1 f s here }
+      record { place = x.place; before = x.before; entry = ap (λ es. slice_get es f) laid.entries ∙ x.entry; instructions = x.instructions; texts = x.printed; runs = body_is_run program.records program.subprograms run_it f s here }
 
   -- the main procedure can be called where no master is around
   start_callable : slice_get code.instructions.items 0 ≡ Some (InstrOf.Start program.main) → kinds_at code 0 ≡ Some [] → IsCallable code Procedure 0 program.main 0

@@ -1,25 +1,30 @@
 -- The worlds of the programs of this version: each object is of a plain record type, and belongs to an active master, where it was declared
 -- or which its collection belongs to, inside those around the operations of its type and inside the main procedure's own one; so does each
 -- collection, and it is found in no slot of another master; the numbers of objects rise; the masters of a display are nested in one another;
--- no record is copied, and there is no pool.
+-- no record is copied, and no pool has subpools.
 use Rattle.std.proofs.Common.{◌≡◌, ℕ, zero, suc, ◌+◌, ◌<◌, ◌≤◌, List, [], ◌∷◌, ◌++◌, length, Option, Some, None, Bool, true, false, refl, sym, ap, ◌∙◌, subst, arith, length-append}
 use Rattle.std.specs.Prelude.{if◌then◌else◌, nat_eq, not, slice_get, replicate}
 use Rattle.std.proofs.lemmas.Bool.{eqb-true, eqb-false, eq-eqb, ne_eqb}
 use Rattle.ctl_program.specs.declared.types.Ty.{Ty}
 use Rattle.ctl_program.specs.declared.types.Ty.TheVariants.{Record}
+use Rattle.ctl_program.specs.declared.types.Var.{Var}
+use Rattle.ctl_tree.specs.declared.event.Cause.{Cause}
 use Rattle.ctl_meaning.specs.Types.{Tables}
-use Rattle.ctl_meaning.specs.World.{Standard, Finalized, Origin, Declared, Allocated, Object, Layer, Collection, Content, Nothing, Holds, Binds, Copies, Gathers, holding, Slot, unset, Activation, World, opened_world, empty_world}
+use Rattle.ctl_meaning.specs.World.{Place, Standard, InBlock, InSubpool, Finalized, Origin, Declared, Allocated, Object, Layer, Collection, Content, Nothing, Holds, Binds, Copies, Gathers, holding, Slot, unset, Activation, Pools, World, opened_world, empty_world}
 use Rattle.ctl_meaning.specs.Lists.{first_with, change_each, change_first, keep, contains, item_or, opened_lists}
 use Rattle.ctl_meaning.specs.Ledger.{collection_at, with_started, opened_ledger}
 use Rattle.ctl_meaning.specs.Activations.{with_slot, slots_in, display_in, activation_at, slot_in, opened_activations}
-use Rattle.ctl_meaning.specs.Objects.{object_in, change_in, with_cells, with_begun, with_joined, with_finalized, is_untouched, opened_objects}
-use Rattle.ctl_meaning.specs.Pools.{keep_pools}
+use Rattle.ctl_meaning.specs.Objects.{lies_in_pool, object_in, change_in, with_cells, with_begun, with_joined, with_finalized, is_untouched, opened_objects}
+use Rattle.ctl_meaning.specs.Pools.{closed_mark_pool, give_block, hold_block, keep_pools, shut, take_block, opened_pools}
 use Rattle.ctl_meaning.specs.Outcome.{Way}
-use Rattle.ctl_meaning.specs.Changes.{ends_with, new_object, object_at, take_object_number, create, write_cells, forget, open_master, add_layer, take_layer, set_slot, slot_at, set_value, close_master, add_collection, start_collections, join, begin_finalization, end_finalization, home_master, home_of, opened_changes}
+use Rattle.ctl_meaning.specs.Changes.{ends_with, new_object, object_at, take_object_number, close_pool_at, create, create_at, in_pools, put_into, write_cells, forget, open_master, add_layer, take_layer, set_slot, slot_at, set_value, close_master, add_collection, start_collections, join, begin_finalization, end_finalization, home_master, home_of, opened_changes}
 use Rattle.ctl_code.specs.declared.code.Code.{Code}
+use Rattle.ctl_code.specs.Table.{grant, return_to, with_end}
 use Rattle.ctl_code.specs.Valid.{IsDeclarable}
+use Rattle.ctl_code.proofs.Storage.{OnGrant, OnReturn, end_keeps}
 use Rattle.ctl_gen.proofs.Known.{IsPlainType}
 use Rattle.ctl_gen.proofs.Each.{Each, IfFound, each_found, each_and, each_changed, each_changed_first, each_kept, not_true, found_passes, each_all, each_set, each_get}
+use Rattle.ctl_gen.proofs.Pooled.{holds_granted, holds_returned}
 use Rattle.ctl_gen.proofs.Collections.{home, home_slot, home_kept, home_gone, HasLevel, AreNested, nested_in, nested_alike, nested_and, IsMadeIn, IsHeldBy, held_in, IsOf, Gathered, gathered_in, of_gathered, of_pushed, of_started, of_kept, Belongs, belongs_in, belongs_home, belongs_other}
 
 -- Slots -----------------------------------------------------------------------------------------------
@@ -143,6 +148,13 @@ last_found n (o ∷ os) x is h =
     let less = h.0 in
     ap (λ b. if b then Some o else first_with (λ p. nat_eq p.number n) (os ++ x ∷ [])) (ne_eqb o.number n (λ e. omega (arith, e, less))) ∙ last_found n os x is h.1
 
+-- Pools -----------------------------------------------------------------------------------------------
+
+-- where no pool has subpools, none has them behind the end of one
+no_marks_shut : (n : ℕ) (x : Pools) → x.mark_pools ≡ [] → (shut n x).mark_pools ≡ []
+unfolding opened_pools change_each
+no_marks_shut n x none = ap (change_each (λ p. nat_eq p.object n) closed_mark_pool) none
+
 -- Worlds ----------------------------------------------------------------------------------------------
 
 -- the masters of a display are nested in one another
@@ -181,7 +193,6 @@ module _ (k : Tables) (code : Code) where
     pub counted : 1 ≤ w.ledger.next_collection
     pub slots : Each (HoldsOwn w.ledger.next_collection w.ledger.collections) w.activations
     pub displays : Each (SeesNested w.ledger.next_master w.activations) w.activations
-    pub block_pools : w.pools.block_pools ≡ []
     pub mark_pools : w.pools.mark_pools ≡ []
 
   -- since an earlier world each master of that time has kept its display, each object its type and its origin, and each collection stands in
@@ -267,7 +278,6 @@ module _ (k : Tables) (code : Code) where
     counted = omega arith;
     slots = tt;
     displays = tt;
-    block_pools = refl;
     mark_pools = refl;
   }
 
@@ -281,7 +291,6 @@ module _ (k : Tables) (code : Code) where
     counted = h.counted;
     slots = h.slots;
     displays = h.displays;
-    block_pools = h.block_pools;
     mark_pools = h.mark_pools;
   }
 
@@ -299,7 +308,6 @@ module _ (k : Tables) (code : Code) where
     counted = h.counted;
     slots = each_changed (HoldsOwn w.ledger.next_collection w.ledger.collections) (λ a. nat_eq a.master n) (with_slot i x) own w.activations h.slots;
     displays = each_changed (SeesNested w.ledger.next_master bs) (λ a. nat_eq a.master n) (with_slot i x) (λ a e y. y) w.activations (nested_all w.ledger.next_master w.ledger.next_master w.activations bs w.activations (omega arith) (λ m lt. home_slot m n i x w.activations) h.displays);
-    block_pools = h.block_pools;
     mark_pools = h.mark_pools;
   }
     where
@@ -331,7 +339,6 @@ module _ (k : Tables) (code : Code) where
     counted = h.counted;
     slots = h.slots;
     displays = h.displays;
-    block_pools = h.block_pools;
     mark_pools = h.mark_pools;
   }
 
@@ -352,12 +359,6 @@ module _ (k : Tables) (code : Code) where
   pub since_create : (ty : Ty) (cells : List ℕ) (m : ℕ) (w0 w : World) → IsPlainType k ty → m < w.ledger.next_master → IsInside code ty (length (home m w.activations)) → 1 ≤ length (home m w.activations) → Since w0 w → Since w0 (create ty cells (Declared m) w)
   since_create ty cells m w0 w = since_new ty cells (Declared m) m w0 w refl
 
-  -- where its collection stands, the operations of its type are to be declared around the collection's master
-  pub since_allocate : (ty : Ty) (cells : List ℕ) (c m : ℕ) (w0 w : World) → IsOf c m w.ledger.collections → IsPlainType k ty → IsInside code ty (length (home m w.activations)) → Since w0 w → Since w0 (create ty cells (Allocated c Standard) w)
-  since_allocate ty cells c m w0 w is known inside h =
-      let of = of_gathered w.ledger.next_collection w.ledger.next_master w.activations c m w.ledger.collections h.0.collections is in
-      since_new ty cells (Allocated c Standard) m w0 w is known of.1 inside of.2 h
-
   -- Layers and collections ---------------------------------------------------------------------------
 
   -- a layer is added
@@ -371,7 +372,6 @@ module _ (k : Tables) (code : Code) where
     counted = h.counted;
     slots = h.slots;
     displays = h.displays;
-    block_pools = h.block_pools;
     mark_pools = h.mark_pools;
   }
 
@@ -389,7 +389,6 @@ module _ (k : Tables) (code : Code) where
     counted = h.counted;
     slots = h.slots;
     displays = h.displays;
-    block_pools = h.block_pools;
     mark_pools = h.mark_pools;
   }
 
@@ -407,7 +406,6 @@ module _ (k : Tables) (code : Code) where
     counted = omega (arith, h.counted, more);
     slots = each_all (HoldsOwn w.ledger.next_collection w.ledger.collections) (HoldsOwn a ds) (own_in w.ledger.next_collection a w.ledger.collections ds more made) w.activations h.slots;
     displays = h.displays;
-    block_pools = h.block_pools;
     mark_pools = h.mark_pools;
   }
 
@@ -490,7 +488,6 @@ module _ (k : Tables) (code : Code) where
     counted = h.counted;
     slots = h.slots;
     displays = h.displays;
-    block_pools = h.block_pools;
     mark_pools = h.mark_pools;
   }
 
@@ -539,18 +536,79 @@ module _ (k : Tables) (code : Code) where
       (apart_changed_first (λ o. nat_eq o.number n) with_joined (λ o. refl) w.objects h.0.apart) h.0)
       (λ m ty x each. each_changed_first (IsThis m ty x) (λ o. nat_eq o.number n) with_joined (λ o y. y) w.objects each) h
 
-  -- an object ceases to exist
-  pub since_forget : (n : ℕ) (w0 w : World) → Since w0 w → Since w0 (forget n w)
-  unfolding opened_changes
-  since_forget n w0 w h = since_objects (keep p w.objects) w0 w
+  -- those that do not pass a test cease to exist
+  since_fewer : (p : Object → Bool) (w0 w : World) → Since w0 w → Since w0 (record w { objects = keep p w.objects })
+  since_fewer p w0 w h = since_objects (keep p w.objects) w0 w
       (fits_objects (keep p w.objects) w
       (each_kept (Settled w.ledger.next_master w.activations w.ledger.collections) (Settled w.ledger.next_master w.activations w.ledger.collections) p (λ o e y. y) w.objects h.0.objects)
       (each_kept (λ o. o.number < w.ledger.next_object) (λ o. o.number < w.ledger.next_object) p (λ o e y. y) w.objects h.0.numbers)
       (apart_kept p w.objects h.0.apart) h.0)
       (λ m ty x each. each_kept (IsThis m ty x) (IsThis m ty x) p (λ o e y. y) w.objects each) h
-    where
-      p : Object → Bool
-      p o = not (nat_eq o.number n)
+
+  -- an object ceases to exist
+  pub since_forget : (n : ℕ) (w0 w : World) → Since w0 w → Since w0 (forget n w)
+  unfolding opened_changes
+  since_forget n w0 w h = since_fewer (λ o. not (nat_eq o.number n)) w0 w h
+
+  -- Pools --------------------------------------------------------------------------------------------
+
+  -- the pools are others, none of which has subpools
+  fits_pools : (f : Pools → Pools) (w : World) → (f w.pools).mark_pools ≡ [] → Fits w → Fits (in_pools f w)
+  unfolding opened_changes
+  fits_pools f w none h = record {
+    objects = h.objects;
+    numbers = h.numbers;
+    apart = h.apart;
+    collections = h.collections;
+    counted = h.counted;
+    slots = h.slots;
+    displays = h.displays;
+    mark_pools = none;
+  }
+
+  pub since_pools : (f : Pools → Pools) (w0 w : World) → (f w.pools).mark_pools ≡ [] → Since w0 w → Since w0 (in_pools f w)
+  unfolding opened_changes
+  since_pools f w0 w none h = (fits_pools f w none h.0, record { later = h.1.later; homes = h.1.homes; newer = h.1.newer; same = h.1.same; further = h.1.further; sets = h.1.sets })
+
+  -- a pool closes, and the objects in it cease to exist
+  pub since_closed : (n : ℕ) (w0 w : World) → Since w0 w → Since w0 (close_pool_at n w)
+  unfolding opened_changes
+  since_closed n w0 w h = since_fewer (λ o. not (lies_in_pool n o.origin)) w0 (in_pools (shut n) w) (since_pools (shut n) w0 w (no_marks_shut n w.pools h.0.mark_pools) h)
+
+  -- a block of a pool goes out, and comes back
+  since_taken : (w0 : World) (n : ℕ) (w : World) → Since w0 w → Since w0 (in_pools (take_block n) w)
+  unfolding opened_pools
+  since_taken w0 n w h = since_pools (take_block n) w0 w h.0.mark_pools h
+
+  since_given : (w0 : World) (n a : ℕ) (w : World) → Since w0 w → Since w0 (in_pools (give_block n a) w)
+  unfolding opened_pools
+  since_given w0 n a w h = since_pools (give_block n a) w0 w h.0.mark_pools h
+
+  -- storage is granted to an allocator, or given back
+  pub since_granted : (pool : Option Var) (d : List ℕ) (size : ℕ) (w0 w : World) → Since w0 w → OnGrant (Since w0) (grant pool d size w)
+  since_granted pool d size w0 w h = holds_granted (Since w0) (since_taken w0) pool d size w h
+
+  pub since_returned : (place : Place) (w0 w : World) → Since w0 w → OnReturn (Since w0) (return_to place w)
+  since_returned place w0 w h = holds_returned (Since w0) (since_given w0) place w h
+
+  -- the finalization of an object has ended
+  pub since_ended : (cause : Cause) (n : ℕ) (w0 w : World) → Since w0 w → Since w0 (with_end cause n w)
+  since_ended cause n w0 w h = end_keeps (Since w0) (λ m v. since_closed m w0 v) cause n w h
+
+  -- an object is put into a block, or lies elsewhere
+  since_put : (place : Place) (n : ℕ) (w0 w : World) → Since w0 w → Since w0 (put_into place n w)
+  unfolding opened_changes opened_pools
+  since_put Standard n w0 w h = h
+  since_put (InBlock p a) n w0 w h = since_pools (hold_block p a n) w0 w h.0.mark_pools h
+  since_put (InSubpool s) n w0 w h = h
+
+  -- an object is allocated at a place: where its collection stands, the operations of its type are to be declared around the collection's
+  -- master
+  pub since_allocate : (ty : Ty) (cells : List ℕ) (c : ℕ) (place : Place) (m : ℕ) (w0 w : World) → IsOf c m w.ledger.collections → IsPlainType k ty → IsInside code ty (length (home m w.activations)) → Since w0 w → Since w0 (create_at ty cells c place w)
+  unfolding create_at
+  since_allocate ty cells c place m w0 w is known inside h =
+      let of = of_gathered w.ledger.next_collection w.ledger.next_master w.activations c m w.ledger.collections h.0.collections is in
+      since_put place w.ledger.next_object w0 _ (since_new ty cells (Allocated c place) m w0 w is known of.1 inside of.2 h)
 
   -- a master is entered ------------------------------------------------------------------------------
 
@@ -583,7 +641,6 @@ module _ (k : Tables) (code : Code) where
       nested_and (w.ledger.next_master + 1) bs 0 d w.ledger.next_master (omega arith) long (nested_alike w.ledger.next_master (w.ledger.next_master + 1) w.activations bs (omega arith) (λ n lt. home_open n d slots w lt) 0 d nested),
       nested_all w.ledger.next_master (w.ledger.next_master + 1) w.activations bs w.activations (omega arith) (λ n lt. home_open n d slots w lt) h.displays,
     );
-    block_pools = h.block_pools;
     mark_pools = h.mark_pools;
   }
     where
@@ -604,7 +661,6 @@ module _ (k : Tables) (code : Code) where
     counted = h.counted;
     slots = each_kept (HoldsOwn w.ledger.next_collection w.ledger.collections) (HoldsOwn w.ledger.next_collection ds) (λ a. not (nat_eq a.master m)) (λ a e. own_in w.ledger.next_collection w.ledger.next_collection w.ledger.collections ds (omega arith) (λ c n less. each_kept (IsMadeIn c n) (IsMadeIn c n) _ (λ x e1 y. y) w.ledger.collections) a) w.activations h.slots;
     displays = each_kept (SeesNested w.ledger.next_master w.activations) (SeesNested w.ledger.next_master bs) (λ a. not (nat_eq a.master m)) (λ a e. nested_in w.ledger.next_master w.ledger.next_master w.activations bs (omega arith) (λ n level less. at_level n level (nat_eq m n) refl) 0 a.display) w.activations h.displays;
-    block_pools = ap (keep _) h.block_pools;
     mark_pools = ap (keep _) h.mark_pools;
   }
     where
@@ -687,10 +743,12 @@ module _ (k : Tables) (code : Code) where
   unfolding opened_changes object_in
   created_there ty cells m slot w h = (new_object w.ledger.next_object ty cells (Declared m), last_found w.ledger.next_object w.objects (new_object w.ledger.next_object ty cells (Declared m)) refl h.numbers, refl, refl)
 
-  -- and so is one that was allocated, for its collection
-  pub allocated_there : (ty : Ty) (cells : List ℕ) (c : ℕ) (w : World) → Fits w → object_at w.ledger.next_object (create ty cells (Allocated c Standard) w) ≡ Some (new_object w.ledger.next_object ty cells (Allocated c Standard))
+  -- and so is one that was allocated, for its collection, at a place
+  pub allocated_there : (ty : Ty) (cells : List ℕ) (c : ℕ) (place : Place) (w : World) → Fits w → object_at w.ledger.next_object (create_at ty cells c place w) ≡ Some (new_object w.ledger.next_object ty cells (Allocated c place))
   unfolding opened_changes object_in
-  allocated_there ty cells c w h = last_found w.ledger.next_object w.objects (new_object w.ledger.next_object ty cells (Allocated c Standard)) refl h.numbers
+  allocated_there ty cells c Standard w h = last_found w.ledger.next_object w.objects (new_object w.ledger.next_object ty cells (Allocated c Standard)) refl h.numbers
+  allocated_there ty cells c (InBlock p a) w h = last_found w.ledger.next_object w.objects (new_object w.ledger.next_object ty cells (Allocated c (InBlock p a))) refl h.numbers
+  allocated_there ty cells c (InSubpool s) w h = last_found w.ledger.next_object w.objects (new_object w.ledger.next_object ty cells (Allocated c (InSubpool s))) refl h.numbers
 
   pub created_ty : (ty : Ty) (cells : List ℕ) (m slot : ℕ) (w : World) → Fits w → (o : Object) → object_at w.ledger.next_object (set_slot m slot (holding (Holds w.ledger.next_object)) (create ty cells (Declared m) w)) ≡ Some o → o.ty ≡ ty
   created_ty ty cells m slot w h o e =

@@ -13,14 +13,14 @@ ghost use Rattle.ctl_layout.specs.Texts as texts;
 ghost use Rattle.ctl_layout.specs.Layout as spec;
 
 use crate::emit::Emitter;
-use ctl_code::code::{Instr, Way};
+use ctl_code::code::{DiscriminantOrder, Instr, Way};
 use ctl_code::kinds::Kind;
 use ctl_layout::right::{Denoted, Reached, denoted_by, reached_by, sourced};
 use ctl_layout::typing::{copied, value_type};
 use ctl_program::expression::{Actual, Expr, Name, Step};
 use ctl_program::operators::Direction;
 use ctl_program::program::Subprogram;
-use ctl_program::statement::{Arm, Item, Master, Piece, Stmt};
+use ctl_program::statement::{Arm, Association, Item, Master, Piece, Stmt};
 use ctl_program::types::{Ty, Var};
 use std::alloc::AllocError;
 
@@ -65,7 +65,9 @@ impl Emitter {
             Item::Object(slot, ty, value) => self.object(*slot, *ty, value),
             Item::Silent => Ok(()),
             Item::Collections(accesses) => self.collections(accesses.as_slice()),
-            Item::Pool(..) => self.put(Instr::Missing),
+            Item::Pool(slot, record, associations) => {
+                self.pool(*slot, *record, associations.as_slice())
+            }
         }
     }
 
@@ -150,6 +152,60 @@ impl Emitter {
         };
         self.expression(to, ty, value)?;
         self.put(Instr::Number)
+    }
+
+    /// Emits the declaration of a pool: of a block pool, with a value for each of its discriminants (RM 3.7.1, 13.11).
+    fn pool(
+        &mut self,
+        slot: usize,
+        record: usize,
+        associations: &[Association],
+    ) -> Result<(), AllocError>
+        ensures { OnOk result (self.new ≡ lined (spec.pool slot «record» (map spec.association associations.now)).code self.old) }
+    {
+        match associations {
+            [first, second] => {
+                let order = order_of(first.position, second.position);
+                self.ordered_pool(slot, record, order, &first.value, &second.value)
+            }
+            _ => self.put(Instr::Missing),
+        }
+    }
+
+    /// Emits the declaration of a block pool whose discriminants stand in this order, if they are both of them.
+    fn ordered_pool(
+        &mut self,
+        slot: usize,
+        record: usize,
+        order: Option<DiscriminantOrder>,
+        first: &Expr,
+        second: &Expr,
+    ) -> Result<(), AllocError>
+        ensures { OnOk result (self.new ≡ lined (spec.ordered_pool slot «record» order (values.value_code first.now) (values.value_code second.now)).code self.old) }
+    {
+        let Some(order) = order else {
+            return self.put(Instr::Missing);
+        };
+        let at = self.height();
+        self.discriminants(first, second)?;
+        self.put(Instr::DeclarePool {
+            slot,
+            record,
+            order,
+            at,
+        })?;
+        self.leave();
+        self.leave();
+        Ok(())
+    }
+
+    /// Emits the discriminants of a block pool: two new operands.
+    fn discriminants(&mut self, first: &Expr, second: &Expr) -> Result<(), AllocError>
+        ensures { OnOk result (self.new ≡ appended (spec.discriminants_code (values.value_code first.now) (values.value_code second.now) self.old.notes.standing) [] (spec.with_discriminants self.old.notes.standing) self.old) }
+    {
+        let _first = self.evaluated(Ty::Count, first)?;
+        let _second = self.evaluated(Ty::Count, second)?;
+        Ok(())
     }
 
     /// Emits statements, each in turn.
@@ -596,6 +652,17 @@ impl Emitter {
             Piece::Text(_) => {}
             Piece::IntegerImage(_) | Piece::BooleanImage(_) => self.leave(),
         }
+    }
+}
+
+/// Answers in which order the discriminants of a block pool stand that have these positions, if they are both of them (RM 13.11).
+fn order_of(first: usize, second: usize) -> Option<DiscriminantOrder>
+    ensures { result ≡ spec.order_of first second }
+{
+    match (first, second) {
+        (0, 1) => Some(DiscriminantOrder::SizeFirst),
+        (1, 0) => Some(DiscriminantOrder::CountFirst),
+        _ => None,
     }
 }
 

@@ -6,6 +6,7 @@ ghost use Rattle.ctl_well_typed.specs.Programs.{WellTyped};
 ghost use Rattle.ctl_gen.specs.Correct.{Behaves};
 ghost use Rattle.ctl_layout.specs.Run.{AreLinked, IsRun};
 ghost use Rattle.ctl_meaning.specs.Types.{total};
+ghost use Rattle.ctl_meaning.specs.Types as sizes;
 ghost use Rattle.ctl_code.specs.Table.{begun_in, size_in};
 ghost use Rattle.ctl_code.specs.Table as table;
 ghost use Rattle.ctl_layout.specs.Defaults as starts;
@@ -13,17 +14,26 @@ ghost use Rattle.ctl_layout.specs.Defaults.{begun_before, begun_from, finalized_
 ghost use Rattle.ctl_layout.specs.Records as types;
 ghost use Rattle.ctl_layout.specs.Records.{constant_of};
 ghost use Rattle.ctl_layout.specs.Layout as spec;
-ghost use Rattle.ctl_layout.specs.Layout.{AreLayouts, HasKinds, IsLaidOut, IsLayout, entry_at, operations_of};
+ghost use Rattle.ctl_layout.specs.Layout.{AreLayouts, HasKinds, IsLaidOut, IsLayout, entry_at, home_of, operations_of};
 
 use crate::emit::Emitter;
-use ctl_code::code::{Begun, Code, Entry, Initial, Instr, Layout, Operations, Parts};
+use ctl_code::code::{AccessHome, Begun, Code, Entry, Initial, Instr, Layout, Operations, Parts};
 use ctl_code::valid::ValidCode;
 use ctl_layout::right::constant;
 use ctl_program::program::{Checked, Subprogram};
-use ctl_program::types::{AccessType, Component, RecordType, Root, Ty, Var};
+use ctl_program::types::{AccessType, Component, RecordType, Root, Ty};
 use ctl_tree::fault::{Fault, FaultCode};
 use ctl_tree::text::Text;
 use std::alloc::{AllocError, Global};
+
+/// How many storage units a value of an elementary type takes (RM 13.3).
+const SCALAR_SIZE: usize = 8;
+
+/// How many the tag of an object takes (RM 3.9, 13.3).
+const TAG_SIZE: usize = 8;
+
+/// How many an object of a record type takes at least (RM 13.3).
+const LEAST_RECORD_SIZE: usize = 8;
 
 /// Gives the code of a checked program, validated. The fault is MEMORY, or LEFT_OUT at the beginning of the text where this version has
 /// no well-formed code for the program.
@@ -147,6 +157,41 @@ fn cells_by(layouts: &[Layout], ty: Ty) -> usize
     }
 }
 
+/// Counts the storage units of a value of a type: those of a record type, of which there is one of these layouts (RM 13.3).
+fn units_by(layouts: &[Layout], ty: Ty) -> usize
+    ensures { result ≡ spec.units_by layouts.now ty }
+{
+    let Ty::Record(number) = ty else {
+        return SCALAR_SIZE;
+    };
+    match layouts.get(number) {
+        Some(layout) => layout.units,
+        None => 0,
+    }
+}
+
+/// Counts the storage units of the tag, which a type has that is tagged (RM 3.9, 13.3).
+fn tag_of(root: Root) -> usize
+    ensures { result ≡ spec.tag_of root }
+{
+    match root {
+        Root::Untagged => 0,
+        Root::Controlled | Root::BlockPool | Root::MarkPool => TAG_SIZE,
+    }
+}
+
+/// Gives so many storage units, and no fewer than a record takes at least (RM 13.3).
+#[tactic(auto, unfolding(ctl_meaning::specs::Types::as_record_size))]
+fn as_record_size(units: usize) -> usize
+    ensures { result ≡ sizes.as_record_size units }
+{
+    if units < LEAST_RECORD_SIZE {
+        LEAST_RECORD_SIZE
+    } else {
+        units
+    }
+}
+
 /// Tells whether there is a controlled part (RM 7.6).
 fn has_part(parts: Parts) -> bool
     ensures { result ≡ table.has_part parts }
@@ -231,6 +276,7 @@ fn parts_by(root: Root, controlled: &[Begun]) -> Parts
 fn without_components(alloc: Global, level: usize) -> Layout
     ensures level { result.level ≡ level }
     ensures cells { result.cells ≡ 0 }
+    ensures content { result.content ≡ 0 }
     ensures offsets { result.offsets.items ≡ [] }
     ensures begun { result.begun.items ≡ [] }
 {
@@ -238,6 +284,8 @@ fn without_components(alloc: Global, level: usize) -> Layout
         parts: Parts::Plain,
         level,
         cells: 0,
+        content: 0,
+        units: 0,
         offsets: Vec::new(alloc),
         begun: Vec::new(alloc),
         controlled: Vec::new(alloc),
@@ -248,6 +296,7 @@ fn without_components(alloc: Global, level: usize) -> Layout
 fn inherited(alloc: Global, layouts: &[Layout], entry: &RecordType) -> Result<Layout, AllocError>
     ensures level { IfOk result (λ x. x.level ≡ entry.now.level) }
     ensures cells { IfOk result (λ x. x.cells ≡ size_in (spec.parent_layout layouts.now entry.now.parent)) }
+    ensures content { IfOk result (λ x. x.content ≡ spec.content_in (spec.parent_layout layouts.now entry.now.parent)) }
     ensures offsets { IfOk result (λ x. x.offsets.items ≡ spec.offsets_in (spec.parent_layout layouts.now entry.now.parent)) }
     ensures begun { IfOk result (λ x. x.begun.items ≡ begun_in (spec.parent_layout layouts.now entry.now.parent)) }
 {
@@ -259,6 +308,8 @@ fn inherited(alloc: Global, layouts: &[Layout], entry: &RecordType) -> Result<La
             parts: layout.parts,
             level: entry.level,
             cells: layout.cells,
+            content: layout.content,
+            units: 0,
             offsets: layout.offsets.clone()?,
             begun: layout.begun.clone()?,
             controlled: Vec::new(alloc),
@@ -267,14 +318,17 @@ fn inherited(alloc: Global, layouts: &[Layout], entry: &RecordType) -> Result<La
     }
 }
 
-/// Puts a component behind those of a layout, of so many cells. No memory has more cells than there are numbers for them.
+/// Puts a component behind those of a layout, of so many cells and storage units. No memory has more of them than there are numbers for
+/// them.
 fn add_component(
     layout: &mut Layout,
     cells: usize,
+    units: usize,
     initial: Option<Initial>,
 ) -> Result<(), AllocError>
     ensures level { OnOk result (layout.new.level ≡ layout.old.level) }
     ensures cells { OnOk result (layout.new.cells ≡ layout.old.cells + cells) }
+    ensures content { OnOk result (layout.new.content ≡ layout.old.content + units) }
     ensures offsets { OnOk result (layout.new.offsets.items ≡ layout.old.offsets.items ++ layout.old.cells ∷ []) }
     ensures begun { OnOk result (layout.new.begun.items ≡ layout.old.begun.items ++ begun_before (length layout.old.offsets.items + 1) layout.old.cells initial []) }
 {
@@ -289,6 +343,7 @@ fn add_component(
         })?;
     }
     layout.cells = offset.checked_add(cells).ok_or(AllocError)?;
+    layout.content = layout.content.checked_add(units).ok_or(AllocError)?;
     Ok(())
 }
 
@@ -300,14 +355,16 @@ fn components_of(
 ) -> Result<Layout, AllocError>
     ensures level { IfOk result (λ x. x.level ≡ entry.now.level) }
     ensures cells { IfOk result (λ x. x.cells ≡ size_in (spec.parent_layout layouts.now entry.now.parent) + total (spec.cells_by layouts.now) entry.now.own) }
+    ensures content { IfOk result (λ x. x.content ≡ spec.content_in (spec.parent_layout layouts.now entry.now.parent) + total (spec.units_by layouts.now) entry.now.own) }
     ensures offsets { IfOk result (λ x. x.offsets.items ≡ spec.offsets_in (spec.parent_layout layouts.now entry.now.parent) ++ spec.offsets_from (spec.cells_by layouts.now) (size_in (spec.parent_layout layouts.now entry.now.parent)) entry.now.own) }
     ensures begun { IfOk result (λ x. x.begun.items ≡ begun_in (spec.parent_layout layouts.now entry.now.parent) ++ begun_from layouts.now (spec.cells_by layouts.now) (spec.next_position (spec.parent_layout layouts.now entry.now.parent)) (size_in (spec.parent_layout layouts.now entry.now.parent)) entry.now.own) }
 {
     let mut layout = inherited(alloc, layouts, entry)?;
     for component in entry.own.as_slice() {
         let cells = cells_by(layouts, component.ty);
+        let units = units_by(layouts, component.ty);
         let initial = initial_of(layouts, component);
-        add_component(&mut layout, cells, initial)?;
+        add_component(&mut layout, cells, units, initial)?;
     }
     Ok(layout)
 }
@@ -319,6 +376,8 @@ fn layout_of(alloc: Global, layouts: &[Layout], entry: &RecordType) -> Result<La
     let mut layout = components_of(alloc, layouts, entry)?;
     layout.controlled = finalized_of(alloc, layouts, layout.begun.as_slice())?;
     layout.parts = parts_by(entry.root, layout.controlled.as_slice());
+    let units = layout.content.checked_add(tag_of(entry.root));
+    layout.units = as_record_size(units.ok_or(AllocError)?);
     Ok(layout)
 }
 
@@ -334,13 +393,16 @@ fn layouts_of(alloc: Global, records: &[RecordType]) -> Result<Vec<Layout>, Allo
     Ok(all)
 }
 
-/// Gives where the collections of access types stand (RM 7.6.1).
-fn accesses_of(alloc: Global, accesses: &[AccessType]) -> Result<Vec<Var>, AllocError>
-    ensures { IfOk result (λ all. all.items ≡ map (λ a. a.collection) accesses.now) }
+/// Gives where the collections of access types and their storage pools stand (RM 7.6.1, 13.11).
+fn accesses_of(alloc: Global, accesses: &[AccessType]) -> Result<Vec<AccessHome>, AllocError>
+    ensures { IfOk result (λ all. all.items ≡ map home_of accesses.now) }
 {
     let mut all = Vec::new(alloc);
     for access in accesses {
-        all.push(access.collection)?;
+        all.push(AccessHome {
+            collection: access.collection,
+            pool: access.pool,
+        })?;
     }
     Ok(all)
 }

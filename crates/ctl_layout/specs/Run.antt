@@ -1,29 +1,21 @@
--- The programs that this version runs: blocks; objects of types that extend Controlled or Limited_Controlled and of records that are not
--- tagged, whose components are scalar, access values or of such types again, with their Initialize, Adjust and Finalize; access types whose
--- objects lie in the standard pool, their collections, allocators of such objects, without a value or with that of a part of a variable,
--- access attributes, and instances of Unchecked_Deallocation; expressions over constants, variables, components and calls of functions, of
--- scalar and access types; assignments to variables and components, also of what access values designate, and calls give these too; calls of
--- procedures, whose actuals are values, copies of variables and parts of objects; return statements, texts with images, handlers of
--- exceptions, and control. Also objects that take the value of a part of their type, which may be any whose objects are declared, and
--- assignments of records to one another where their type is one of the main procedure's own declarative part.
-use Rattle.std.specs.Prelude.{◌≡◌, ℕ, List, [], ◌∷◌, slice_get, Option, Some, None, is_none, Bool, true, ◌&&◌, IsTrue}
+-- The programs that this version runs: blocks; objects of types that extend Controlled, Limited_Controlled or Block_Pool and of records that
+-- are not tagged, whose components are scalar, access values or of such types again, with their Initialize, Adjust and Finalize, but none
+-- with an Allocate or a Deallocate of its own; access types whose objects lie in the standard pool or in a block pool, their collections,
+-- allocators of such objects, without a value or with that of a part of a variable, access attributes, and instances of
+-- Unchecked_Deallocation; expressions over constants, variables, components and calls of functions, of scalar and access types;
+-- assignments to variables and components, also of what access values designate, and calls give these too; calls of procedures, whose
+-- actuals are values, copies of variables and parts of objects; return statements, texts with images, handlers of exceptions, and control.
+-- Also objects that take the value of a part of their type, which may be any whose objects are declared, and assignments of records to one
+-- another where their type is one of the main procedure's own declarative part.
+use Rattle.std.specs.Prelude.{◌≡◌, ℕ, List, slice_get, Option, Some, None, Bool, IsTrue}
 use Rattle.ctl_program.specs.declared.program.Subprogram.{Subprogram}
 use Rattle.ctl_program.specs.declared.program.Checked.{Checked}
-use Rattle.ctl_program.specs.declared.types.AccessType.{AccessType}
 use Rattle.ctl_program.specs.declared.types.RecordType.{RecordType}
 use Rattle.ctl_layout.specs.Layout.{bodies}
 
--- whether the objects of an access type lie in the standard pool; of each of these (13.11)
-abbrev pub is_standard : AccessType → Bool
-is_standard a = is_none a.pool
-
-abbrev pub are_standard : List AccessType → Bool
-are_standard [] = true
-are_standard (a ∷ more) = is_standard a && are_standard more
-
 -- whether this version runs each construct of a program
 abbrev pub is_run : Checked → Bool
-is_run program = are_standard program.accesses && (bodies program.subprograms).runs program.records
+is_run program = (bodies program.subprograms).runs program.records
 
 abbrev pub IsRun : Checked → Type 0
 IsRun program = IsTrue (is_run program)

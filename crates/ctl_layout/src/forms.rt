@@ -6,7 +6,7 @@ ghost use Rattle.ctl_layout.specs.Records as types;
 
 use crate::right::constant;
 use ctl_program::expression::Expr;
-use ctl_program::types::{Component, RecordType, Root, Ty};
+use ctl_program::types::{Component, Operations, RecordType, Root, Ty};
 use std::alloc::{AllocError, Global};
 
 /// What a record type consists of.
@@ -56,16 +56,25 @@ fn have_constants(components: &[Component]) -> bool
     true
 }
 
+/// Tells whether the user wrote no Allocate or Deallocate among these operations (RM 13.11).
+fn is_of_library(operations: &Operations) -> bool
+    ensures { result ≡ types.is_of_library operations.now }
+{
+    operations.allocate.is_none() && operations.deallocate.is_none()
+}
+
 /// Tells whether a type descends from Controlled or Limited_Controlled (RM 7.6), or is not tagged and has none of their operations.
 fn is_root_run(entry: &RecordType) -> bool
     ensures { result ≡ types.is_root_run entry.now.root entry.now.operations }
 {
     match entry.root {
-        Root::Controlled => true,
+        Root::Controlled | Root::BlockPool => is_of_library(&entry.operations),
         Root::Untagged => {
-            entry.operations.initialize.is_none() && entry.operations.finalize.is_none()
+            is_of_library(&entry.operations)
+                && entry.operations.initialize.is_none()
+                && entry.operations.finalize.is_none()
         }
-        Root::BlockPool | Root::MarkPool => false,
+        Root::MarkPool => false,
     }
 }
 
@@ -184,5 +193,15 @@ impl<'a> Table<'a> {
         ensures { result ≡ types.is_plain self.now.records.now number }
     {
         is_plain_form(self.forms.as_slice(), number)
+    }
+
+    /// Tells whether objects of the record type of this number are declared as block pools (RM 13.11).
+    pub fn is_pool(&self, number: usize) -> bool
+        ensures { result ≡ types.is_pool self.now.records.now number }
+    {
+        match self.records.get(number) {
+            Some(entry) => self.is_plain(number) && matches!(entry.root, Root::BlockPool),
+            None => false,
+        }
     }
 }

@@ -1,6 +1,6 @@
 //! Whether this version runs each construct of a checked program.
 
-ghost use Rattle.std.specs.Prelude.{◌≡◌, ℕ, List, [], ◌∷◌, map, option_map, slice_get, IfOk, Some};
+ghost use Rattle.std.specs.Prelude.{◌≡◌, ℕ, List, [], ◌∷◌, is_some, map, option_map, slice_get, IfOk, Some};
 ghost use Rattle.ctl_program.specs.declared.operators.CopyStart.{CopyStart};
 ghost use Rattle.ctl_program.specs.declared.types.RecordType.{RecordType};
 ghost use Rattle.ctl_program.specs.declared.types.Var.{Var};
@@ -20,8 +20,8 @@ use crate::right::{Denoted, Reached, begins_with_variable, reached_by, sourced};
 use crate::typing::{copied, value_type};
 use ctl_program::expression::{Actual, Expr, Name, Operand, Step};
 use ctl_program::program::{Checked, Subprogram};
-use ctl_program::statement::{Arm, Choices, Handler, Item, Master, Piece, Stmt};
-use ctl_program::types::{AccessType, RecordType, Ty};
+use ctl_program::statement::{Arm, Association, Choices, Handler, Item, Master, Piece, Stmt};
+use ctl_program::types::{RecordType, Ty};
 use sqlite_items::Boxed;
 use std::alloc::{AllocError, Global};
 
@@ -30,26 +30,7 @@ pub fn is_run(alloc: Global, program: &Checked) -> Result<bool, AllocError>
     ensures { IfOk result (λ runs. runs ≡ whole.is_run program.now) }
 {
     let table = Table::new(alloc, program.records.as_slice())?;
-    Ok(are_standard(program.accesses.as_slice()) && bodies(&table, program.subprograms.as_slice()))
-}
-
-/// Tells whether the objects of an access type lie in the standard pool (RM 13.11).
-fn is_standard(access: &AccessType) -> bool
-    ensures { result ≡ whole.is_standard access.now }
-{
-    access.pool.is_none()
-}
-
-/// Tells whether the objects of these access types lie in the standard pool (RM 13.11).
-fn are_standard(accesses: &[AccessType]) -> bool
-    ensures { result ≡ whole.are_standard accesses.now }
-{
-    for access in accesses {
-        if !is_standard(access) {
-            return false;
-        }
-    }
-    true
+    Ok(bodies(&table, program.subprograms.as_slice()))
 }
 
 /// Tells whether the bodies of these subprograms are run.
@@ -353,6 +334,28 @@ fn is_given(table: &Table, ty: Ty, expression: &Expr) -> bool
     }
 }
 
+/// Tells whether these are the positions of both discriminants of a block pool (RM 13.11).
+fn are_both(first: usize, second: usize) -> bool
+    ensures { result ≡ is_some (spec.order_of first second) }
+{
+    matches!((first, second), (0, 1) | (1, 0))
+}
+
+/// Tells whether the declaration of a pool is run: of a block pool, with a value for each of its discriminants (RM 13.11).
+fn is_pool(table: &Table, number: usize, associations: &[Association]) -> bool
+    ensures { (slot : ℕ) → result ≡ (spec.pool slot number (map spec.association associations.now)).runs table.now.records.now }
+{
+    match associations {
+        [first, second] => {
+            are_both(first.position, second.position)
+                && table.is_pool(number)
+                && value(&first.value, table)
+                && value(&second.value, table)
+        }
+        _ => false,
+    }
+}
+
 /// Tells whether an item is run.
 fn item(table: &Table, item: &Item) -> bool
     ensures { result ≡ (spec.item_code item.now).runs table.now.records.now }
@@ -362,7 +365,7 @@ fn item(table: &Table, item: &Item) -> bool
         Item::Object(_, ty, Some(expression)) => is_given(table, *ty, expression),
         Item::Collections(accesses) => !accesses.as_slice().is_empty(),
         Item::Silent => true,
-        Item::Pool(..) => false,
+        Item::Pool(_, number, associations) => is_pool(table, *number, associations.as_slice()),
     }
 }
 

@@ -52,7 +52,8 @@ use Rattle.ctl_machine.proofs.Stages.{Copies, Creates, Stage, allocator_in, allo
 use Rattle.ctl_machine.proofs.StillLeft.{left_below}
 use Rattle.ctl_machine.proofs.Values.{operand_stands}
 use Rattle.ctl_objects.specs.Pools.{KeepsShown}
-use Rattle.ctl_machine.proofs.Stocked.{with_forgotten}
+use Rattle.ctl_objects.specs.Stock.{Stock}
+use Rattle.ctl_machine.proofs.Stocked.{stock_holds, with_forgotten}
 use Rattle.std.specs.Ordering.{nat_cmp}
 use Rattle.std.specs.FinMap.{FinMap}
 use Rattle.pool_store.specs.Entries.{BlockPool}
@@ -205,29 +206,11 @@ pub forgets : (code : Code) (e : Kept) (n : ℕ) (blocks : FinMap nat_cmp BlockP
 unfolding opened_changes
 forgets code e n blocks stack k ops w none shown i =
     let h = i.holds in
+    let x : Stock = record (stock_of e) { objects = forgotten n e.objects; blocks = blocks } in
     record {
       stands = i.stands;
       sized = i.sized;
-      holds = record {
-        cells = h.cells;
-        room = h.room;
-        masters = h.masters;
-        below = h.below;
-        waits = h.waits;
-        objects = ap (λ (l : List W.Object). forgotten n l) h.objects;
-        needs = h.needs;
-        pools = shown e.next_object w.pools h.pools;
-        owns = owns_without n e.next_object e.objects e.owned none h.owns;
-        held = h.held;
-        rise = h.rise;
-        next_master = h.next_master;
-        next_object = h.next_object;
-        next_collection = h.next_collection;
-        collections = h.collections;
-        left = h.left;
-        saved = h.saved;
-        noted = h.noted;
-      };
+      holds = stock_holds code e x (forgotten n w.objects) w.pools k ops w h (ap (λ (l : List W.Object). forgotten n l) h.objects) refl (shown e.next_object w.pools h.pools) (owns_without n e.next_object e.objects e.owned none h.owns);
       spots = i.spots;
     }
 

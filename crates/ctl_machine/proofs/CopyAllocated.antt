@@ -6,8 +6,9 @@ use Rattle.ctl_tree.specs.declared.ending.Stop.TheVariants.{UseAfterFree}
 use Rattle.ctl_tree.specs.declared.event.Owner.TheVariants as OwnerOf
 use Rattle.ctl_program.specs.declared.types.Ty.{Ty}
 use Rattle.ctl_program.specs.declared.types.Ty.TheVariants.{Record}
+use Rattle.ctl_program.specs.declared.types.Var.{Var}
 use Rattle.ctl_meaning.specs.World as W
-use Rattle.ctl_meaning.specs.World.{Allocated, Collection, Standard, World}
+use Rattle.ctl_meaning.specs.World.{Allocated, Collection, Place, Standard, World}
 use Rattle.ctl_meaning.specs.Objects.{cells_at, change_in, object_in, with_cells}
 use Rattle.ctl_meaning.specs.Changes.{new_object, object_at, write_cells, opened_changes}
 use Rattle.ctl_meaning.specs.Finalization.{Spot}
@@ -18,7 +19,7 @@ use Rattle.ctl_code.specs.declared.code.Parts.{Parts}
 use Rattle.ctl_code.specs.declared.code.Parts.TheVariants as PartsOf
 use Rattle.ctl_code.specs.States as T
 use Rattle.ctl_code.specs.States.{State, Word}
-use Rattle.ctl_code.specs.Table.{Here, adjust_new, by_creating, by_instr, new_from, new_with, newborn, parts_of, set_seen, size_of, with_member}
+use Rattle.ctl_code.specs.Table.{Grant, Granted, Here, adjust_new, by_creating, by_instr, copy_at, new_from, new_with, newborn, parts_of, pool_in, set_seen, size_of, with_member}
 use Rattle.ctl_machine.specs.declared.engine.Engine.{Engine}
 use Rattle.ctl_machine.specs.declared.frame.Frame.{Frame}
 use Rattle.ctl_machine.specs.declared.frame.Frame.TheVariants as FrameOf
@@ -26,10 +27,10 @@ use Rattle.ctl_machine.specs.declared.frame.Mode.{Mode}
 use Rattle.ctl_machine.specs.declared.frame.Mode.TheVariants as ModeOf
 use Rattle.ctl_machine.specs.declared.frame.Owned.{Owned}
 use Rattle.ctl_machine.specs.Allocating.{OwnsNone}
-use Rattle.ctl_machine.specs.Copying.{AwaitsCopy, IsMember, Refuses, Takes, member_copied, point_at}
+use Rattle.ctl_machine.specs.Copying.{AwaitsCopy, IsMember, Refuses, Takes, point_at}
 use Rattle.ctl_machine.specs.Declaring.{Copied}
 use Rattle.ctl_machine.specs.Finishing.{with_objects}
-use Rattle.ctl_machine.specs.Gathering.{with_new_member}
+use Rattle.ctl_machine.specs.Granting.{IsNewMember, storage_seen}
 use Rattle.ctl_machine.specs.Masters.{Head, heads_of, first_display}
 use Rattle.ctl_machine.specs.Moves.{Before, GoesOn, Inside, Makes, here_of}
 use Rattle.ctl_machine.specs.Shows.{Holds, Kept, Sized, kept, with_spots}
@@ -39,7 +40,7 @@ use Rattle.ctl_machine.proofs.CopyDeclared.{value_taken}
 use Rattle.ctl_machine.proofs.Following.{makes_later}
 use Rattle.ctl_machine.proofs.Foreign.{owns_no_next}
 use Rattle.ctl_machine.proofs.Located.{located_move, part_on_top}
-use Rattle.ctl_machine.proofs.NewMember.{member_added, member_heads, not_allocated, refused_makes}
+use Rattle.ctl_machine.proofs.NewMember.{IsBeside, member_added, member_heads, member_next, member_number, not_allocated, refused_makes}
 use Rattle.ctl_machine.proofs.Operands.{HasPart}
 use Rattle.ctl_machine.proofs.Owned.{cells_keep, holds_changed, new_found, object_shown, some_there}
 use Rattle.ctl_machine.proofs.Stages.{Copies, allocator_begins}
@@ -74,90 +75,110 @@ plain_joins code old new object type place set s plain makes =
 -- It takes the value -------------------------------------------------------------------------------------
 
 -- a new object of a collection, which has taken this value
-abbrev pub with_taken : ℕ → ℕ → ℕ → List ℕ → Kept → Kept
-with_taken set t size value e = with_objects (change_in e.next_object (with_cells 0 value) (with_new_member set t (replicate size 0) e).objects) (with_new_member set t (replicate size 0) e)
+abbrev pub with_taken : List ℕ → ℕ → List Spot → Kept → Kept
+with_taken value number spots e = record e { spots = spots; objects = change_in number (with_cells 0 value) e.objects }
 
 -- it is allocated, and then its cells are copied from an object that was there
-pub taken_kept : (old made : Kept) (objects : List W.Object) (spots : List Spot) (set t size source start offset count number : ℕ) (o : W.Object)
-    → made ≡ with_new_member set t (replicate size 0) old → number ≡ old.next_object → object_in source old.objects ≡ Some o → start ≡ offset → size ≡ count
+pub taken_kept : (code : Code) (old made : Kept) (objects : List W.Object) (set t source start offset size number : ℕ) (place : Place) (v : World) (o : W.Object)
+    → IsNewMember code old made set t place v → number ≡ old.next_object → object_in source old.objects ≡ Some o → start ≡ offset → size ≡ size_of code t
     → objects ≡ option_map_or (λ z. change_in number (with_cells 0 (cells_at start size z)) made.objects) (object_in source made.objects) made.objects
-    → record made { spots = spots; objects = objects } ≡ with_taken set t count (cells_at offset count o) (with_spots old spots)
-taken_kept old made objects spots set t size source start offset count number o added next there from all copied =
-    let x = new_object old.next_object (Record t) (replicate count 0) (Allocated set Standard) in
-    let made_is : made ≡ with_new_member set t (replicate count 0) old = added ∙ ap (λ n. with_new_member set t (replicate n 0) old) all in
-    let is = value_taken old.objects made.objects objects x source start offset size count number old.next_object o (ap (λ (e : Kept). e.objects) made_is) next there from all copied in
-    ap (λ (l : List W.Object). record made { spots = spots; objects = l }) is
-    ∙ ap (λ (e : Kept). record e { spots = spots; objects = change_in old.next_object (with_cells 0 (cells_at offset count o)) (old.objects ++ x ∷ []) }) made_is
+    → objects ≡ change_in old.next_object (with_cells 0 (cells_at offset (size_of code t) o)) made.objects
+taken_kept code old made objects set t source start offset size number place v o added next there from all copied =
+    let x = new_object old.next_object (Record t) (replicate (size_of code t) 0) (Allocated set place) in
+    let more : made.objects ≡ old.objects ++ x ∷ [] = ap (λ (e : Kept). e.objects) added.kept in
+    value_taken old.objects made.objects objects x source start offset size (size_of code t) number old.next_object o more next there from all copied
+    ∙ ap (λ (l : List W.Object). change_in old.next_object (with_cells 0 (cells_at offset (size_of code t) o)) l) (sym more)
 
-taken_holds : (code : Code) (e : Kept) (set t : ℕ) (value : List ℕ) (k : List T.Frame) (ops : List Word) (w : World) → Holds code e k ops w → Holds code (with_taken set t (size_of code t) value e) k ops (write_cells w.ledger.next_object 0 value (with_member code set t w))
-unfolding opened_changes
-taken_holds code e set t value k ops w h =
-    let added = member_added code e set t k ops w h in
-    let taken = holds_changed code (with_new_member set t (replicate (size_of code t) 0) e) k ops (with_member code set t w) e.next_object (with_cells 0 value) (cells_keep 0 value) added in
-    subst (λ c. Holds code (with_taken set t (size_of code t) value e) k ops (write_cells c 0 value (with_member code set t w))) (sym h.next_object) taken
+-- other parts may stand beside the window
+spots_apart : (code : Code) (old made : Kept) (set t : ℕ) (place : Place) (v : World) (spots : List Spot) → IsNewMember code old made set t place v → IsNewMember code (with_spots old spots) (with_spots made spots) set t place v
+spots_apart code old made set t place v spots i = record { kept = ap (λ (e : Kept). with_spots e spots) i.kept; pools = i.pools }
 
-taken_heads : (code : Code) (n set t : ℕ) (value : List ℕ) (w : World) → heads_of (write_cells n 0 value (with_member code set t w)).activations ≡ heads_of w.activations
+-- what is shown then
+taken_holds : (code : Code) (old made : Kept) (set t : ℕ) (place : Place) (value : List ℕ) (k : List T.Frame) (ops : List Word) (w v : World) → Holds code old k ops w → IsBeside w v → IsNewMember code old made set t place v
+    → Holds code (with_objects (change_in old.next_object (with_cells 0 value) made.objects) made) k ops (write_cells v.ledger.next_object 0 value (with_member code set t place v))
 unfolding opened_changes
-taken_heads code n set t value w = member_heads code set t w
+taken_holds code old made set t place value k ops w v h b i =
+    let u = with_member code set t place v in
+    let added = member_added code old made set t place k ops w v h b i in
+    let taken = holds_changed code made k ops u old.next_object (with_cells 0 value) (cells_keep 0 value) added in
+    let next : v.ledger.next_object ≡ old.next_object = ap (λ (z : World). z.ledger.next_object) b ∙ h.next_object in
+    subst (λ c. Holds code (with_objects (change_in old.next_object (with_cells 0 value) made.objects) made) k ops (write_cells c 0 value u)) (sym next) taken
 
-member_there : (code : Code) (e : Kept) (set t : ℕ) (k : List T.Frame) (ops : List Word) (w : World) → Holds code e k ops w
-    → object_at w.ledger.next_object (with_member code set t w) ≡ Some (new_object e.next_object (Record t) (replicate (size_of code t) 0) (Allocated set Standard))
+taken_heads : (code : Code) (n set t : ℕ) (place : Place) (value : List ℕ) (w v : World) → IsBeside w v → heads_of (write_cells n 0 value (with_member code set t place v)).activations ≡ heads_of w.activations
 unfolding opened_changes
-member_there code e set t k ops w h =
-    let x = new_object e.next_object (Record t) (replicate (size_of code t) 0) (Allocated set Standard) in
-    let added = member_added code e set t k ops w h in
-    ap (λ c. object_at c (with_member code set t w)) h.next_object
-    ∙ (object_shown code (with_new_member set t (replicate (size_of code t) 0) e) k ops (with_member code set t w) e.next_object added ∙ new_found e.owned e.next_object e.objects x h.owns refl)
+taken_heads code n set t place value w v b = member_heads code set t place w v b
+
+member_there : (code : Code) (old made : Kept) (set t : ℕ) (place : Place) (k : List T.Frame) (ops : List Word) (w v : World) → Holds code old k ops w → IsBeside w v → IsNewMember code old made set t place v
+    → object_at v.ledger.next_object (with_member code set t place v) ≡ Some (new_object old.next_object (Record t) (replicate (size_of code t) 0) (Allocated set place))
+unfolding opened_changes
+member_there code old made set t place k ops w v h b i =
+    let u = with_member code set t place v in
+    let x = new_object old.next_object (Record t) (replicate (size_of code t) 0) (Allocated set place) in
+    let added = member_added code old made set t place k ops w v h b i in
+    let next : v.ledger.next_object ≡ old.next_object = ap (λ (z : World). z.ledger.next_object) b ∙ h.next_object in
+    ap (λ c. object_at c u) next
+    ∙ (object_shown code made k ops u old.next_object added
+    ∙ (ap (λ (e : Kept). object_in old.next_object e.objects) i.kept ∙ new_found old.owned old.next_object old.objects x h.owns refl))
 
 -- the state then
-abbrev pub taken_state : Code → ℕ → ℕ → W.Object → State → State
-taken_state code set t o s = record s { operands = drop 1 s.operands; world = write_cells s.world.ledger.next_object 0 (cells_at (first_spot s.operands).offset (size_of code t) o) (with_member code set t s.world) }
+abbrev pub taken_state : Code → ℕ → ℕ → Place → World → W.Object → State → State
+taken_state code set t place v o s = record s { operands = drop 1 s.operands; world = write_cells v.ledger.next_object 0 (cells_at (first_spot s.operands).offset (size_of code t) o) (with_member code set t place v) }
+
+-- the move of the table, where storage was granted or not
+abbrev pub member_copied : Code → ℕ → ℕ → ℕ → W.Object → State → Grant → T.Move
+member_copied code at set t o s g = copy_at code t (cells_at (first_spot s.operands).offset (size_of code t) o) set g (drop 1 s.operands) (here_of at s)
 
 -- what the table makes of it
-table_takes : (code : Code) (e : Kept) (place set t : ℕ) (o : W.Object) (k : List T.Frame) (ops : List Word) (s : State) → Holds code e k ops s.world
-    → member_copied code place set t o s ≡ (let x = taken_state code set t o s in adjust_new code (parts_of code t) T.ByAllocator (newborn s.world.ledger.next_object t (OwnerOf.Collection set)) (point_at (place + 1) (record x { world = s.world })) x.control x.world)
-table_takes code e place set t o k ops s h = rw (member_there code e set t k ops s.world h) refl
+table_takes : (code : Code) (old made : Kept) (at set t : ℕ) (place : Place) (v : World) (o : W.Object) (s : State) → Holds code old s.control s.operands s.world → IsBeside s.world v → IsNewMember code old made set t place v
+    → member_copied code at set t o s (Granted place v)
+    ≡ (let x = taken_state code set t place v o s in adjust_new code (parts_of code t) T.ByAllocator (newborn v.ledger.next_object t (OwnerOf.Collection set)) (point_at (at + 1) (record x { world = s.world })) x.control x.world)
+table_takes code old made at set t place v o s h b i = rw (member_there code old made set t place s.control s.operands s.world v h b i) refl
 
 -- the part whose value is taken
 pub source_part : (code : Code) (e : Engine) (access place t at : ℕ) (ty : Ty) (s : State) → (b : Before code e place (NewCopy access t ty at) s) → HasPart code (kept e) b.fine.2.0 s.control s.operands s.world
 source_part code e access place t at ty s b = part_on_top code e t b.stack b.fine.2.0 s b.inside b.fine.2.1
 
 -- the new object has taken the value, and its allocator goes on
-pub taken_is : (code : Code) (old new : Engine) (access place set t at : ℕ) (ty : Ty) (o : W.Object) (s : State) → Before code old place (NewCopy access t ty at) s
-    → kept new ≡ with_taken set t (size_of code t) (cells_at (first_spot s.operands).offset (size_of code t) o) (with_spots (kept old) (standing s.control (drop 1 s.operands)))
-    → IsMember code new (old.numbered.objects + 1) (place + 1) (taken_state code set t o s)
-taken_is code old new access place set t at ty o s b are =
+pub taken_is : (code : Code) (old made new : Engine) (access at set t cell : ℕ) (ty : Ty) (place : Place) (v : World) (o : W.Object) (s : State) → Before code old at (NewCopy access t ty cell) s → IsBeside s.world v → IsNewMember code (kept old) (kept made) set t place v
+    → kept new ≡ with_taken (cells_at (first_spot s.operands).offset (size_of code t) o) (old.numbered.objects + 1) (standing s.control (drop 1 s.operands)) (kept made)
+    → IsMember code new made.numbered.objects (at + 1) (taken_state code set t place v o s)
+taken_is code old made new access at set t cell ty place v o s b beside i are =
     let value = cells_at (first_spot s.operands).offset (size_of code t) o in
-    let p = source_part code old access place t at ty s b in
-    let x = taken_state code set t o s in
-    let e = with_spots (kept old) (standing s.control (drop 1 s.operands)) in
-    let made = with_taken set t (size_of code t) value e in
-    let heads : heads_of x.world.activations ≡ heads_of s.world.activations = taken_heads code s.world.ledger.next_object set t value s.world in
-    let inside : Inside code made b.fine.2.0 s.control x.operands x.world = record {
+    let p = source_part code old access at t cell ty s b in
+    let x = taken_state code set t place v o s in
+    let spots = standing s.control (drop 1 s.operands) in
+    let taken = with_taken value (old.numbered.objects + 1) spots (kept made) in
+    let heads : heads_of x.world.activations ≡ heads_of s.world.activations = taken_heads code v.ledger.next_object set t place value s.world v beside in
+    let inside : Inside code taken b.fine.2.0 s.control x.operands x.world = record {
       stands = p.left.stands;
       sized = subst (λ (l : List Head). Sized code b.fine.2.0 s.control l) (sym heads) p.left.sized;
-      holds = taken_holds code e set t value s.control x.operands s.world p.left.holds;
+      holds = taken_holds code (with_spots (kept old) spots) (with_spots (kept made) spots) set t place value s.control x.operands s.world v p.left.holds beside (spots_apart code (kept old) (kept made) set t place v spots i);
       spots = p.left.spots;
     } in
+    let number : made.numbered.objects ≡ old.numbered.objects + 1 = member_number code old made set t place v i in
+    let owned : new.owned.items ≡ old.owned.items = ap (λ (z : Kept). z.owned) are ∙ ap (λ (z : Kept). z.owned) i.kept in
+    let foreign : OwnsNone (old.numbered.objects + 1) old.owned.items = owns_no_next old.owned.items (old.numbered.objects + 1) old.stock.objects b.inside.holds.owns in
     record {
       stack = b.fine.2.0;
       type = ty;
       scalar = b.fine.0;
       leads = b.fine.2.2.1;
       inside = subst (λ (z : Kept). Inside code z b.fine.2.0 s.control x.operands x.world) (sym are) inside;
-      foreign = subst (λ (l : List Owned). OwnsNone (old.numbered.objects + 1) l) (sym (ap (λ (z : Kept). z.owned) are)) (owns_no_next old.owned.items (old.numbered.objects + 1) old.stock.objects b.inside.holds.owns);
+      foreign = subst (λ (l : List Owned). OwnsNone made.numbered.objects l) (sym owned) (subst (λ n. OwnsNone n old.owned.items) (sym number) foreign);
     }
 
-pub taken_makes : (code : Code) (old mid new : Engine) (access place set t at : ℕ) (ty : Ty) (o : W.Object) (s : State) → Before code old place (NewCopy access t ty at) s → mid.events.items ≡ old.events.items → mid.picks.items ≡ old.picks.items
-    → (let x = taken_state code set t o s in Makes code mid new (adjust_new code (parts_of code t) T.ByAllocator (newborn (old.numbered.objects + 1) t (OwnerOf.Collection set)) (point_at (place + 1) x) x.control x.world)) → Makes code old new (member_copied code place set t o s)
-taken_makes code old mid new access place set t at ty o s b events picks makes =
-    let x = taken_state code set t o s in
+pub taken_makes : (code : Code) (old made mid new : Engine) (access at set t cell : ℕ) (ty : Ty) (place : Place) (v : World) (o : W.Object) (s : State) → Before code old at (NewCopy access t ty cell) s → IsBeside s.world v → IsNewMember code (kept old) (kept made) set t place v
+    → mid.events.items ≡ old.events.items → mid.picks.items ≡ old.picks.items
+    → (let x = taken_state code set t place v o s in Makes code mid new (adjust_new code (parts_of code t) T.ByAllocator (newborn made.numbered.objects t (OwnerOf.Collection set)) (point_at (at + 1) x) x.control x.world)) → Makes code old new (member_copied code at set t o s (Granted place v))
+taken_makes code old made mid new access at set t cell ty place v o s b beside i events picks makes =
+    let x = taken_state code set t place v o s in
     let value = cells_at (first_spot s.operands).offset (size_of code t) o in
     let h = b.inside.holds in
-    let goes : List Head → ℕ → T.Move = λ hs n. adjust_new code (parts_of code t) T.ByAllocator (newborn n t (OwnerOf.Collection set)) (record { display = first_display hs; place = place + 1; operands = x.operands }) x.control x.world in
-    let same : member_copied code place set t o s ≡ goes (heads_of x.world.activations) (old.numbered.objects + 1) =
-    table_takes code (kept old) place set t o s.control s.operands s h
-    ∙ (ap (λ n. goes (heads_of s.world.activations) n) h.next_object ∙ ap (λ (hs : List Head). goes hs (old.numbered.objects + 1)) (sym (taken_heads code s.world.ledger.next_object set t value s.world))) in
+    let goes : List Head → ℕ → T.Move = λ hs n. adjust_new code (parts_of code t) T.ByAllocator (newborn n t (OwnerOf.Collection set)) (record { display = first_display hs; place = at + 1; operands = x.operands }) x.control x.world in
+    let same : member_copied code at set t o s (Granted place v) ≡ goes (heads_of x.world.activations) made.numbered.objects =
+    table_takes code (kept old) (kept made) at set t place v o s h beside i
+    ∙ (ap (λ n. goes (heads_of s.world.activations) n) (member_next code old made set t place s.world v h.next_object beside i)
+    ∙ ap (λ (hs : List Head). goes hs made.numbered.objects) (sym (taken_heads code v.ledger.next_object set t place value s.world v beside))) in
     subst (λ (m : T.Move). Makes code old new m) (sym same) (makes_later code old mid new _ events picks makes)
 
 -- By the instruction -------------------------------------------------------------------------------------
@@ -166,10 +187,14 @@ taken_makes code old mid new access place set t at ty o s b events picks makes =
 abbrev pub seen_in : Code → ℕ → State → Option Collection
 seen_in code access s = set_seen (slice_get code.accesses.items access) (first_display (heads_of s.world.activations)) s.world
 
+-- its storage pool
+abbrev pub pool_of : Code → ℕ → Option Var
+pool_of code access = pool_in (slice_get code.accesses.items access)
+
 copied_move : (code : Code) (e : Engine) (access place t at : ℕ) (ty : Ty) (s : State) → Before code e place (NewCopy access t ty at) s
-    → by_instr code (Some (NewCopy access t ty at)) s.operands (here_of place s) ≡ new_from code t (first_spot s.operands).offset (object_at (first_spot s.operands).object s.world) (seen_in code access s) (drop 1 s.operands) (here_of place s)
+    → by_instr code (Some (NewCopy access t ty at)) s.operands (here_of place s) ≡ new_from code t (first_spot s.operands).offset (object_at (first_spot s.operands).object s.world) (pool_of code access) (seen_in code access s) (drop 1 s.operands) (here_of place s)
 copied_move code e access place t at ty s b =
-    located_move code e b.fine.2.0 s (λ y rest. new_from code t y.offset (object_at y.object s.world) (seen_in code access s) rest (here_of place s)) (here_of place s) (source_part code e access place t at ty s b)
+    located_move code e b.fine.2.0 s (λ y rest. new_from code t y.offset (object_at y.object s.world) (pool_of code access) (seen_in code access s) rest (here_of place s)) (here_of place s) (source_part code e access place t at ty s b)
 
 -- an object that is there
 abbrev pub object_or : Option W.Object → W.Object
@@ -194,34 +219,35 @@ source_gone code old new access place t at ty s b none goes =
     let y = first_spot s.operands in
     let rest = drop 1 s.operands in
     let object : object_at y.object s.world ≡ None = object_shown code (kept old) s.control s.operands s.world y.object b.inside.holds ∙ none in
-    subst (λ (m : T.Move). Makes code old new m) (sym (copied_move code old access place t at ty s b ∙ ap (λ (z : Option W.Object). new_from code t y.offset z (seen_in code access s) rest (here_of place s)) object))
+    subst (λ (m : T.Move). Makes code old new m) (sym (copied_move code old access place t at ty s b ∙ ap (λ (z : Option W.Object). new_from code t y.offset z (pool_of code access) (seen_in code access s) rest (here_of place s)) object))
     (gone_makes code old new s.control s.operands s.world b.inside.holds goes)
 
 -- it is there
 source_there : (code : Code) (old : Engine) (access place t at : ℕ) (ty : Ty) (o : W.Object) (s : State) → Before code old place (NewCopy access t ty at) s → object_at (first_spot s.operands).object s.world ≡ Some o
-    → by_instr code (Some (NewCopy access t ty at)) s.operands (here_of place s) ≡ new_with code t (cells_at (first_spot s.operands).offset (size_of code t) o) (seen_in code access s) (drop 1 s.operands) (here_of place s)
+    → by_instr code (Some (NewCopy access t ty at)) s.operands (here_of place s) ≡ new_with code t (cells_at (first_spot s.operands).offset (size_of code t) o) (pool_of code access) (seen_in code access s) (drop 1 s.operands) (here_of place s)
 source_there code old access place t at ty o s b there =
-    copied_move code old access place t at ty s b ∙ ap (λ (z : Option W.Object). new_from code t (first_spot s.operands).offset z (seen_in code access s) (drop 1 s.operands) (here_of place s)) there
+    copied_move code old access place t at ty s b ∙ ap (λ (z : Option W.Object). new_from code t (first_spot s.operands).offset z (pool_of code access) (seen_in code access s) (drop 1 s.operands) (here_of place s)) there
 
 -- no collection takes the new object
-refused_with : (code : Code) (t : ℕ) (mode : Mode) (v : List ℕ) (ops : List Word) (h : Here) (c : Option Collection) → Refuses code t c mode → new_with code t v c ops h ≡ not_allocated code t c h
-refused_with code t mode v ops h None refuses = refl
-refused_with code t mode v ops h (Some c) refuses = rw (refuses.0) refl
+refused_with : (code : Code) (t : ℕ) (mode : Mode) (v : List ℕ) (pool : Option Var) (ops : List Word) (h : Here) (c : Option Collection) → Refuses code t c mode → new_with code t v pool c ops h ≡ not_allocated code t c h
+refused_with code t mode v pool ops h None refuses = refl
+refused_with code t mode v pool ops h (Some c) refuses = rw (refuses.0) refl
 
 pub copy_refused : (code : Code) (old new : Engine) (access place t at : ℕ) (ty : Ty) (mode : Mode) (o : W.Object) (s : State) → Before code old place (NewCopy access t ty at) s → object_at (first_spot s.operands).object s.world ≡ Some o
     → Refuses code t (seen_in code access s) mode → GoesOn old new mode old.cells.items → Makes code old new (by_instr code (Some (NewCopy access t ty at)) s.operands (here_of place s))
 copy_refused code old new access place t at ty mode o s b there refuses goes =
     subst (λ (m : T.Move). Makes code old new m)
-    (sym (source_there code old access place t at ty o s b there ∙ refused_with code t mode (cells_at (first_spot s.operands).offset (size_of code t) o) (drop 1 s.operands) (here_of place s) (seen_in code access s) refuses))
+    (sym (source_there code old access place t at ty o s b there ∙ refused_with code t mode (cells_at (first_spot s.operands).offset (size_of code t) o) (pool_of code access) (drop 1 s.operands) (here_of place s) (seen_in code access s) refuses))
     (refused_makes code old new t mode b.stack s.operands (here_of place s) b.inside (seen_in code access s) refuses goes)
 
--- it takes it
-takes_with : (code : Code) (place t set : ℕ) (o : W.Object) (s : State) (c : Option Collection) → Takes code t c set → new_with code t (cells_at (first_spot s.operands).offset (size_of code t) o) c (drop 1 s.operands) (here_of place s) ≡ member_copied code place set t o s
-takes_with code place t set o s c u =
-    ap (λ (z : Option Collection). new_with code t (cells_at (first_spot s.operands).offset (size_of code t) o) z (drop 1 s.operands) (here_of place s)) u.is
-    ∙ rw (u.takes) (ap (λ n. member_copied code place n t o s) u.number)
+-- it takes it, where there is storage
+takes_with : (code : Code) (access place t set : ℕ) (o : W.Object) (s : State) (c : Option Collection) → Takes code t c set
+    → new_with code t (cells_at (first_spot s.operands).offset (size_of code t) o) (pool_of code access) c (drop 1 s.operands) (here_of place s) ≡ member_copied code place set t o s (storage_seen code access t s)
+takes_with code access place t set o s c u =
+    ap (λ (z : Option Collection). new_with code t (cells_at (first_spot s.operands).offset (size_of code t) o) (pool_of code access) z (drop 1 s.operands) (here_of place s)) u.is
+    ∙ rw (u.takes) (ap (λ n. member_copied code place n t o s (storage_seen code access t s)) u.number)
 
 pub copy_takes : (code : Code) (old new : Engine) (access place set t at : ℕ) (ty : Ty) (o : W.Object) (s : State) → Before code old place (NewCopy access t ty at) s → object_at (first_spot s.operands).object s.world ≡ Some o
-    → Takes code t (seen_in code access s) set → Makes code old new (member_copied code place set t o s) → Makes code old new (by_instr code (Some (NewCopy access t ty at)) s.operands (here_of place s))
+    → Takes code t (seen_in code access s) set → Makes code old new (member_copied code place set t o s (storage_seen code access t s)) → Makes code old new (by_instr code (Some (NewCopy access t ty at)) s.operands (here_of place s))
 copy_takes code old new access place set t at ty o s b there u makes =
-    subst (λ (m : T.Move). Makes code old new m) (sym (source_there code old access place t at ty o s b there ∙ takes_with code place t set o s (seen_in code access s) u)) makes
+    subst (λ (m : T.Move). Makes code old new m) (sym (source_there code old access place t at ty o s b there ∙ takes_with code access place t set o s (seen_in code access s) u)) makes

@@ -13,6 +13,7 @@ use Rattle.ctl_code.specs.States.{Move}
 use Rattle.ctl_code.specs.Table.{adjust_new, controlled_of, gives, newborn, parts_of}
 use Rattle.ctl_code.specs.Valid.{Leads}
 use Rattle.ctl_machine.specs.declared.engine.Engine.{Engine}
+use Rattle.ctl_machine.specs.declared.frame.Declared.TheVariants as DeclaredOf
 use Rattle.ctl_machine.specs.declared.frame.Ended.TheVariants as EndedOf
 use Rattle.ctl_machine.specs.declared.frame.Frame.{Frame}
 use Rattle.ctl_machine.specs.declared.frame.Frame.TheVariants as FrameOf
@@ -67,7 +68,7 @@ plain_lives code old new type place owner x c plain turns =
 -- some part is: the frame of its declaration is to wait for it
 pub declared_awaits : (code : Code) (old : Engine) (type place first : ℕ) (x : Copied) → IsCopied code old type place x → first ≡ length old.noted.items → AwaitsCopy code old (FrameOf.Copying place first) T.ByDeclaration type x
 declared_awaits code old type place first x c begins = record {
-  holds = stage_begins (Copies first []) code (kept old) c.master c.others x.number type place x.point x.control x.world (noted_from code old x first begins c.holds, refl) c.holds c.masters c.object c.goes_on c.seen;
+  holds = stage_begins DeclaredOf.Object (Copies first []) code (kept old) c.master c.others x.number type place x.point x.control x.world (noted_from code old x first begins c.holds, refl) c.holds c.masters c.object c.goes_on c.seen;
   spots = c.spots;
   sized = (c.stack, subst (λ i. Leads code i c.stack) (sym c.goes_on) c.leads, c.sized);
 }

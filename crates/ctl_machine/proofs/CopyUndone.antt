@@ -11,6 +11,7 @@ use Rattle.ctl_code.specs.declared.code.Code.{Code}
 use Rattle.ctl_code.specs.States as T
 use Rattle.ctl_code.specs.States.{Giving, Handed, State, Word}
 use Rattle.ctl_code.specs.Table.{act, gives, parts_of, undo_part}
+use Rattle.ctl_machine.specs.declared.frame.Declared.TheVariants as DeclaredOf
 use Rattle.ctl_machine.specs.declared.engine.Engine.{Engine}
 use Rattle.ctl_machine.specs.declared.frame.Ended.TheVariants as EndedOf
 use Rattle.ctl_machine.specs.declared.frame.Frame.{Frame}
@@ -126,7 +127,7 @@ some_frame frames fs f top =
 
 -- a declared object
 pub declared_copy : (code : Code) (old : Engine) (place first : ℕ) (fs : List Frame) (s : State) (o : Owned) (t : ℕ) → BeforeResuming code old s → reverse old.control.items ≡ FrameOf.Copying place first ∷ fs → IsNewest old o → o.role ≡ RoleOf.Object t
-    → IsCopy code old (FrameOf.Creating place) o.number t first s
+    → IsCopy code old (FrameOf.Creating DeclaredOf.Object place) o.number t first s
 declared_copy code old place first fs s o t b top newest role =
     let x = copying code old place first fs s b top in
     let u = x.1 in
@@ -135,20 +136,20 @@ declared_copy code old place first fs s o t b top newest role =
     let number : u.number ≡ o.number = sym (ap (λ (z : Owned). z.number) same ∙ u.object.number) in
     let type : u.record_type ≡ t = ap type_of (sym (sym role ∙ (ap (λ (z : Owned). z.role) same ∙ u.object.role))) in
     let left = subst (λ (k : List T.Frame). AllLeaveSame code (FrameOf.Copying place first ∷ fs) k) u.is (subst (λ (l : List Frame). AllLeaveSame code l s.control) top b.holds.left) in
-    let waits : Wait (FrameOf.Creating place ∷ fs) (u.master ∷ u.others) hs old.owned.items (T.Creating T.ByDeclaration u.number u.record_type u.point ∷ u.waiting) = creating_waits u.object u.place_is u.seen u.waits in
-    let here : IsCopy code old (FrameOf.Creating place) u.number u.record_type first s = record {
+    let waits : Wait (FrameOf.Creating DeclaredOf.Object place ∷ fs) (u.master ∷ u.others) hs old.owned.items (T.Creating T.ByDeclaration u.number u.record_type u.point ∷ u.waiting) = creating_waits u.object u.place_is u.seen u.waits in
+    let here : IsCopy code old (FrameOf.Creating DeclaredOf.Object place) u.number u.record_type first s = record {
       by = T.ByDeclaration;
       paths = x.0;
       point = u.point;
       waiting = u.waiting;
       is = u.is;
       some = some_frame old.control.items fs (FrameOf.Copying place first) top;
-      waits = subst (λ (l : List Frame). Wait (FrameOf.Creating place ∷ drop 1 l) (reverse old.masters.items) hs old.owned.items (T.Creating T.ByDeclaration u.number u.record_type u.point ∷ u.waiting)) (sym top)
-          (subst (λ (l : List Master). Wait (FrameOf.Creating place ∷ fs) l hs old.owned.items (T.Creating T.ByDeclaration u.number u.record_type u.point ∷ u.waiting)) (sym u.masters) waits);
-      left = subst (λ (l : List Frame). AllLeaveSame code (FrameOf.Creating place ∷ drop 1 l) (T.Creating T.ByDeclaration u.number u.record_type u.point ∷ u.waiting)) (sym top) (tt, left.1);
+      waits = subst (λ (l : List Frame). Wait (FrameOf.Creating DeclaredOf.Object place ∷ drop 1 l) (reverse old.masters.items) hs old.owned.items (T.Creating T.ByDeclaration u.number u.record_type u.point ∷ u.waiting)) (sym top)
+          (subst (λ (l : List Master). Wait (FrameOf.Creating DeclaredOf.Object place ∷ fs) l hs old.owned.items (T.Creating T.ByDeclaration u.number u.record_type u.point ∷ u.waiting)) (sym u.masters) waits);
+      left = subst (λ (l : List Frame). AllLeaveSame code (FrameOf.Creating DeclaredOf.Object place ∷ drop 1 l) (T.Creating T.ByDeclaration u.number u.record_type u.point ∷ u.waiting)) (sym top) (tt, left.1);
       mark = left.0;
     } in
-    subst (λ n. IsCopy code old (FrameOf.Creating place) n t first s) number (subst (λ n. IsCopy code old (FrameOf.Creating place) u.number n first s) type here)
+    subst (λ n. IsCopy code old (FrameOf.Creating DeclaredOf.Object place) n t first s) number (subst (λ n. IsCopy code old (FrameOf.Creating DeclaredOf.Object place) u.number n first s) type here)
 
 some_owned : (os : List Owned) (o : Owned) → slice_get os (length os - 1) ≡ Some o → 0 < length os
 some_owned [] o found = absurd (cc)

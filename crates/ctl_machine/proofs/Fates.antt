@@ -9,7 +9,7 @@ use Rattle.ctl_tree.specs.declared.event.Cause.TheVariants as CauseOf
 use Rattle.ctl_meaning.specs.Activations.{master_of}
 use Rattle.ctl_meaning.specs.Allocation.{set_in}
 use Rattle.ctl_meaning.specs.Changes.{object_at, slot_at}
-use Rattle.ctl_meaning.specs.Objects.{is_finalizing, is_of_set, is_untouched, opened_objects}
+use Rattle.ctl_meaning.specs.Objects.{is_finalizing, is_of_set, is_untouched, object_in, opened_objects}
 use Rattle.ctl_meaning.specs.Outcome.{Fine}
 use Rattle.ctl_meaning.specs.World as W
 use Rattle.ctl_meaning.specs.World.{Object, World}
@@ -20,25 +20,28 @@ use Rattle.ctl_objects.specs.declared.existing.Origin.{Origin}
 use Rattle.ctl_objects.specs.declared.existing.Origin.TheVariants as OriginOf
 use Rattle.ctl_objects.specs.Existing.{IsKnown, bare, known, origin_of}
 use Rattle.ctl_objects.specs.Order as Order
+use Rattle.ctl_storage.specs.declared.existing.Place.{Place}
+use Rattle.ctl_storage.specs.declared.existing.Place.TheVariants as PlaceOf
+use Rattle.ctl_storage.specs.Allocated.{place_of}
 use Rattle.ctl_storage.specs.Stages.{state_of}
+use Rattle.ctl_code.specs.declared.code.AccessHome.{AccessHome}
 use Rattle.ctl_code.specs.declared.code.Code.{Code}
 use Rattle.ctl_code.specs.declared.code.Parts.{Parts}
 use Rattle.ctl_code.specs.declared.code.Parts.TheVariants as PartsOf
 use Rattle.ctl_code.specs.States as T
 use Rattle.ctl_code.specs.States.{State, Word}
-use Rattle.ctl_code.specs.Table.{behind_declaration, finalize_freed, finalize_object, free_member, free_object, gives, has_part, parts_of, stopped}
+use Rattle.ctl_code.specs.Table.{behind_declaration, finalize_freed, finalize_object, free_member, free_object, gives, has_part, parts_of, stopped, storage_of}
 use Rattle.ctl_machine.specs.declared.engine.Engine.{Engine}
 use Rattle.ctl_machine.specs.declared.frame.Owned.{Owned}
 use Rattle.ctl_machine.specs.declared.freeing.Fate.TheVariants as FateOf
 use Rattle.ctl_machine.specs.Allocating.{OwnsNone}
-use Rattle.ctl_machine.specs.Freeing.{IsFate, MayBe, by_fate, fate_by_life, fate_by_origin, fate_of, fate_of_member, if_unfinished}
+use Rattle.ctl_machine.specs.Freeing.{IsFate, MayBe, by_fate, fate_by_life, fate_by_origin, fate_of, fate_of_member, if_unfinished, storage_at}
 use Rattle.ctl_machine.specs.Masters.{first_display, heads_of}
 use Rattle.ctl_machine.specs.Moves.{here_of}
 use Rattle.ctl_machine.specs.Shows.{Holds, kept}
 use Rattle.ctl_machine.proofs.Foreign.{allocated_foreign}
 use Rattle.ctl_machine.proofs.MayJoin.{known_there, none_known}
 use Rattle.ctl_machine.proofs.Owned.{object_shown}
-use Rattle.ctl_storage.specs.declared.existing.Place.{Place}
 
 -- The table's move -------------------------------------------------------------------------------------
 
@@ -86,19 +89,22 @@ member_moves code n x cells f k w = by x.stage.life (unfinished_moves code n x c
     by LifeOf.Finalized e = e
 
 -- and from whichever collection
-freed_moves : (code : Code) (set n : ℕ) (x : Existing) (cells : List ℕ) (nulled : T.Nulled) (p : T.Point) (k : List T.Frame) (w : World) → free_member code nulled set (known_object n x cells) p k w ≡ by_fate code (fate_of code set x) n (T.Freeing nulled n p) k w
+freed_moves : (code : Code) (set n : ℕ) (x : Existing) (cells : List ℕ) (nulled : T.Nulled) (p : T.Point) (k : List T.Frame) (w : World) → free_member code nulled set (known_object n x cells) p k w ≡ by_fate code (fate_of code set x) n (T.Freeing nulled n (storage_of (origin_of x.origin)) p) k w
 unfolding opened_objects
-freed_moves code set n x cells nulled p k w = by x.origin (member_moves code n x cells (T.Freeing nulled n p) k w)
+freed_moves code set n x cells nulled p k w = by x.origin (member_moves code n x cells f k w)
   where
-    by_set : (b : Bool) → (if is_finalizing (state_of x.stage.life) then stopped StopOf.FreeWhileFinalizing k w else finalize_freed code (known_object n x cells) (T.Freeing nulled n p ∷ k) w) ≡ by_fate code (fate_of_member code x) n (T.Freeing nulled n p) k w
-        → (if not b then stopped StopOf.ForeignFree k w else if is_finalizing (state_of x.stage.life) then stopped StopOf.FreeWhileFinalizing k w else finalize_freed code (known_object n x cells) (T.Freeing nulled n p ∷ k) w)
-        ≡ by_fate code (if b then fate_of_member code x else FateOf.Stops StopOf.ForeignFree) n (T.Freeing nulled n p) k w
+    f : T.Frame
+    f = T.Freeing nulled n (storage_of (origin_of x.origin)) p
+
+    by_set : (b : Bool) → (if is_finalizing (state_of x.stage.life) then stopped StopOf.FreeWhileFinalizing k w else finalize_freed code (known_object n x cells) (f ∷ k) w) ≡ by_fate code (fate_of_member code x) n f k w
+        → (if not b then stopped StopOf.ForeignFree k w else if is_finalizing (state_of x.stage.life) then stopped StopOf.FreeWhileFinalizing k w else finalize_freed code (known_object n x cells) (f ∷ k) w)
+        ≡ by_fate code (if b then fate_of_member code x else FateOf.Stops StopOf.ForeignFree) n f k w
     by_set true e = e
     by_set false e = refl
 
-    by : (z : Origin) → (if is_finalizing (state_of x.stage.life) then stopped StopOf.FreeWhileFinalizing k w else finalize_freed code (known_object n x cells) (T.Freeing nulled n p ∷ k) w) ≡ by_fate code (fate_of_member code x) n (T.Freeing nulled n p) k w
-        → (if not (is_of_set set (origin_of z)) then stopped StopOf.ForeignFree k w else if is_finalizing (state_of x.stage.life) then stopped StopOf.FreeWhileFinalizing k w else finalize_freed code (known_object n x cells) (T.Freeing nulled n p ∷ k) w)
-        ≡ by_fate code (fate_by_origin code set z x) n (T.Freeing nulled n p) k w
+    by : (z : Origin) → (if is_finalizing (state_of x.stage.life) then stopped StopOf.FreeWhileFinalizing k w else finalize_freed code (known_object n x cells) (f ∷ k) w) ≡ by_fate code (fate_of_member code x) n f k w
+        → (if not (is_of_set set (origin_of z)) then stopped StopOf.ForeignFree k w else if is_finalizing (state_of x.stage.life) then stopped StopOf.FreeWhileFinalizing k w else finalize_freed code (known_object n x cells) (f ∷ k) w)
+        ≡ by_fate code (fate_by_origin code set z x) n f k w
     by (OriginOf.Declared m) e = refl
     by (OriginOf.Allocated c place) e = by_set (nat_eq c set) e
 
@@ -148,36 +154,68 @@ freed_may code set n x owned none = by x.origin refl
 
 -- Both -------------------------------------------------------------------------------------------------
 
-found_moves : (code : Code) (nulled : T.Nulled) (v : Var) (ops : List Word) (place : ℕ) (s : State) (y : Option Object) (o : Object) → y ≡ Some o
-    → free_object code nulled (Some v) y ops (here_of place s) ≡ free_member code nulled (set_in (slot_at (master_of (first_display (heads_of s.world.activations)) v) v.slot s.world).content) o (behind_declaration ops (here_of place s)) s.control s.world
-found_moves code nulled v ops place s y o is = rw is refl
+found_moves : (code : Code) (nulled : T.Nulled) (a : AccessHome) (ops : List Word) (place : ℕ) (s : State) (y : Option Object) (o : Object) → y ≡ Some o
+    → free_object code nulled (Some a) y ops (here_of place s)
+    ≡ free_member code nulled (set_in (slot_at (master_of (first_display (heads_of s.world.activations)) a.collection) a.collection.slot s.world).content) o (behind_declaration ops (here_of place s)) s.control s.world
+found_moves code nulled a ops place s y o is = rw is refl
+
+-- what the stock has of it
+record IsFound (e : Engine) (n : ℕ) (x : Existing) (s : State) : Type 0 where
+  pub object : Object
+  pub known : object_in n e.stock.objects ≡ Some object
+  pub found : object_at n s.world ≡ Some object
+  pub origin : object.origin ≡ origin_of x.origin
+  pub same : object ≡ known_object n x object.cells
+
+found_so : (code : Code) (e : Engine) (n : ℕ) (x : Existing) (s : State) → Holds code (kept e) s.control s.operands s.world → IsKnown n (Some x) e.stock.objects → IsFound e n x s
+found_so code e n x s h knows =
+    let there = known_there n x e.stock.objects knows in
+    let o = there.0 in
+    record {
+      object = o;
+      known = there.1;
+      found = object_shown code (kept e) s.control s.operands s.world n h ∙ there.1;
+      origin = ap (λ (z : Object). z.origin) there.2;
+      same = is_known_object n x o there.2;
+    }
+
+-- where its storage lies
+pub storage_known : (code : Code) (e : Engine) (n : ℕ) (x : Existing) (s : State) → Holds code (kept e) s.control s.operands s.world → IsKnown n (Some x) e.stock.objects → storage_at (object_at n s.world) ≡ storage_of (origin_of x.origin)
+storage_known code e n x s h knows =
+    let f = found_so code e n x s h knows in
+    ap storage_at f.found ∙ ap storage_of f.origin
 
 -- it is there
 pub fate_known : (code : Code) (e : Engine) (v : Var) (n set : ℕ) (x : Existing) (s : State) → Holds code (kept e) s.control s.operands s.world → IsKnown n (Some x) e.stock.objects
     → set ≡ set_in (slot_at (master_of (first_display (heads_of s.world.activations)) v) v.slot s.world).content → IsFate code v n e.owned.items s (fate_of code set x)
 fate_known code e v n set x s h knows is =
-    let there = known_there n x e.stock.objects knows in
-    let o = there.0 in
-    let found : object_at n s.world ≡ Some o = object_shown code (kept e) s.control s.operands s.world n h ∙ there.1 in
-    let same = is_known_object n x o there.2 in
-    let origin : o.origin ≡ origin_of x.origin = ap (λ (z : Object). z.origin) there.2 in
+    let f = found_so code e n x s h knows in
+    let o = f.object in
+    let w = s.world in
+    let k = s.control in
     record {
       may = freed_may code set n x e.owned.items (λ c place from.
-          allocated_foreign n (e.numbered.objects + 1) e.stock.objects e.owned.items o h.owns there.1 (subst (λ (z : W.Origin). Order.IsAllocated z) (sym (origin ∙ ap origin_of from)) tt));
-      moves = λ place nulled ops.
+          allocated_foreign n (e.numbered.objects + 1) e.stock.objects e.owned.items o h.owns f.known (subst (λ (z : W.Origin). Order.IsAllocated z) (sym (f.origin ∙ ap origin_of from)) tt));
+      moves = λ place nulled pool ops.
           let p = behind_declaration ops (here_of place s) in
-          found_moves code nulled v ops place s (object_at n s.world) o found
-          ∙ (ap (λ m. free_member code nulled m o p s.control s.world) (sym is)
-          ∙ (ap (λ (z : Object). free_member code nulled set z p s.control s.world) same
-          ∙ freed_moves code set n x o.cells nulled p s.control s.world));
+          found_moves code nulled (record { collection = v; pool = pool }) ops place s (object_at n w) o f.found
+          ∙ (ap (λ m. free_member code nulled m o p k w) (sym is)
+          ∙ (ap (λ (z : Object). free_member code nulled set z p k w) f.same
+          ∙ (freed_moves code set n x o.cells nulled p k w ∙ ap (λ (z : W.Place). by_fate code (fate_of code set x) n (T.Freeing nulled n z p) k w) (sym (storage_known code e n x s h knows)))));
     }
 
-none_moves : (code : Code) (nulled : T.Nulled) (v : Var) (ops : List Word) (place : ℕ) (s : State) (y : Option Object) → y ≡ None → free_object code nulled (Some v) y ops (here_of place s) ≡ stopped StopOf.UseAfterFree s.control s.world
-none_moves code nulled v ops place s y is = rw is refl
+none_moves : (code : Code) (nulled : T.Nulled) (a : AccessHome) (ops : List Word) (place : ℕ) (s : State) (y : Option Object) → y ≡ None → free_object code nulled (Some a) y ops (here_of place s) ≡ stopped StopOf.UseAfterFree s.control s.world
+none_moves code nulled a ops place s y is = rw is refl
 
 -- it is gone
+none_found : (code : Code) (e : Engine) (n : ℕ) (s : State) → Holds code (kept e) s.control s.operands s.world → IsKnown n None e.stock.objects → object_at n s.world ≡ None
+none_found code e n s h knows = object_shown code (kept e) s.control s.operands s.world n h ∙ none_known n e.stock.objects knows
+
+pub storage_unknown : (code : Code) (e : Engine) (n : ℕ) (s : State) → Holds code (kept e) s.control s.operands s.world → IsKnown n None e.stock.objects → storage_at (object_at n s.world) ≡ place_of PlaceOf.Standard
+storage_unknown code e n s h knows = ap storage_at (none_found code e n s h knows)
+
 pub fate_unknown : (code : Code) (e : Engine) (v : Var) (n : ℕ) (s : State) → Holds code (kept e) s.control s.operands s.world → IsKnown n None e.stock.objects → IsFate code v n e.owned.items s (FateOf.Stops StopOf.UseAfterFree)
 fate_unknown code e v n s h knows = record {
   may = tt;
-  moves = λ place nulled ops. none_moves code nulled v ops place s (object_at n s.world) (object_shown code (kept e) s.control s.operands s.world n h ∙ none_known n e.stock.objects knows);
+  moves = λ place nulled pool ops. none_moves code nulled (record { collection = v; pool = pool }) ops place s (object_at n s.world) (none_found code e n s h knows);
 }

@@ -7,11 +7,12 @@ use Rattle.ctl_meaning.specs.World.{Origin, Declared, Allocated, Object}
 use Rattle.ctl_meaning.specs.Lists.{keep, opened_lists}
 use Rattle.ctl_meaning.specs.Objects.{object_in, opened_objects}
 use Rattle.ctl_objects.specs.Order as Order
-use Rattle.ctl_storage.proofs.Conditions.{all_kept}
+use Rattle.ctl_storage.proofs.Conditions.{all_kept, all_weaker}
 use Rattle.ctl_storage.proofs.Rising.{rise_keep}
 use Rattle.ctl_machine.specs.declared.frame.Owned.{Owned}
 use Rattle.ctl_machine.specs.Allocating.{HaveNot, OwnsNone}
 use Rattle.ctl_machine.specs.Owned.{AreOwned, Identity, objects_owned, identity_of, identity_owned, is_declared}
+use Rattle.ctl_machine.proofs.Lists.{eq_differs}
 use Rattle.ctl_machine.proofs.Owned.{found_among, found_below}
 
 eq_true : (a b : ℕ) → nat_eq a b ≡ true → a ≡ b
@@ -63,29 +64,35 @@ foreign_allocated n next objects owned h none = by (object_in n objects) refl
     by None is = tt
     by (Some o) is = allocated_so n objects o (others_all n objects (objects_owned owned) h.declared none) is
 
+-- those that are declared stay
+declared_stay : (stays : Object → Bool) (objects : List Object) → AllByRecursion (λ o. is_declared o.origin ≡ true → stays o ≡ true) objects → declared_of (keep stays objects) ≡ declared_of objects
+unfolding opened_lists
+declared_stay stays [] all = refl
+declared_stay stays (x ∷ xs) all = by (stays x) (is_declared x.origin) refl refl (declared_stay stays xs all.1)
+  where
+    by : (b d : Bool) → stays x ≡ b → is_declared x.origin ≡ d → declared_of (keep stays xs) ≡ declared_of xs → declared_of (cond b (x ∷ keep stays xs) (keep stays xs)) ≡ cond d (x ∷ declared_of xs) (declared_of xs)
+    by true d goes is rest = ap (λ c. cond c (x ∷ declared_of (keep stays xs)) (declared_of (keep stays xs))) is ∙ ap (λ (l : List Object). cond d (x ∷ l) l) rest
+    by false false goes is rest = rest
+    by false true goes is rest = let never : true ≡ false = sym (all.0 is) ∙ goes in absurd (cc)
+
 -- all objects but that of a number
 abbrev pub forgotten : ℕ → List Object → List Object
 forgotten n os = keep (λ o. not (nat_eq o.number n)) os
 
--- those that are declared stay
-declared_stay : (n : ℕ) (objects : List Object) → AllByRecursion (IsOther n) objects → declared_of (forgotten n objects) ≡ declared_of objects
-unfolding opened_lists
-declared_stay n [] others = refl
-declared_stay n (x ∷ xs) others = by (nat_eq x.number n) (is_declared x.origin) refl refl (declared_stay n xs others.1)
-  where
-    by : (b d : Bool) → nat_eq x.number n ≡ b → is_declared x.origin ≡ d → declared_of (forgotten n xs) ≡ declared_of xs → declared_of (cond (not b) (x ∷ forgotten n xs) (forgotten n xs)) ≡ cond d (x ∷ declared_of xs) (declared_of xs)
-    by true true same is rest = absurd (others.0 is (eq_true x.number n same))
-    by true false same is rest = rest
-    by false true same is rest = ap (λ c. cond c (x ∷ declared_of (forgotten n xs)) (declared_of (forgotten n xs))) is ∙ ap (λ (l : List Object). x ∷ l) rest
-    by false false same is rest = ap (λ c. cond c (x ∷ declared_of (forgotten n xs)) (declared_of (forgotten n xs))) is ∙ rest
-
-pub owns_without : (n next : ℕ) (objects : List Object) (owned : List Owned) → OwnsNone n owned → AreOwned owned next objects → AreOwned owned next (forgotten n objects)
-owns_without n next objects owned none h = record {
-  declared = ap (λ (l : List Object). map identity_of l) (declared_stay n objects (others_all n objects (objects_owned owned) h.declared none)) ∙ h.declared;
-  numbers = all_kept (λ o. o.number < next) (λ o. not (nat_eq o.number n)) objects h.numbers;
-  apart = rise_keep (λ o. not (nat_eq o.number n)) 1 objects h.apart;
+-- objects go, and none of them was declared
+pub owns_kept : (stays : Object → Bool) (next : ℕ) (objects : List Object) (owned : List Owned) → AllByRecursion (λ o. is_declared o.origin ≡ true → stays o ≡ true) objects → AreOwned owned next objects → AreOwned owned next (keep stays objects)
+owns_kept stays next objects owned none h = record {
+  declared = ap (λ (l : List Object). map identity_of l) (declared_stay stays objects none) ∙ h.declared;
+  numbers = all_kept (λ o. o.number < next) stays objects h.numbers;
+  apart = rise_keep stays 1 objects h.apart;
   some = h.some;
 }
+
+-- the object of a number that is none of the owned ones
+pub owns_without : (n next : ℕ) (objects : List Object) (owned : List Owned) → OwnsNone n owned → AreOwned owned next objects → AreOwned owned next (forgotten n objects)
+owns_without n next objects owned none h =
+    owns_kept (λ o. not (nat_eq o.number n)) next objects owned
+    (all_weaker (IsOther n) (λ o. is_declared o.origin ≡ true → not (nat_eq o.number n) ≡ true) (λ o other d. ap not (eq_differs o.number n (other d))) objects (others_all n objects (objects_owned owned) h.declared none)) h
 
 -- The next number ------------------------------------------------------------------------------------
 

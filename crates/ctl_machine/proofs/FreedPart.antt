@@ -1,15 +1,18 @@
 -- An object is freed by a component, which becomes null.
 use Rattle.std.proofs.Common.{◌≡◌, ℕ, zero, suc, ◌+◌, List, [], ◌∷◌, ◌++◌, Option, Some, None, Bool, drop, refl, sym, ap, ◌∙◌, subst, reverse}
 use Rattle.std.specs.Prelude.{slice_get}
-use Rattle.ctl_program.specs.declared.types.Var.{Var}
+use Rattle.ctl_tree.specs.declared.ending.Stop.{Stop}
 use Rattle.ctl_tree.specs.declared.ending.Stop.TheVariants.{UseAfterFree}
 use Rattle.ctl_meaning.specs.Changes.{object_at, opened_changes, write_cells}
 use Rattle.ctl_meaning.specs.Finalization.{Spot}
-use Rattle.ctl_meaning.specs.Objects.{cells_at, change_in, object_in}
+use Rattle.ctl_meaning.specs.Objects.{change_in, object_in}
 use Rattle.ctl_meaning.specs.Objects as O
 use Rattle.ctl_meaning.specs.World as W
 use Rattle.ctl_meaning.specs.World.{World}
+use Rattle.ctl_storage.specs.declared.existing.Place.{Place}
+use Rattle.ctl_storage.specs.Allocated.{place_of}
 use Rattle.ctl_code.specs.declared.kinds.Kind.{Kind}
+use Rattle.ctl_code.specs.declared.code.AccessHome.{AccessHome}
 use Rattle.ctl_code.specs.declared.code.Code.{Code}
 use Rattle.ctl_code.specs.declared.code.Instr.TheVariants.{Free, FreePart}
 use Rattle.ctl_code.specs.States as T
@@ -23,7 +26,7 @@ use Rattle.ctl_machine.specs.declared.frame.Mode.TheVariants as ModeOf
 use Rattle.ctl_machine.specs.declared.frame.Nulled.{Nulled}
 use Rattle.ctl_machine.specs.declared.frame.Nulled.TheVariants as NulledOf
 use Rattle.ctl_machine.specs.Finishing.{DropsFrame, with_objects}
-use Rattle.ctl_machine.specs.Freeing.{Freed, Frees, mode_freed}
+use Rattle.ctl_machine.specs.Freeing.{Freed, Frees, mode_given_back}
 use Rattle.ctl_machine.specs.Masters.{first_display, heads_of}
 use Rattle.ctl_machine.specs.Moves.{Before, BeforeResuming, GoesOn, Inside, Makes, here_of}
 use Rattle.ctl_machine.specs.Parts.{part_in}
@@ -31,28 +34,27 @@ use Rattle.ctl_machine.specs.Shows.{Holds, Kept, kept, nulled_of, tried_of, with
 use Rattle.ctl_machine.specs.Spots.{first_spot, spots_in, standing}
 use Rattle.ctl_machine.proofs.Assignments.{stops_makes}
 use Rattle.ctl_machine.proofs.Bodies.{more_cells}
-use Rattle.ctl_machine.proofs.Freed.{IsFreeingIn, behind_frame, freed_makes, stands_behind}
+use Rattle.ctl_machine.proofs.Freed.{GoesBack, IsFreeingIn, behind_frame, freed_makes, stands_behind}
 use Rattle.ctl_machine.proofs.Located.{goes_keeping, part_on_top, read_is}
 use Rattle.ctl_machine.proofs.Operands.{other_spots}
 use Rattle.ctl_machine.proofs.Owned.{cells_keep, holds_changed, object_shown}
 use Rattle.ctl_machine.proofs.Plain.{goes_makes}
 use Rattle.ctl_machine.proofs.Touched.{gone_makes}
 use Rattle.ctl_machine.proofs.Words.{same_front}
-use Rattle.ctl_objects.specs.Pools.{KeepsShown}
-use Rattle.ctl_machine.proofs.Stocked.{with_forgotten}
+use Rattle.ctl_machine.proofs.Stocked.{with_stock}
 
 -- The frame goes ---------------------------------------------------------------------------------------
 
 -- the component that becomes null stands above the operands
-pub record IsNulled (e : Engine) (object : ℕ) (p : T.Point) (k : List T.Frame) (s : State) : Type 0 where
+pub record IsNulled (e : Engine) (object : ℕ) (storage : Place) (p : T.Point) (k : List T.Frame) (s : State) : Type 0 where
   pub part : Spot
-  pub is : s.control ≡ T.Freeing (T.NullPart part) object p ∷ k
+  pub is : s.control ≡ T.Freeing (T.NullPart part) object (place_of storage) p ∷ k
   pub spots : e.spots.items ≡ standing k p.operands ++ part ∷ []
 
-pub nulled_part : (code : Code) (e : Engine) (object place : ℕ) (fs : List Frame) (s : State) → BeforeResuming code e s → (u : IsFreeingIn e object NulledOf.Part place fs s) → IsNulled e object u.point u.waiting s
-nulled_part code e object place fs s b u = by u.nulled_too u.is u.nulled_is
+pub nulled_part : (code : Code) (e : Engine) (object : ℕ) (storage : Place) (place : ℕ) (fs : List Frame) (s : State) → BeforeResuming code e s → (u : IsFreeingIn e object NulledOf.Part storage place fs s) → IsNulled e object storage u.point u.waiting s
+nulled_part code e object storage place fs s b u = by u.nulled_too u.is u.nulled_is
   where
-    by : (x : T.Nulled) → s.control ≡ T.Freeing x object u.point ∷ u.waiting → NulledOf.Part ≡ nulled_of x → IsNulled e object u.point u.waiting s
+    by : (x : T.Nulled) → s.control ≡ T.Freeing x object (place_of storage) u.point ∷ u.waiting → NulledOf.Part ≡ nulled_of x → IsNulled e object storage u.point u.waiting s
     by (T.NullVariable out slot) is same = absurd (cc)
     by (T.NullPart part) is same = record { part = part; is = is; spots = b.spots ∙ ap (λ (k : List T.Frame). spots_in k) is }
 
@@ -70,23 +72,23 @@ dropped_so old new f fs parts part dropped d top spots =
       same = front.1;
     }
 
-gone_so : (part : Spot) (object : ℕ) (failed : Bool) (y : Option W.Object) (p : T.Point) (k : List T.Frame) (w : World) → y ≡ None → freed_part part object failed y p k w ≡ freed_part part object failed None p k w
-gone_so part object failed y p k w is = ap (λ z. freed_part part object failed z p k w) is
+gone_so : (part : Spot) (object : ℕ) (lies : W.Place) (failed : Bool) (y : Option W.Object) (p : T.Point) (k : List T.Frame) (w : World) → y ≡ None → freed_part part object lies failed y p k w ≡ freed_part part object lies failed None p k w
+gone_so part object lies failed y p k w is = ap (λ z. freed_part part object lies failed z p k w) is
 
 -- the object of the component is gone
-pub part_stops : (code : Code) (old new : Engine) (ended : Ended) (object place : ℕ) (fs : List Frame) (s : State) → BeforeResuming code old s → reverse old.control.items ≡ FrameOf.Freeing object NulledOf.Part place ∷ fs
-    → (u : IsFreeingIn old object NulledOf.Part place fs s) → (x : IsNulled old object u.point u.waiting s) → object_in x.part.object old.stock.objects ≡ None
+pub part_stops : (code : Code) (old new : Engine) (ended : Ended) (object : ℕ) (storage : Place) (place : ℕ) (fs : List Frame) (s : State) → BeforeResuming code old s → reverse old.control.items ≡ FrameOf.Freeing object NulledOf.Part storage place ∷ fs
+    → (u : IsFreeingIn old object NulledOf.Part storage place fs s) → (x : IsNulled old object storage u.point u.waiting s) → object_in x.part.object old.stock.objects ≡ None
     → new.mode ≡ ModeOf.Stopped UseAfterFree → kept new ≡ behind_frame fs (standing u.waiting u.point.operands) (kept old) → new.events.items ≡ old.events.items → new.picks.items ≡ old.picks.items
     → Makes code old new (act code (Giving (tried_of ended)) s.control s.operands s.world 0)
-part_stops code old new ended object place fs s b top u x none mode are events picks =
-    let v = stands_behind code old object NulledOf.Part place fs s b top u in
+part_stops code old new ended object storage place fs s b top u x none mode are events picks =
+    let v = stands_behind code old object NulledOf.Part storage place fs s b top u in
     let k = u.waiting in
     let p = u.point in
     let failed = says_failed (tried_of ended) in
     let missing = object_shown code (kept old) s.control s.operands s.world x.part.object b.holds ∙ none in
     let made = stops_makes code old new k p.operands s.world mode (subst (λ (e : Kept). Holds code e k p.operands s.world) (sym are) v.inside.holds) events picks in
     subst (λ (l : List T.Frame). Makes code old new (act code (Giving (tried_of ended)) l s.operands s.world 0)) (sym x.is)
-    (subst (λ (m : Move). Makes code old new m) (sym (gone_so x.part object failed (object_at x.part.object s.world) p k s.world missing)) made)
+    (subst (λ (m : Move). Makes code old new m) (sym (gone_so x.part object (place_of storage) failed (object_at x.part.object s.world) p k s.world missing)) made)
 
 -- with null in a component
 abbrev pub with_null : Spot → Kept → Kept
@@ -112,15 +114,20 @@ same_display : (part : Spot) (w : World) (P : List W.Activation → Type 0) → 
 unfolding opened_changes
 same_display part w P x = x
 
-there_so : (part : Spot) (object : ℕ) (failed : Bool) (y : Option W.Object) (o : W.Object) (p : T.Point) (k : List T.Frame) (w : World) → y ≡ Some o → freed_part part object failed y p k w ≡ freed_part part object failed (Some o) p k w
-there_so part object failed y o p k w is = ap (λ z. freed_part part object failed z p k w) is
+there_so : (part : Spot) (object : ℕ) (lies : W.Place) (failed : Bool) (y : Option W.Object) (o : W.Object) (p : T.Point) (k : List T.Frame) (w : World) → y ≡ Some o → freed_part part object lies failed y p k w ≡ freed_part part object lies failed (Some o) p k w
+there_so part object lies failed y o p k w is = ap (λ z. freed_part part object lies failed z p k w) is
 
-pub part_ends : (code : Code) (old new : Engine) (ended : Ended) (object place : ℕ) (fs : List Frame) (s : State) (o : W.Object) → BeforeResuming code old s → reverse old.control.items ≡ FrameOf.Freeing object NulledOf.Part place ∷ fs
-    → (u : IsFreeingIn old object NulledOf.Part place fs s) → (x : IsNulled old object u.point u.waiting s) → object_in x.part.object old.stock.objects ≡ Some o
-    → new.mode ≡ mode_freed ended place → (let e = with_null x.part (behind_frame fs (standing u.waiting u.point.operands) (kept old)) in (kept new ≡ with_forgotten object new.stock.blocks e) × KeepsShown (stock_of e) new.stock) → new.events.items ≡ old.events.items → new.picks.items ≡ old.picks.items
-    → Makes code old new (act code (Giving (tried_of ended)) s.control s.operands s.world 0)
-part_ends code old new ended object place fs s o b top u x found mode are events picks =
-    let v = stands_behind code old object NulledOf.Part place fs s b top u in
+-- with null in it, and the object gone, whose storage was given back
+pub record PartEnds (old new : Engine) (object : ℕ) (storage : Place) (answer : Option Stop) (part : Spot) (fs : List Frame) (parts : List Spot) : Type 0 where
+  pub is : (let e = with_null part (behind_frame fs parts (kept old)) in kept new ≡ with_stock new.stock e)
+  pub back : (let e = with_null part (behind_frame fs parts (kept old)) in GoesBack (stock_of e) object storage new.stock answer)
+
+pub part_ends : (code : Code) (old new : Engine) (ended : Ended) (object : ℕ) (storage : Place) (place : ℕ) (answer : Option Stop) (fs : List Frame) (s : State) (o : W.Object) → BeforeResuming code old s
+    → reverse old.control.items ≡ FrameOf.Freeing object NulledOf.Part storage place ∷ fs → (u : IsFreeingIn old object NulledOf.Part storage place fs s) → (x : IsNulled old object storage u.point u.waiting s)
+    → object_in x.part.object old.stock.objects ≡ Some o → new.mode ≡ mode_given_back answer ended place → PartEnds old new object storage answer x.part fs (standing u.waiting u.point.operands)
+    → new.events.items ≡ old.events.items → new.picks.items ≡ old.picks.items → Makes code old new (act code (Giving (tried_of ended)) s.control s.operands s.world 0)
+part_ends code old new ended object storage place answer fs s o b top u x found mode are events picks =
+    let v = stands_behind code old object NulledOf.Part storage place fs s b top u in
     let k = u.waiting in
     let p = u.point in
     let failed = says_failed (tried_of ended) in
@@ -129,9 +136,9 @@ part_ends code old new ended object place fs s o b top u x found mode are events
     let w = write_cells x.part.object x.part.offset (0 ∷ []) s.world in
     let i = null_inside code (behind_frame fs (standing k p.operands) (kept old)) v.stack k p.operands s.world x.part v.inside in
     let seen : p.display ≡ first_display (heads_of w.activations) = same_display x.part s.world (λ acts. p.display ≡ first_display (heads_of acts)) u.seen in
-    let made = freed_makes code old new e ended object place v.stack p k w v.leads i u.foreign u.place_is seen mode are.0 are.1 events picks in
+    let made = freed_makes code old new e ended object storage place answer v.stack p k w v.leads i u.foreign u.place_is seen mode are.is are.back events picks in
     subst (λ (l : List T.Frame). Makes code old new (act code (Giving (tried_of ended)) l s.operands s.world 0)) (sym x.is)
-    (subst (λ (m : Move). Makes code old new m) (sym (there_so x.part object failed (object_at x.part.object s.world) o p k s.world there)) made)
+    (subst (λ (m : Move). Makes code old new m) (sym (there_so x.part object (place_of storage) failed (object_at x.part.object s.world) o p k s.world there)) made)
 
 -- By an instruction ------------------------------------------------------------------------------------
 
@@ -200,10 +207,10 @@ component_frees code old new access place t position part s b is =
     }
 
 -- null designates no object
-by_none : (code : Code) (nulled : T.Nulled) (v : Option Var) (n : ℕ) (ops : List Word) (h : Here) → n ≡ 0 → by_free code nulled v n ops h ≡ on ops h.world h
+by_none : (code : Code) (nulled : T.Nulled) (v : Option AccessHome) (n : ℕ) (ops : List Word) (h : Here) → n ≡ 0 → by_free code nulled v n ops h ≡ on ops h.world h
 by_none code nulled v n ops h is = ap (λ m. by_free code nulled v m ops h) is
 
-by_some : (code : Code) (nulled : T.Nulled) (v : Option Var) (n : ℕ) (ops : List Word) (h : Here) → (n ≡ 0 → ⊥) → by_free code nulled v n ops h ≡ free_object code nulled v (object_at n h.world) ops h
+by_some : (code : Code) (nulled : T.Nulled) (v : Option AccessHome) (n : ℕ) (ops : List Word) (h : Here) → (n ≡ 0 → ⊥) → by_free code nulled v n ops h ≡ free_object code nulled v (object_at n h.world) ops h
 by_some code nulled v zero ops h some = absurd (some refl)
 by_some code nulled v (suc n) ops h some = refl
 
@@ -220,11 +227,11 @@ variable_some code old new access out slot place n s read some made =
     (subst (λ (m : Move). Makes code old new m) (sym (by_some code (T.NullVariable out slot) (slice_get code.accesses.items access) n s.operands (here_of place s) some)) made)
 
 -- the table's move, once the component is read
-abbrev part_read : Code → Spot → Option Var → Option ℕ → List Word → Here → Move
+abbrev part_read : Code → Spot → Option AccessHome → Option ℕ → List Word → Here → Move
 part_read code part v None ops h = gone h.control h.world
 part_read code part v (Some n) ops h = by_free code (T.NullPart part) v n ops h
 
-read_part : (code : Code) (part : Spot) (v : Option Var) (y : Option W.Object) (ops : List Word) (h : Here) → by_free_part code part v y ops h ≡ part_read code part v (part_in part.offset y) ops h
+read_part : (code : Code) (part : Spot) (v : Option AccessHome) (y : Option W.Object) (ops : List Word) (h : Here) → by_free_part code part v y ops h ≡ part_read code part v (part_in part.offset y) ops h
 read_part code part v None ops h = refl
 read_part code part v (Some o) ops h = refl
 

@@ -72,6 +72,7 @@ pub mod Stages
 pub mod AfterInitialize
 pub mod Reached
 pub mod Objects
+pub mod Granted
 pub mod NewMember
 pub mod NewSet
 pub mod SetSeen
@@ -121,8 +122,11 @@ pub mod NextUndone
 pub mod Undone
 pub mod WholeFinalized
 pub mod Fates
+pub mod GivenBack
 pub mod Freed
 pub mod FreedPart
 pub mod CopyAllocated
 pub mod Stocked
 pub mod PoolsDropped
+pub mod PoolsClosed
+pub mod PoolDeclared

@@ -1,51 +1,94 @@
 -- An object is allocated for a collection.
-use Rattle.std.proofs.Common.{◌≡◌, ℕ, ◌+◌, List, [], ◌∷◌, ◌++◌, Option, Some, None, refl, sym, ap, ◌∙◌, subst, replicate}
+use Rattle.std.proofs.Common.{◌≡◌, ℕ, ◌+◌, List, [], ◌∷◌, ◌++◌, Option, Some, None, arith, refl, sym, ap, ◌∙◌, subst, replicate}
 use Rattle.std.specs.Prelude.{slice_get}
 use Rattle.ctl_tree.specs.declared.event.Owner.{Owner}
 use Rattle.ctl_tree.specs.declared.event.Owner.TheVariants as OwnerOf
 use Rattle.ctl_program.specs.declared.types.Ty.{Ty}
 use Rattle.ctl_program.specs.declared.types.Ty.TheVariants.{Record}
+use Rattle.ctl_program.specs.declared.types.Var.{Var}
 use Rattle.ctl_meaning.specs.World as W
-use Rattle.ctl_meaning.specs.World.{World, Allocated, Collection, Standard}
+use Rattle.ctl_meaning.specs.World.{World, Allocated, Collection, InBlock, InSubpool, Place, Standard}
 use Rattle.ctl_meaning.specs.Ledger.{opened_ledger}
-use Rattle.ctl_meaning.specs.Changes.{new_object, opened_changes}
-use Rattle.ctl_meaning.specs.Outcome.{ByRaise, program_error}
+use Rattle.ctl_meaning.specs.Changes.{create, in_pools, new_object, opened_changes, put_into}
+use Rattle.ctl_meaning.specs.Outcome.{ByRaise, program_error, storage_error}
+use Rattle.ctl_meaning.specs.Pools.{hold_block}
+use Rattle.ctl_objects.specs.Pools.{ShowsPools}
+use Rattle.ctl_objects.specs.Stock.{Stock}
 use Rattle.ctl_code.specs.declared.kinds.Kind.{Kind}
 use Rattle.ctl_code.specs.declared.code.Code.{Code}
 use Rattle.ctl_code.specs.declared.code.Instr.TheVariants.{New}
 use Rattle.ctl_code.specs.declared.code.Way.TheVariants as WayOf
 use Rattle.ctl_code.specs.States as T
 use Rattle.ctl_code.specs.States.{State, Word}
-use Rattle.ctl_code.specs.Table.{Here, behind_declaration, by_instr, by_new, gone, set_seen, size_of, transfers, with_member}
+use Rattle.ctl_code.specs.Table.{Exhausted, Grant, Granted, Here, UnknownPool, behind_declaration, by_instr, by_new, gone, grant, new_at, pool_in, set_seen, size_of, transfers, units_of, with_member}
+use Rattle.ctl_code.proofs.Storage.{OnGrant, granted_keeps}
 use Rattle.ctl_machine.specs.declared.engine.Engine.{Engine}
 use Rattle.ctl_machine.specs.declared.frame.Frame.TheVariants as FrameOf
 use Rattle.ctl_machine.specs.declared.frame.Mode.{Mode}
+use Rattle.ctl_machine.specs.declared.frame.Owned.{Owned}
+use Rattle.ctl_machine.specs.Allocating.{OwnsNone}
 use Rattle.ctl_machine.specs.Copying.{Refuses, Takes}
-use Rattle.ctl_machine.specs.Gathering.{member_at, member_begins, with_new_member}
+use Rattle.ctl_machine.specs.Gathering.{member_at, with_new_member}
+use Rattle.ctl_machine.specs.Granting.{IsNewMember, Lacks, storage_seen}
 use Rattle.ctl_machine.specs.Initializing.{Awaits}
 use Rattle.ctl_machine.specs.Masters.{Head, heads_of, first_display}
 use Rattle.ctl_machine.specs.Moves.{Before, GoesOn, Inside, Makes, here_of}
 use Rattle.ctl_machine.specs.Shows.{Kept, Holds, Sized, kept, stock_of}
 use Rattle.ctl_machine.proofs.Foreign.{owns_no_next}
+use Rattle.ctl_machine.proofs.Granted.{goes_both}
 use Rattle.ctl_machine.proofs.Owned.{owns_member}
 use Rattle.ctl_machine.proofs.Plain.{transfers_makes}
 use Rattle.ctl_machine.proofs.Stages.{Creates, allocator_begins, with_frame}
 use Rattle.ctl_machine.proofs.Touched.{gone_makes}
-use Rattle.ctl_objects.proofs.Unchanged.{allocated_pools}
 
 -- the collection that owns an object; 0 where a master does
 abbrev pub set_of_owner : Owner → ℕ
 set_of_owner (OwnerOf.Collection set) = set
 set_of_owner (OwnerOf.Master m) = 0
 
--- The frame of the allocator waits for it --------------------------------------------------------------
+-- Where storage was granted ------------------------------------------------------------------------------
 
-same_object : (objects : List W.Object) (number next set t size : ℕ) → number ≡ next → objects ++ new_object number (Record t) (replicate size 0) (Allocated set Standard) ∷ [] ≡ objects ++ new_object next (Record t) (replicate size 0) (Allocated set Standard) ∷ []
-same_object objects number next set t size same = rw (same) refl
+-- another world differs from this one in its pools alone
+abbrev pub IsBeside : World → World → Type 0
+IsBeside w v = v ≡ record w { pools = v.pools }
 
-pub member_added : (code : Code) (e : Kept) (set t : ℕ) (k : List T.Frame) (ops : List Word) (w : World) → Holds code e k ops w → Holds code (with_new_member set t (replicate (size_of code t) 0) e) k ops (with_member code set t w)
+pools_beside : (w : World) (f : W.Pools → W.Pools) (v : World) → IsBeside w v → IsBeside w (in_pools f v)
+unfolding opened_changes
+pools_beside w f v b = ap (λ (u : World). record u { pools = f v.pools }) b
+
+granted_beside : (pool : Option Var) (d : List ℕ) (size : ℕ) (w v : World) (place : Place) → grant pool d size w ≡ Granted place v → IsBeside w v
+granted_beside pool d size w v place is = subst (λ (g : Grant). OnGrant (IsBeside w) g) is (granted_keeps (IsBeside w) (pools_beside w) pool d size w refl)
+
+-- so does the one where it was granted as it is seen
+pub seen_beside : (code : Code) (access t : ℕ) (s : State) (v : World) (place : Place) → storage_seen code access t s ≡ Granted place v → IsBeside s.world v
+seen_beside code access t s v place is = granted_beside (pool_in (slice_get code.accesses.items access)) (first_display (heads_of s.world.activations)) (units_of code t) s.world v place is
+
+put_beside : (place : Place) (n : ℕ) (w v : World) → IsBeside w v → IsBeside w (put_into place n v)
+unfolding opened_changes
+put_beside Standard n w v b = b
+put_beside (InBlock p a) n w v b = pools_beside w (hold_block p a n) v b
+put_beside (InSubpool s) n w v b = b
+
+-- the world without the object differs from the one with it in this object alone, but for the pools
+pub created_beside : (code : Code) (set t : ℕ) (place : Place) (w v : World) → IsBeside w v → IsBeside (create (Record t) (replicate (size_of code t) 0) (Allocated set place) w) (with_member code set t place v)
+unfolding opened_changes
+created_beside code set t place w v b =
+    let made : World → World = λ u. create (Record t) (replicate (size_of code t) 0) (Allocated set place) u in
+    put_beside place v.ledger.next_object (made w) (made v) (ap made b)
+
+pub member_heads : (code : Code) (set t : ℕ) (place : Place) (w v : World) → IsBeside w v → heads_of (with_member code set t place v).activations ≡ heads_of w.activations
+unfolding opened_changes
+member_heads code set t place w v b = ap (λ (u : World). heads_of u.activations) (created_beside code set t place w v b)
+
+-- An object is there ---------------------------------------------------------------------------------------
+
+same_object : (objects : List W.Object) (number next set t size : ℕ) (place : Place) → number ≡ next → objects ++ new_object number (Record t) (replicate size 0) (Allocated set place) ∷ [] ≡ objects ++ new_object next (Record t) (replicate size 0) (Allocated set place) ∷ []
+same_object objects number next set t size place same = rw (same) refl
+
+created_holds : (code : Code) (e : Kept) (x : Stock) (set t : ℕ) (place : Place) (pools : W.Pools) (k : List T.Frame) (ops : List Word) (w : World) → Holds code e k ops w → ShowsPools (e.next_object + 1) pools (stock_of (with_new_member set t place (replicate (size_of code t) 0) x e))
+    → Holds code (with_new_member set t place (replicate (size_of code t) 0) x e) k ops (record (create (Record t) (replicate (size_of code t) 0) (Allocated set place) w) { pools = pools })
 unfolding opened_changes opened_ledger
-member_added code e set t k ops w h =
+created_holds code e x set t place pools k ops w h shown =
     let size = size_of code t in
     record {
       cells = h.cells;
@@ -53,11 +96,11 @@ member_added code e set t k ops w h =
       masters = h.masters;
       below = h.below;
       waits = h.waits;
-      objects = ap (λ (l : List W.Object). l ++ new_object w.ledger.next_object (Record t) (replicate size 0) (Allocated set Standard) ∷ []) h.objects
-          ∙ same_object e.objects w.ledger.next_object e.next_object set t size h.next_object;
+      objects = ap (λ (l : List W.Object). l ++ new_object w.ledger.next_object (Record t) (replicate size 0) (Allocated set place) ∷ []) h.objects
+          ∙ same_object e.objects w.ledger.next_object e.next_object set t size place h.next_object;
       needs = h.needs;
-      pools = allocated_pools e.next_object set (Record t) (replicate size 0) w.pools (stock_of e) h.owns.numbers h.pools;
-      owns = owns_member e.owned e.next_object e.objects set (Record t) (replicate size 0) h.owns;
+      pools = shown;
+      owns = owns_member e.owned e.next_object e.objects set place (Record t) (replicate size 0) h.owns;
       held = h.held;
       rise = h.rise;
       next_master = h.next_master;
@@ -69,27 +112,55 @@ member_added code e set t k ops w h =
       noted = h.noted;
     }
 
-pub member_heads : (code : Code) (set t : ℕ) (w : World) → heads_of (with_member code set t w).activations ≡ heads_of w.activations
-unfolding opened_changes opened_ledger
-member_heads code set t w = refl
+pub member_added : (code : Code) (old new : Kept) (set t : ℕ) (place : Place) (k : List T.Frame) (ops : List Word) (w v : World) → Holds code old k ops w → IsBeside w v → IsNewMember code old new set t place v → Holds code new k ops (with_member code set t place v)
+member_added code old new set t place k ops w v h b i =
+    let u = with_member code set t place v in
+    let shown = subst (λ (x : Stock). ShowsPools (old.next_object + 1) u.pools x) (ap stock_of i.kept) i.pools in
+    subst (λ (e : Kept). Holds code e k ops u) (sym i.kept)
+    (subst (λ (z : World). Holds code (with_new_member set t place (replicate (size_of code t) 0) (stock_of new) old) k ops z) (sym (created_beside code set t place w v b)) (created_holds code old (stock_of new) set t place u.pools k ops w h shown))
 
-pub member_awaits : (code : Code) (old mid : Engine) (access place set t at : ℕ) (ty : Ty) (s : State) → Before code old place (New access t ty at) s
-    → kept mid ≡ with_frame (FrameOf.Allocating (old.numbered.objects + 1) (place + 1)) (with_new_member set t (replicate (size_of code t) 0) (kept old))
-    → Awaits code mid (member_at code place set t s).control (member_at code place set t s).world
-member_awaits code old mid access place set t at ty s b is =
-    let p : T.Point = behind_declaration s.operands (here_of place s) in
-    let g = member_at code place set t s in
-    let n = old.numbered.objects + 1 in
+-- its number
+pub member_number : (code : Code) (old new : Engine) (set t : ℕ) (place : Place) (v : World) → IsNewMember code (kept old) (kept new) set t place v → new.numbered.objects ≡ old.numbered.objects + 1
+member_number code old new set t place v i = let next = ap (λ (e : Kept). e.next_object) i.kept in omega (arith, next)
+
+-- the table gives it the same
+pub member_next : (code : Code) (old new : Engine) (set t : ℕ) (place : Place) (w v : World) → w.ledger.next_object ≡ old.numbered.objects + 1 → IsBeside w v → IsNewMember code (kept old) (kept new) set t place v → v.ledger.next_object ≡ new.numbered.objects
+member_next code old new set t place w v next beside i = ap (λ (u : World). u.ledger.next_object) beside ∙ (next ∙ sym (member_number code old new set t place v i))
+
+-- The frame of the allocator waits for it --------------------------------------------------------------
+
+pub member_awaits : (code : Code) (old added mid : Engine) (access at set t cell : ℕ) (ty : Ty) (place : Place) (v : World) (s : State) → Before code old at (New access t ty cell) s → IsBeside s.world v → IsNewMember code (kept old) (kept added) set t place v
+    → kept mid ≡ with_frame (FrameOf.Allocating added.numbered.objects (at + 1)) (kept added) → Awaits code mid (member_at code at set t place v s).control (member_at code at set t place v s).world
+member_awaits code old added mid access at set t cell ty place v s b beside i is =
+    let p : T.Point = behind_declaration s.operands (here_of at s) in
+    let g = member_at code at set t place v s in
+    let n = added.numbered.objects in
     let h = b.inside.holds in
-    let e = with_new_member set t (replicate (size_of code t) 0) (kept old) in
-    let added = member_added code (kept old) set t s.control s.operands s.world h in
-    let seen : p.display ≡ first_display (heads_of g.world.activations) = ap first_display (sym (member_heads code set t s.world)) in
-    let waits = allocator_begins Creates code e n t (place + 1) p s.control g.world tt added (owns_no_next old.owned.items n old.stock.objects h.owns) refl seen in
+    let holds = member_added code (kept old) (kept added) set t place s.control s.operands s.world v h beside i in
+    let heads = member_heads code set t place s.world v beside in
+    let seen : p.display ≡ first_display (heads_of g.world.activations) = ap first_display (sym heads) in
+    let number : n ≡ old.numbered.objects + 1 = member_number code old added set t place v i in
+    let next = member_next code old added set t place s.world v h.next_object beside i in
+    let owned : added.owned.items ≡ old.owned.items = ap (λ (e : Kept). e.owned) i.kept in
+    let foreign : OwnsNone n added.owned.items = subst (λ (l : List Owned). OwnsNone n l) (sym owned) (subst (λ c. OwnsNone c old.owned.items) (sym number) (owns_no_next old.owned.items (old.numbered.objects + 1) old.stock.objects h.owns)) in
+    let waits = allocator_begins Creates code (kept added) n t (at + 1) p s.control g.world tt holds foreign refl seen in
     record {
-      holds = subst (λ (x : Kept). Holds code x g.control [] g.world) (sym is) (subst (λ i. Holds code (with_frame (FrameOf.Allocating n (place + 1)) e) (T.Creating T.ByAllocator i t p ∷ s.control) [] g.world) (sym h.next_object) waits);
-      spots = ap (λ (e : Kept). e.spots) is ∙ b.inside.spots;
-      sized = (b.stack, (ty, b.fine.0, b.fine.3), subst (λ (hs : List Head). Sized code b.stack s.control hs) (sym (member_heads code set t s.world)) b.inside.sized);
+      holds = subst (λ (x : Kept). Holds code x g.control [] g.world) (sym is) (subst (λ c. Holds code (with_frame (FrameOf.Allocating n (at + 1)) (kept added)) (T.Creating T.ByAllocator c t p ∷ s.control) [] g.world) (sym next) waits);
+      spots = ap (λ (e : Kept). e.spots) (is ∙ ap (λ (e : Kept). with_frame (FrameOf.Allocating n (at + 1)) e) i.kept) ∙ b.inside.spots;
+      sized = (b.stack, (ty, b.fine.0, b.fine.3), subst (λ (hs : List Head). Sized code b.stack s.control hs) (sym heads) b.inside.sized);
     }
+
+-- No storage ---------------------------------------------------------------------------------------------
+
+-- the machine makes what the table makes of it, whatever it makes where there is some
+pub lacking_makes : (code : Code) (old mid new : Engine) (mode : Mode) (stack : List Kind) (ops : List Word) (h : Here) (move : Grant → T.Move) (g : Grant) → move Exhausted ≡ transfers (ByRaise storage_error) h.control h.world → move UnknownPool ≡ gone h.control h.world
+    → Inside code (kept old) stack h.control ops h.world → Lacks g mode → GoesOn old mid old.mode old.cells.items → GoesOn mid new mode mid.cells.items → Makes code old new (move g)
+unfolding storage_error
+lacking_makes code old mid new mode stack ops h move (Granted place v) raises stops i lacks before goes = absurd lacks
+lacking_makes code old mid new mode stack ops h move Exhausted raises stops i lacks before goes =
+    subst (λ (m : T.Move). Makes code old new m) (sym raises) (transfers_makes code old new (WayOf.Raise 2) stack h.control ops h.world i (subst (λ (m : Mode). GoesOn old new m old.cells.items) lacks (goes_both old mid new mode before goes)))
+lacking_makes code old mid new mode stack ops h move UnknownPool raises stops i lacks before goes =
+    subst (λ (m : T.Move). Makes code old new m) (sym stops) (gone_makes code old new h.control ops h.world i.holds (subst (λ (m : Mode). GoesOn old new m old.cells.items) lacks (goes_both old mid new mode before goes)))
 
 -- Collections that do not take objects -----------------------------------------------------------------
 
@@ -104,20 +175,23 @@ unfolding program_error
 refused_makes code old new t mode stack ops h i None refuses goes = gone_makes code old new h.control ops h.world i.holds (subst (λ (m : Mode). GoesOn old new m old.cells.items) refuses goes)
 refused_makes code old new t mode stack ops h i (Some c) refuses goes = transfers_makes code old new (WayOf.Raise 1) stack h.control ops h.world i (subst (λ (m : Mode). GoesOn old new m old.cells.items) refuses.1 goes)
 
-refused_so : (code : Code) (old new : Engine) (t : ℕ) (mode : Mode) (stack : List Kind) (ops : List Word) (h : Here) → Inside code (kept old) stack h.control ops h.world → (o : Option Collection) → Refuses code t o mode → GoesOn old new mode old.cells.items → Makes code old new (by_new code t o ops h)
-refused_so code old new t mode stack ops h i None refuses goes = refused_makes code old new t mode stack ops h i None refuses goes
-refused_so code old new t mode stack ops h i (Some c) refuses goes = rw (refuses.0) (refused_makes code old new t mode stack ops h i (Some c) refuses goes)
+refused_so : (code : Code) (old new : Engine) (t : ℕ) (mode : Mode) (stack : List Kind) (pool : Option Var) (ops : List Word) (h : Here) → Inside code (kept old) stack h.control ops h.world → (o : Option Collection) → Refuses code t o mode → GoesOn old new mode old.cells.items → Makes code old new (by_new code t pool o ops h)
+refused_so code old new t mode stack pool ops h i None refuses goes = refused_makes code old new t mode stack ops h i None refuses goes
+refused_so code old new t mode stack pool ops h i (Some c) refuses goes = rw (refuses.0) (refused_makes code old new t mode stack ops h i (Some c) refuses goes)
 
 -- By the instruction -----------------------------------------------------------------------------------
 
 -- no collection takes it
 pub set_refuses : (code : Code) (old new : Engine) (access place t at : ℕ) (ty : Ty) (mode : Mode) (s : State) → Before code old place (New access t ty at) s → Refuses code t (set_seen (slice_get code.accesses.items access) (first_display (heads_of s.world.activations)) s.world) mode
     → GoesOn old new mode old.cells.items → Makes code old new (by_instr code (Some (New access t ty at)) s.operands (here_of place s))
-set_refuses code old new access place t at ty mode s b refuses goes = refused_so code old new t mode b.stack s.operands (here_of place s) b.inside (set_seen (slice_get code.accesses.items access) (first_display (heads_of s.world.activations)) s.world) refuses goes
+set_refuses code old new access place t at ty mode s b refuses goes =
+    let a = slice_get code.accesses.items access in
+    refused_so code old new t mode b.stack (pool_in a) s.operands (here_of place s) b.inside (set_seen a (first_display (heads_of s.world.activations)) s.world) refuses goes
 
--- it takes the object
-pub set_takes : (code : Code) (old new : Engine) (access place set t at : ℕ) (ty : Ty) (s : State) → Takes code t (set_seen (slice_get code.accesses.items access) (first_display (heads_of s.world.activations)) s.world) set → Makes code old new (member_begins code place set t s)
-    → Makes code old new (by_instr code (Some (New access t ty at)) s.operands (here_of place s))
+-- it takes the object, where there is storage
+pub set_takes : (code : Code) (old new : Engine) (access place set t at : ℕ) (ty : Ty) (s : State) → Takes code t (set_seen (slice_get code.accesses.items access) (first_display (heads_of s.world.activations)) s.world) set
+    → Makes code old new (new_at code t set (storage_seen code access t s) s.operands (here_of place s)) → Makes code old new (by_instr code (Some (New access t ty at)) s.operands (here_of place s))
 set_takes code old new access place set t at ty s u makes =
-    subst (λ (o : Option Collection). Makes code old new (by_new code t o s.operands (here_of place s))) (sym u.is)
-    (rw (u.takes) (subst (λ n. Makes code old new (member_begins code place n t s)) (sym u.number) makes))
+    let a = slice_get code.accesses.items access in
+    subst (λ (o : Option Collection). Makes code old new (by_new code t (pool_in a) o s.operands (here_of place s))) (sym u.is)
+    (rw (u.takes) (subst (λ n. Makes code old new (new_at code t n (storage_seen code access t s) s.operands (here_of place s))) (sym u.number) makes))

@@ -3,7 +3,6 @@ use Rattle.std.proofs.Common.{◌≡◌, ℕ, zero, suc, ◌+◌, ◌<◌, ◌�
 use Rattle.std.specs.Prelude.{nat_eq, nat_lt, slice_get}
 use Rattle.std.proofs.lemmas.Bool.Decides.{nat_tests}
 use Rattle.std.proofs.lemmas.List.{append-nil, length-append, reverse-append}
-use Rattle.ctl_program.specs.declared.types.Var.{Var}
 use Rattle.ctl_meaning.specs.World as W
 use Rattle.ctl_meaning.specs.World.{World, Activation, Collection, Layer, Sets, Slot}
 use Rattle.ctl_meaning.specs.Lists.{change_each, last_of}
@@ -11,6 +10,7 @@ use Rattle.ctl_meaning.specs.Ledger.{opened_ledger, push_collection, with_layer}
 use Rattle.ctl_meaning.specs.Activations.{change_slot}
 use Rattle.ctl_meaning.specs.Changes.{add_collection, opened_changes}
 use Rattle.ctl_code.specs.declared.kinds.Kind.{Kind}
+use Rattle.ctl_code.specs.declared.code.AccessHome.{AccessHome}
 use Rattle.ctl_code.specs.declared.code.Code.{Code}
 use Rattle.ctl_code.specs.declared.code.Instr.TheVariants.{Gather}
 use Rattle.ctl_code.specs.States as T
@@ -236,13 +236,13 @@ gathers code old stack slot count s m inside newest =
       within = has.within;
     }
 
-pub gather_makes : (code : Code) (old new : Engine) (access count place : ℕ) (v : Var) (s : State) (m : Master) → Before code old place (Gather access count) s → slice_get code.accesses.items access ≡ Some v → slice_get old.masters.items (length old.masters.items - 1) ≡ Some m
-    → new.mode ≡ ModeOf.At (place + 1) → kept new ≡ with_set m v.slot count (kept old) → new.events.items ≡ old.events.items → new.picks.items ≡ old.picks.items
+pub gather_makes : (code : Code) (old new : Engine) (access count place : ℕ) (a : AccessHome) (s : State) (m : Master) → Before code old place (Gather access count) s → slice_get code.accesses.items access ≡ Some a → slice_get old.masters.items (length old.masters.items - 1) ≡ Some m
+    → new.mode ≡ ModeOf.At (place + 1) → kept new ≡ with_set m a.collection.slot count (kept old) → new.events.items ≡ old.events.items → new.picks.items ≡ old.picks.items
     → Makes code old new (by_instr code (Some (Gather access count)) s.operands (here_of place s))
-gather_makes code old new access count place v s m b found newest mode is events picks =
+gather_makes code old new access count place a s m b found newest mode is events picks =
     let w = s.world in
     let d = first_display (heads_of w.activations) in
-    let g = gathers code old b.stack v.slot count s m b.inside newest in
-    let w' = with_sets d w.ledger.next_collection count (add_collection (last_of d) v.slot (W.holding (W.Gathers w.ledger.next_collection)) w) in
-    let made = comes_makes code old new (with_set m v.slot count (kept old)) (place + 1) b.stack s.control s.operands w' b.fine.2 g.inside (record { mode = mode; kept = is; events = events; picks = picks }) in
+    let g = gathers code old b.stack a.collection.slot count s m b.inside newest in
+    let w' = with_sets d w.ledger.next_collection count (add_collection (last_of d) a.collection.slot (W.holding (W.Gathers w.ledger.next_collection)) w) in
+    let made = comes_makes code old new (with_set m a.collection.slot count (kept old)) (place + 1) b.stack s.control s.operands w' b.fine.2 g.inside (record { mode = mode; kept = is; events = events; picks = picks }) in
     rw (found) (subst (λ (hs : List Head). Makes code old new (quiet (T.At (first_display hs) (place + 1)) s.control s.operands w')) g.heads made)

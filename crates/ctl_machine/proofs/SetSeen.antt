@@ -107,6 +107,7 @@ slot_held code e k ops w n slot i x h found number less =
 
 -- The collection ---------------------------------------------------------------------------------------
 
-pub set_seen_is : (code : Code) (e : Engine) (k : List T.Frame) (ops : List Word) (w : World) (d : List ℕ) (v : Var) (n : ℕ) → Holds code (kept e) k ops w → n ≡ Allocation.set_in (slot_at (master_of d v) v.slot w).content → set_in n (sets_owned e.owned.items) ≡ set_seen (Some v) d w
+pub set_seen_is : (code : Code) (e : Engine) (k : List T.Frame) (ops : List Word) (w : World) (d : List ℕ) (v : Var) (pool : Option Var) (n : ℕ) → Holds code (kept e) k ops w → n ≡ Allocation.set_in (slot_at (master_of d v) v.slot w).content
+    → set_in n (sets_owned e.owned.items) ≡ set_seen (Some (record { collection = v; pool = pool })) d w
 unfolding opened_ledger
-set_seen_is code e k ops w d v n h is = ap (λ (l : List Collection). set_in n l) (sym h.collections) ∙ ap (λ c. collection_at c w.ledger) is
+set_seen_is code e k ops w d v pool n h is = ap (λ (l : List Collection). set_in n l) (sym h.collections) ∙ ap (λ c. collection_at c w.ledger) is

@@ -2,26 +2,23 @@
 use Rattle.std.specs.Prelude.{◌≡◌, ℕ, ◌<◌, List, [], ◌∷◌, Option, None, Some, drop, length, reverse, false, true}
 use Rattle.ctl_program.specs.declared.types.Ty.{Ty}
 use Rattle.ctl_tree.specs.declared.ending.Stop.TheVariants.{UseAfterFree}
-use Rattle.ctl_tree.specs.declared.event.Owner.TheVariants as OwnerOf
-use Rattle.ctl_meaning.specs.Objects.{cells_at}
-use Rattle.ctl_meaning.specs.Changes.{object_at}
-use Rattle.ctl_meaning.specs.World.{Collection, Object}
+use Rattle.ctl_meaning.specs.World.{Collection}
 use Rattle.ctl_code.specs.declared.kinds.Kind.{Kind}
 use Rattle.ctl_code.specs.declared.kinds.Kind.TheVariants.{Operand}
 use Rattle.ctl_code.specs.declared.code.Code.{Code}
 use Rattle.ctl_code.specs.declared.code.Way.TheVariants as WayOf
 use Rattle.ctl_code.specs.States as T
-use Rattle.ctl_code.specs.States.{ByAllocator, Maker, Move, Point, State}
-use Rattle.ctl_code.specs.Table.{behind_declaration, is_refused, newborn, size_of, take_value, with_member}
+use Rattle.ctl_code.specs.States.{Maker, Point, State}
+use Rattle.ctl_code.specs.Table.{is_refused}
 use Rattle.ctl_code.specs.Valid.{IsScalar, Leads}
 use Rattle.ctl_machine.specs.Allocating.{OwnsNone}
 use Rattle.ctl_machine.specs.Declaring.{Copied}
 use Rattle.ctl_machine.specs.Filling.{AllLeaveSame}
 use Rattle.ctl_machine.specs.Masters.{first_display, heads_of}
-use Rattle.ctl_machine.specs.Moves.{Inside, here_of}
+use Rattle.ctl_machine.specs.Moves.{Inside}
 use Rattle.ctl_machine.specs.Noted.{noted_in}
 use Rattle.ctl_machine.specs.Shows.{Holds, SizedBelow, Wait, kept}
-use Rattle.ctl_machine.specs.Spots.{first_spot, standing}
+use Rattle.ctl_machine.specs.Spots.{standing}
 use Rattle.ctl_machine.specs.declared.engine.Engine.{Engine}
 use Rattle.ctl_machine.specs.declared.frame.Frame.{Frame}
 use Rattle.ctl_machine.specs.declared.frame.Mode.{Mode}
@@ -55,13 +52,6 @@ pub record IsMember (code : Code) (e : Engine) (object place : ℕ) (s : State) 
   pub leads : Leads code place (Operand type ∷ stack)
   pub inside : Inside code (kept e) stack s.control s.operands s.world
   pub foreign : OwnsNone object e.owned.items
-
--- the table's move, where a new object of a collection takes the value of a part of this object
-abbrev pub member_copied : Code → ℕ → ℕ → ℕ → Object → State → Move
-member_copied code place set t o s =
-    let n = s.world.ledger.next_object in
-    let w = with_member code set t s.world in
-    take_value code ByAllocator (newborn n t (OwnerOf.Collection set)) (cells_at (first_spot s.operands).offset (size_of code t) o) (object_at n w) (behind_declaration (drop 1 s.operands) (here_of place s)) s.control w
 
 -- Adjustments ------------------------------------------------------------------------------------
 

@@ -1,19 +1,23 @@
 -- Objects that are freed: what the table frees, and what stands there before.
-use Rattle.std.specs.Prelude.{◌≡◌, ◌≢◌, ℕ, ◌+◌, List, ◌∷◌, Some, ◌&&◌, if◌then◌else◌, nat_eq}
+use Rattle.std.specs.Prelude.{◌≡◌, ◌≢◌, ℕ, ◌+◌, List, ◌∷◌, Option, Some, None, ◌&&◌, if◌then◌else◌, nat_eq}
 use Rattle.ctl_program.specs.declared.types.Ty.{Ty}
 use Rattle.ctl_program.specs.declared.types.Ty.TheVariants.{Record}
 use Rattle.ctl_program.specs.declared.types.Var.{Var}
 use Rattle.ctl_tree.specs.declared.event.Cause.TheVariants as CauseOf
+use Rattle.ctl_tree.specs.declared.ending.Stop.{Stop}
 use Rattle.ctl_tree.specs.declared.ending.Stop.TheVariants as StopOf
 use Rattle.ctl_meaning.specs.Changes.{object_at}
 use Rattle.ctl_meaning.specs.Objects.{is_untouched}
 use Rattle.ctl_meaning.specs.Outcome.{Fine}
-use Rattle.ctl_meaning.specs.World.{World}
+use Rattle.ctl_meaning.specs.World as W
+use Rattle.ctl_meaning.specs.World.{Object, World}
 use Rattle.ctl_objects.specs.declared.existing.Existing.{Existing}
 use Rattle.ctl_storage.specs.declared.existing.Life.{Life}
 use Rattle.ctl_storage.specs.declared.existing.Life.TheVariants as LifeOf
 use Rattle.ctl_objects.specs.declared.existing.Origin.{Origin}
 use Rattle.ctl_objects.specs.declared.existing.Origin.TheVariants as OriginOf
+use Rattle.ctl_objects.specs.Pools.{ShowsPools}
+use Rattle.ctl_objects.specs.Stock.{Stock}
 use Rattle.ctl_storage.specs.declared.existing.Stage.{Stage}
 use Rattle.ctl_storage.specs.Stages.{state_of}
 use Rattle.ctl_code.specs.declared.kinds.Kind.{Kind}
@@ -22,7 +26,7 @@ use Rattle.ctl_code.specs.declared.code.Parts.TheVariants as PartsOf
 use Rattle.ctl_code.specs.declared.code.Way.TheVariants as WayOf
 use Rattle.ctl_code.specs.States as T
 use Rattle.ctl_code.specs.States.{Move, State, Word}
-use Rattle.ctl_code.specs.Table.{behind_declaration, finalize_object, free_object, gives, has_part, parts_of, stopped}
+use Rattle.ctl_code.specs.Table.{GivenBack, Returned, NotReturned, behind_declaration, finalize_object, free_object, gives, has_part, parts_of, stopped, storage_of}
 use Rattle.ctl_code.specs.Valid.{Leads}
 use Rattle.ctl_machine.specs.declared.engine.Engine.{Engine}
 use Rattle.ctl_machine.specs.declared.frame.Ended.{Ended}
@@ -49,9 +53,14 @@ pub record Freed : Type 0 where
 abbrev pub point_of : Freed → T.Point
 point_of t = behind_declaration t.operands (here_of t.place t.state)
 
+-- where the storage of an object lies, if there is one
+abbrev pub storage_at : Option Object → W.Place
+storage_at None = W.Standard
+storage_at (Some o) = storage_of o.origin
+
 -- the frame of the object of a number comes over what waits
 abbrev pub freeing_of : ℕ → Freed → List T.Frame
-freeing_of n t = T.Freeing t.nulled n (point_of t) ∷ t.state.control
+freeing_of n t = T.Freeing t.nulled n (storage_at (object_at n t.state.world)) (point_of t) ∷ t.state.control
 
 -- before an object is freed
 pub record Frees (code : Code) (e : Engine) (nulled : Nulled) (t : Freed) : Type 0 where
@@ -99,7 +108,7 @@ MayBe code (FateOf.Finalizes type) n owned = OwnsNone n owned × (parts_of code 
 -- this becomes of the object that a value designates, by the collection of an access type
 pub record IsFate (code : Code) (v : Var) (n : ℕ) (owned : List Owned) (s : State) (fate : Fate) : Type 0 where
   pub may : MayBe code fate n owned
-  pub moves : (place : ℕ) (nulled : T.Nulled) (ops : List Word) → free_object code nulled (Some v) (object_at n s.world) ops (here_of place s) ≡ by_fate code fate n (T.Freeing nulled n (behind_declaration ops (here_of place s))) s.control s.world
+  pub moves : (place : ℕ) (nulled : T.Nulled) (pool : Option Var) (ops : List Word) → free_object code nulled (Some (record { collection = v; pool = pool })) (object_at n s.world) ops (here_of place s) ≡ by_fate code fate n (T.Freeing nulled n (storage_at (object_at n s.world)) (behind_declaration ops (here_of place s))) s.control s.world
 
 -- The end ----------------------------------------------------------------------------------------------
 
@@ -107,3 +116,13 @@ pub record IsFate (code : Code) (v : Var) (n : ℕ) (owned : List Owned) (s : St
 abbrev pub mode_freed : Ended → ℕ → Mode
 mode_freed EndedOf.Complete place = ModeOf.At place
 mode_freed _ place = ModeOf.Transfers (WayOf.Raise 1)
+
+-- what a call answers by which storage was given back, where this comes of it in a world: the pools are shown then (13.11)
+abbrev pub IsGivenBack : ℕ → World → Stock → GivenBack → Option Stop → Type 0
+IsGivenBack next w stock (Returned v) answer = (answer ≡ None) × (x : W.Pools) × (v ≡ record w { pools = x }) × ShowsPools next x stock
+IsGivenBack next w stock (NotReturned stop) answer = (answer ≡ Some stop) × ShowsPools next w.pools stock
+
+-- and behind that
+abbrev pub mode_given_back : Option Stop → Ended → ℕ → Mode
+mode_given_back None ended place = mode_freed ended place
+mode_given_back (Some stop) ended place = ModeOf.Stopped stop

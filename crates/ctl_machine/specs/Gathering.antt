@@ -3,11 +3,12 @@ use Rattle.std.specs.Prelude.{ℕ, ◌+◌, List, [], ◌∷◌, ◌++◌, false
 use Rattle.ctl_program.specs.declared.types.Ty.TheVariants.{Record}
 use Rattle.ctl_tree.specs.declared.event.Owner.TheVariants as OwnerOf
 use Rattle.ctl_meaning.specs.Changes.{new_object}
-use Rattle.ctl_meaning.specs.World.{Allocated, Standard}
+use Rattle.ctl_meaning.specs.World.{Allocated, Place, World}
 use Rattle.ctl_code.specs.declared.code.Code.{Code}
 use Rattle.ctl_code.specs.States as T
-use Rattle.ctl_code.specs.States.{Move, State}
-use Rattle.ctl_code.specs.Table.{begin_part, behind_declaration, newborn, with_member}
+use Rattle.ctl_code.specs.States.{State}
+use Rattle.ctl_code.specs.Table.{behind_declaration, newborn, with_member}
+use Rattle.ctl_objects.specs.Stock.{Stock}
 use Rattle.ctl_machine.specs.declared.frame.Master.{Master}
 use Rattle.ctl_machine.specs.declared.frame.Owned.{Owned}
 use Rattle.ctl_machine.specs.declared.frame.Role.TheVariants as RoleOf
@@ -30,18 +31,21 @@ with_set m slot count e = record e {
 
 -- Objects of collections ---------------------------------------------------------------------
 
--- an object that is allocated for a collection, as a part that is created behind the frame of its allocator at a place
-abbrev pub member_at : Code → ℕ → ℕ → ℕ → State → Grown
-member_at code place set t s = record {
-  new = newborn s.world.ledger.next_object t (OwnerOf.Collection set);
-  control = T.Creating T.ByAllocator s.world.ledger.next_object t (behind_declaration s.operands (here_of place s)) ∷ s.control;
-  world = with_member code set t s.world;
+-- an object that is allocated for a collection at a place, where the world had granted this, as a part that is created behind the frame of
+-- its allocator
+abbrev pub member_at : Code → ℕ → ℕ → ℕ → Place → World → State → Grown
+member_at code at set t place granted s = record {
+  new = newborn granted.ledger.next_object t (OwnerOf.Collection set);
+  control = T.Creating T.ByAllocator granted.ledger.next_object t (behind_declaration s.operands (here_of at s)) ∷ s.control;
+  world = with_member code set t place granted;
 }
 
--- the table's move, where its components begin
-abbrev pub member_begins : Code → ℕ → ℕ → ℕ → State → Move
-member_begins code place set t s = let g = member_at code place set t s in begin_part code g.new g.control g.world
-
--- with it, which has these cells
-abbrev pub with_new_member : ℕ → ℕ → List ℕ → Kept → Kept
-with_new_member set t row e = record e { objects = e.objects ++ new_object e.next_object (Record t) row (Allocated set Standard) ∷ []; next_object = e.next_object + 1 }
+-- with it, which has these cells, and all pools as this stock has them
+abbrev pub with_new_member : ℕ → ℕ → Place → List ℕ → Stock → Kept → Kept
+with_new_member set t place row x e = record e {
+  objects = e.objects ++ new_object e.next_object (Record t) row (Allocated set place) ∷ [];
+  sizes = x.sizes;
+  blocks = x.blocks;
+  given = x.given;
+  next_object = e.next_object + 1;
+}

@@ -9,6 +9,7 @@ pub mod Prints
 pub mod Links
 pub mod Departing
 pub mod Gathering
+pub mod Granting
 pub mod GivingUp
 pub mod Finishing
 pub mod Instructions
@@ -35,3 +36,4 @@ pub mod Freeing
 pub mod Copying
 pub mod Needs
 pub mod LeftPools
+pub mod Closing

@@ -1,24 +1,26 @@
 //! Allocators (RM 4.8): an object whose parts are created joins its collection, and is the value of the allocator.
 
-ghost use Rattle.std.specs.Prelude.{◌≡◌, ◌+◌, ◌^◌, ◌<◌, ◌≤◌, ◌∷◌, ℕ, IfErr, IfOk, IsFalse, IsTrue, List, OnErr, OnOk, Some, length, not, replicate, reverse, slice_get, vec_capacity, vec_len, ◌&&◌};
+ghost use Rattle.std.specs.Prelude.{◌≡◌, ◌+◌, ◌^◌, ◌<◌, ◌≤◌, ◌∷◌, ℕ, IfErr, IfOk, IsFalse, IsTrue, List, OnErr, OnOk, Option, Some, length, not, reverse, slice_get, vec_capacity, vec_len, ◌&&◌};
 ghost use Rattle.std.specs.Option.{option_map};
 ghost use Rattle.ctl_meaning.specs.Activations.{master_of};
 ghost use Rattle.ctl_meaning.specs.Allocation.{set_in};
 ghost use Rattle.ctl_meaning.specs.Changes.{slot_at};
 ghost use Rattle.ctl_meaning.specs.Objects.{is_untouched};
 ghost use Rattle.ctl_storage.specs.Stages.{state_of};
-ghost use Rattle.ctl_storage.specs.Order.{AreBelow};
 ghost use Rattle.ctl_program.specs.declared.types.Ty.{Ty};
 ghost use Rattle.ctl_program.specs.declared.types.Var.{Var};
+ghost use Rattle.ctl_code.specs.declared.code.AccessHome.{AccessHome};
 ghost use Rattle.ctl_code.specs.declared.code.Instr.TheVariants as InstrOf;
 ghost use Rattle.ctl_code.specs.Table as Table;
+ghost use Rattle.ctl_code.specs.Table.{Grant};
 ghost use Rattle.ctl_code.specs.States.{ByAllocator, Giving, State};
 ghost use Rattle.ctl_code.specs.Valid.{IsValid};
 ghost use Rattle.ctl_machine.specs.Allocating.{MayJoin};
 ghost use Rattle.ctl_machine.specs.Copying.{IsMember, Refuses, Takes, point_at};
 ghost use Rattle.ctl_machine.specs.declared.frame.Frame.{Frame};
 ghost use Rattle.ctl_machine.specs.declared.frame.Frame.TheVariants as FrameOf;
-ghost use Rattle.ctl_machine.specs.Gathering.{member_begins, with_new_member, with_set};
+ghost use Rattle.ctl_machine.specs.Gathering.{with_set};
+ghost use Rattle.ctl_machine.specs.Granting.{storage_seen};
 ghost use Rattle.ctl_machine.specs.Moves.{Before, BeforeResuming, GoesOn, Makes, here_of};
 ghost use Rattle.ctl_machine.specs.Shows as Shows;
 ghost use Rattle.ctl_machine.specs.Masters.{first_display, heads_of};
@@ -29,11 +31,11 @@ use crate::engine::Engine;
 use crate::frame::{Ended, Frame, Master, Mode, Owned, Role};
 use crate::holders::{find_set, held_set};
 use crate::layers::PROGRAM_ERROR;
-use crate::parts::{parts_of, size_of};
+use crate::parts::parts_of;
 use crate::spots::Spot;
 use ctl_code::code::{Code, Parts, Way};
 use ctl_objects::{Life, Origin, Stage};
-use ctl_program::types::{Ty, Var};
+use ctl_program::types::Var;
 use ctl_tree::ending::Stop;
 use ctl_tree::event::Owner;
 use std::alloc::AllocError;
@@ -107,7 +109,7 @@ impl Engine {
         ensures err { OnErr result (GoesOn self.old self.new self.old.mode self.old.cells.items) }
     {
         let newest = self.newest();
-        let slot = code.accesses[access].slot;
+        let slot = code.accesses[access].collection.slot;
         self.owned.reserve(1)?;
         self.add_set(newest, slot, count);
         self.mode = Mode::At(place + 1);
@@ -144,7 +146,7 @@ impl Engine {
         ghost s: { State }
         requires holds { Holds code.now (kept self.now) s.control s.operands s.world }
         requires level { 1 ≤ access.now.level }
-        ensures { option_map collection_of result ≡ Table.set_seen (Some access.now) (first_display (heads_of s.world.activations)) s.world }
+        ensures { (pool : Option Var) → option_map collection_of result ≡ Table.set_seen (Some (record { collection = access.now; pool = pool })) (first_display (heads_of s.world.activations)) s.world }
     {
         find_set(self.owned.as_slice(), self.set_held(code, access))
     }
@@ -155,11 +157,11 @@ impl Engine {
     pub(crate) fn set_for(&self, code: &Code, access: usize, record: usize) -> Result<u64, Mode>
         ghost s: { State }
         requires holds { Holds code.now (kept self.now) s.control s.operands s.world }
-        requires access { (v : Var) × (slice_get code.now.accesses.items access ≡ Some v) × (1 ≤ v.level) }
+        requires access { (a : AccessHome) × (slice_get code.now.accesses.items access ≡ Some a) × (1 ≤ a.collection.level) }
         ensures ok { IfOk result (Takes code.now «record» (Table.set_seen (slice_get code.now.accesses.items access) (first_display (heads_of s.world.activations)) s.world)) }
         ensures err { IfErr result (Refuses code.now «record» (Table.set_seen (slice_get code.now.accesses.items access) (first_display (heads_of s.world.activations)) s.world)) }
     {
-        let Some(set) = self.set_seen(code, &code.accesses[access]) else {
+        let Some(set) = self.set_seen(code, &code.accesses[access].collection) else {
             return Err(Mode::Stopped(Stop::UseAfterFree));
         };
         if is_refused(code, record, &set) {
@@ -168,51 +170,30 @@ impl Engine {
         Ok(set.number)
     }
 
-    /// Allocates an object of a record type with so many cells of 0 for the collection of this number (RM 4.8), and reserves room for two
-    /// frames that wait for it and for the part that it is; unchanged where memory is refused.
-    #[inline(always)]
-    pub(crate) fn add_member(
-        &mut self,
-        set: u64,
-        record: usize,
-        size: usize,
-    ) -> Result<(), AllocError>
-        requires number { self.old.numbered.objects + 1 < 2 ^ 64 }
-        requires numbers { AreBelow (self.old.numbered.objects + 1) self.old.stock.objects }
-        ensures kept { OnOk result (kept self.new ≡ with_new_member set «record» (replicate size 0) (kept self.old)) }
-        ensures err { OnErr result (GoesOn self.old self.new self.old.mode self.old.cells.items) }
-        ensures control { OnOk result (vec_len self.new.control + 2 ≤ vec_capacity self.new.control) }
-        ensures spots { OnOk result (vec_len self.new.spots < vec_capacity self.new.spots) }
-        ensures number { OnOk result (self.new.numbered.objects ≡ self.old.numbered.objects + 1) }
-        ensures events { self.new.events ≡ self.old.events }
-        ensures picks { self.new.picks ≡ self.old.picks }
-    {
-        let number = self.numbered.objects + 1;
-        self.control.reserve(2)?;
-        self.spots.reserve(1)?;
-        self.stock.allocate(number, Ty::Record(record), set, size)?;
-        self.numbered.objects = number;
-        Ok(())
-    }
-
-    /// Allocates an object of a record type for the collection of this number (RM 4.8): it is created, and its components are to begin
-    /// (RM 7.6). Unchanged where memory is refused.
+    /// Allocates an object of a record type for the collection of this number, with storage of the pool of an access type (RM 4.8, 13.11): it
+    /// is created, and its components are to begin (RM 7.6). Where there is no storage, Storage_Error is raised, or the program is erroneous
+    /// (RM 13.11.2). Unchanged where memory is refused.
     fn create_member(
         &mut self,
         code: &Code,
+        access: usize,
         set: u64,
         record: usize,
         place: usize,
     ) -> Result<(), AllocError>
-        ghost s: { State }
-        requires before { (access : ℕ) × (ty : Ty) × (at : ℕ) × Before code.now self.old place (InstrOf.New access «record» ty at) s }
+        ghost s: { State × Grant }
+        requires valid { IsValid code.now }
+        requires before { (ty : Ty) × (at : ℕ) × Before code.now self.old place (InstrOf.New access «record» ty at) s.0 }
+        requires storage { s.1 ≡ storage_seen code.now access «record» s.0 }
         requires place { place + 1 < 2 ^ 64 }
         requires objects { self.old.numbered.objects + 1 < 2 ^ 64 }
-        ensures ok { OnOk result (Makes code.now self.old self.new (member_begins code.now place set «record» s)) }
+        ensures ok { OnOk result (Makes code.now self.old self.new (Table.new_at code.now «record» set s.1 s.0.operands (here_of place s.0))) }
         ensures err { OnErr result (GoesOn self.old self.new self.old.mode self.old.cells.items) }
     {
-        let size = size_of(code, record);
-        self.add_member(set, record, size)?;
+        if let Some(refused) = self.add_member(code, access, set, record)? {
+            self.go_on(refused);
+            return Ok(());
+        }
         let object = self.numbered.objects;
         self.control.push_reserved(Frame::Allocating {
             object,
@@ -225,7 +206,8 @@ impl Engine {
 
     /// Allocates an object of a record type without a value for the collection of an access type (RM 4.8): it is created, and its components
     /// are to begin (RM 7.6). Where the finalization of the collection has started, an object with a controlled part is not: Program_Error
-    /// is raised. Where the collection is gone, the program is erroneous (RM 13.11.2). Unchanged where memory is refused.
+    /// is raised; and Storage_Error where the storage pool of the access type is exhausted (RM 13.11). Where the collection or the pool is
+    /// gone, the program is erroneous (RM 13.11.2). Unchanged where memory is refused.
     pub(crate) fn allocate(
         &mut self,
         code: &Code,
@@ -242,7 +224,7 @@ impl Engine {
         ensures err { OnErr result (GoesOn self.old self.new self.old.mode self.old.cells.items) }
     {
         match self.set_for(code, access, record) {
-            Ok(set) => self.create_member(code, set, record, place),
+            Ok(set) => self.create_member(code, access, set, record, place),
             Err(refused) => {
                 self.go_on(refused);
                 Ok(())

@@ -1,18 +1,21 @@
 //! Allocators with a value (RM 4.8): the object takes the value of a part of another one, and joins its collection once it is adjusted; where
 //! an Adjust of it failed, those of its parts that are adjusted are finalized before it is gone (RM 7.6, 7.6.1).
 
-ghost use Rattle.std.specs.Prelude.{◌≡◌, ◌+◌, ◌^◌, ◌<◌, ◌≤◌, ◌∷◌, ℕ, List, OnErr, OnOk, Some, reverse, vec_capacity, vec_len};
+ghost use Rattle.std.specs.Prelude.{◌≡◌, ◌+◌, ◌^◌, ◌<◌, ◌≤◌, ◌∷◌, ℕ, List, OnErr, OnOk, Some, drop, reverse, vec_capacity, vec_len};
 ghost use Rattle.ctl_program.specs.declared.types.Ty.{Ty};
 ghost use Rattle.ctl_tree.specs.declared.event.Owner.TheVariants as OwnerOf;
 ghost use Rattle.ctl_meaning.specs.Changes.{object_at};
+ghost use Rattle.ctl_meaning.specs.Objects.{cells_at};
 ghost use Rattle.ctl_meaning.specs.World.{Object};
 ghost use Rattle.ctl_code.specs.declared.code.Instr.TheVariants as InstrOf;
 ghost use Rattle.ctl_code.specs.Table as Table;
+ghost use Rattle.ctl_code.specs.Table.{Grant};
 ghost use Rattle.ctl_code.specs.States.{ByAllocator, Giving, State};
 ghost use Rattle.ctl_code.specs.Valid.{IsValid};
-ghost use Rattle.ctl_machine.specs.Copying.{IsMember, member_copied, point_at};
+ghost use Rattle.ctl_machine.specs.Copying.{IsMember, point_at};
 ghost use Rattle.ctl_machine.specs.declared.frame.Frame.{Frame};
 ghost use Rattle.ctl_machine.specs.declared.frame.Frame.TheVariants as FrameOf;
+ghost use Rattle.ctl_machine.specs.Granting.{storage_seen};
 ghost use Rattle.ctl_machine.specs.Moves.{Before, BeforeResuming, GoesOn, Makes, here_of};
 ghost use Rattle.ctl_machine.specs.Shows as Shows;
 ghost use Rattle.ctl_machine.specs.Spots.{first_spot};
@@ -50,31 +53,38 @@ impl Engine {
         self.adjust_object(code, copy, object, record, Owner::Collection(set));
     }
 
-    /// Allocates an object of a record type for the collection of this number with the value of the part that is the newest operand, of an
-    /// object that is there (RM 4.8): it is created and takes the value, and is to be adjusted (RM 7.6). Unchanged where memory is refused.
+    /// Allocates an object of a record type for the collection of this number, with storage of the pool of an access type and the value of the
+    /// part that is the newest operand, of an object that is there (RM 4.8, 13.11): it is created and takes the value, and is to be adjusted
+    /// (RM 7.6). Where there is no storage, Storage_Error is raised, or the program is erroneous (RM 13.11.2). Unchanged where memory is
+    /// refused.
     fn copy_member(
         &mut self,
         code: &Code,
+        access: usize,
         set: u64,
         record: usize,
         place: usize,
     ) -> Result<(), AllocError>
-        ghost s: { State × Object }
+        ghost s: { State × Object × Grant }
         requires valid { IsValid code.now }
-        requires before { (access : ℕ) × (ty : Ty) × (at : ℕ) × Before code.now self.old place (InstrOf.NewCopy access «record» ty at) s.0 }
+        requires before { (ty : Ty) × (at : ℕ) × Before code.now self.old place (InstrOf.NewCopy access «record» ty at) s.0 }
         requires source { object_at (first_spot s.0.operands).object s.0.world ≡ Some s.1 }
+        requires storage { s.2 ≡ storage_seen code.now access «record» s.0 }
         requires place { place + 1 < 2 ^ 64 }
         requires objects { self.old.numbered.objects + 1 < 2 ^ 64 }
-        ensures ok { OnOk result (Makes code.now self.old self.new (member_copied code.now place set «record» s.1 s.0)) }
+        ensures ok { OnOk result (Makes code.now self.old self.new (Table.copy_at code.now «record» (cells_at (first_spot s.0.operands).offset (Table.size_of code.now «record») s.1) set s.2 (drop 1 s.0.operands) (here_of place s.0))) }
         ensures err { OnErr result (GoesOn self.old self.new self.old.mode self.old.cells.items) }
     {
         let newest = self.count_spots() - 1;
         let spot = &self.spots[newest];
         let start = spot.offset();
         let source = spot.object();
-        let size = size_of(code, record);
-        self.add_member(set, record, size)?;
+        if let Some(refused) = self.add_member(code, access, set, record)? {
+            self.go_on(refused);
+            return Ok(());
+        }
         let number = self.numbered.objects;
+        let size = size_of(code, record);
         self.stock.copy(source, start, number, 0, size);
         let _ = self.spots.take_last();
         self.adjust_member(code, set, number, record, place + 1);
@@ -83,8 +93,9 @@ impl Engine {
 
     /// Allocates an object of a record type for the collection of an access type with the value of the part that is the newest operand
     /// (RM 4.8): it takes the value, and is to be adjusted (RM 7.6). Where the finalization of the collection has started, an object with a
-    /// controlled part is not: Program_Error is raised. Where the object of the part or the collection is gone, the program is erroneous
-    /// (RM 13.11.2). Unchanged where memory is refused.
+    /// controlled part is not: Program_Error is raised; and Storage_Error where the storage pool of the access type is exhausted (RM 13.11).
+    /// Where the object of the part, the collection or the pool is gone, the program is erroneous (RM 13.11.2). Unchanged where memory is
+    /// refused.
     pub(crate) fn allocate_copy(
         &mut self,
         code: &Code,
@@ -106,7 +117,7 @@ impl Engine {
             return Ok(());
         }
         match self.set_for(code, access, record) {
-            Ok(set) => self.copy_member(code, set, record, place),
+            Ok(set) => self.copy_member(code, access, set, record, place),
             Err(refused) => {
                 self.go_on(refused);
                 Ok(())

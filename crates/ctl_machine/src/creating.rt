@@ -18,7 +18,7 @@ ghost use Rattle.ctl_machine.specs.Shows as Shows;
 use crate::calls::replace_top;
 use crate::engine::Engine;
 use crate::finalizing::doubled;
-use crate::frame::{Ended, Frame, Mode, Role};
+use crate::frame::{Declared, Ended, Frame, Mode, Role};
 use crate::layers::PROGRAM_ERROR;
 use crate::spots::Spot;
 use crate::undoing::Undone;
@@ -38,19 +38,27 @@ impl Engine {
     }
 
     /// Goes on with the declaration of the newest owned object behind the creation of its parts, which has ended so: the object is a layer
-    /// of its master, or the exception is raised (RM 7.6.1).
-    pub(crate) fn resume_creating(&mut self, code: &Code, ended: Ended, place: usize)
+    /// of its master, or the exception is raised (RM 7.6.1); where it is a pool, that closes then (RM 13.11).
+    pub(crate) fn resume_creating(
+        &mut self,
+        code: &Code,
+        ended: Ended,
+        declared: Declared,
+        place: usize,
+    )
         ghost s: { State }
         requires before { BeforeResuming code.now self.old s }
-        requires top { (fs : List Frame) × (reverse self.old.control.items ≡ FrameOf.Creating place ∷ fs) }
+        requires top { (fs : List Frame) × (reverse self.old.control.items ≡ FrameOf.Creating declared place ∷ fs) }
         ensures { Makes code.now self.old self.new (Table.act code.now (Giving (Shows.tried_of ended)) s.control s.operands s.world 0) }
     {
         let _ = code;
         let _ = self.control.take_last();
-        match ended {
-            Ended::Raised(exception) => self.mode = Mode::Transfers(Way::Raise(exception)),
-            _ => self.become_layer(place),
-        }
+        let Ended::Raised(exception) = ended else {
+            self.become_layer(place);
+            return;
+        };
+        self.close_newest(declared);
+        self.mode = Mode::Transfers(Way::Raise(exception));
     }
 
     /// Goes on with the declaration of the newest owned object behind its adjustment, of which no Adjust has failed: what is noted of it,
@@ -122,7 +130,10 @@ impl Engine {
         };
         self.undo_copy(
             code,
-            Frame::Creating { place },
+            Frame::Creating {
+                declared: Declared::Object,
+                place,
+            },
             object.number,
             record,
             first,

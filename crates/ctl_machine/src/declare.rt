@@ -3,17 +3,19 @@
 ghost use Rattle.std.specs.Prelude.{◌≡◌, ◌+◌, ◌-◌, ◌^◌, ◌<◌, ◌≤◌, [], ◌++◌, OnErr, OnOk, Some, length, replicate, vec_capacity, vec_len};
 ghost use Rattle.ctl_code.specs.declared.code.Instr.TheVariants as InstrOf;
 ghost use Rattle.ctl_code.specs.Table as Table;
-ghost use Rattle.ctl_code.specs.States.{ByDeclaration, State};
+ghost use Rattle.ctl_code.specs.States.{ByDeclaration, State, whole_spot};
 ghost use Rattle.ctl_code.specs.Valid.{IsValid};
 ghost use Rattle.ctl_tree.specs.declared.event.Owner.TheVariants as OwnerOf;
 ghost use Rattle.ctl_machine.specs.Moves.{Before, GoesOn, Makes, here_of};
 ghost use Rattle.ctl_machine.specs.Shows.{kept};
-ghost use Rattle.ctl_machine.specs.Declaring.{Copied, IsCopied, with_object};
+ghost use Rattle.ctl_machine.specs.declared.frame.Frame.TheVariants as FrameOf;
+ghost use Rattle.ctl_machine.specs.Declaring.{AwaitsWith, Copied, IsCopied, with_object, with_owned};
+ghost use Rattle.ctl_machine.specs.Initializing.{Grown, IsOf};
 ghost use Rattle.ctl_storage.specs.Order.{AreBelow};
 ghost use Rattle.ctl_objects.specs.Order.{AreUpTo};
 
 use crate::engine::Engine;
-use crate::frame::{Frame, Master, Mode, Owned, Role};
+use crate::frame::{Declared, Frame, Master, Mode, Owned, Role};
 use crate::parts::{parts_of, size_of};
 use crate::spots::Spot;
 use ctl_code::code::{Code, Parts};
@@ -24,7 +26,7 @@ use std::alloc::AllocError;
 impl Engine {
     /// Reserves room for an object that is owned, for the frames that wait for it, and for the part that it is; nothing else changes.
     #[inline(always)]
-    fn reserve_object(&mut self) -> Result<(), AllocError>
+    pub(crate) fn reserve_object(&mut self) -> Result<(), AllocError>
         ensures same { GoesOn self.old self.new self.old.mode self.old.cells.items }
         ensures owned { OnOk result (vec_len self.new.owned < vec_capacity self.new.owned) }
         ensures control { OnOk result (vec_len self.new.control + 2 ≤ vec_capacity self.new.control) }
@@ -35,6 +37,36 @@ impl Engine {
         self.control.reserve(2)?;
         self.spots.reserve(1)?;
         Ok(())
+    }
+
+    /// Has the newest object, the next in number, owned by the newest master, for which there is room, in its slot, whose cell is cleared (RM
+    /// 3.3.1).
+    #[inline(always)]
+    pub(crate) fn own_newest(&mut self, newest: Master, slot: usize, record: usize)
+        requires room { vec_len self.old.owned < vec_capacity self.old.owned }
+        requires number { self.old.numbered.objects + 1 < 2 ^ 64 }
+        requires cell { slot < newest.slots → newest.base + slot < length self.old.cells.items }
+        ensures kept { kept self.new ≡ with_owned newest slot «record» (kept self.old) }
+        ensures masters { self.new.masters ≡ self.old.masters }
+        ensures control { self.new.control ≡ self.old.control }
+        ensures spots { self.new.spots ≡ self.old.spots }
+        ensures number { self.new.numbered.objects ≡ self.old.numbered.objects + 1 }
+        ensures events { self.new.events ≡ self.old.events }
+        ensures picks { self.new.picks ≡ self.old.picks }
+    {
+        let number = self.numbered.objects + 1;
+        self.numbered.objects = number;
+        self.owned.push_reserved(Owned {
+            number,
+            slot,
+            master: newest.number,
+            is_layer: false,
+            collections: self.numbered.collections,
+            role: Role::Object { record },
+        });
+        if slot < newest.slots {
+            self.cells[newest.base + slot] = 0;
+        }
     }
 
     /// Creates an object of the newest master with so many cells of 0, for which there is room among the owned ones, and clears the cell of
@@ -63,19 +95,32 @@ impl Engine {
     {
         let number = self.numbered.objects + 1;
         self.stock.declare(number, record, newest.number, size)?;
-        self.numbered.objects = number;
-        self.owned.push_reserved(Owned {
-            number,
-            slot,
-            master: newest.number,
-            is_layer: false,
-            collections: self.numbered.collections,
-            role: Role::Object { record },
-        });
-        if slot < newest.slots {
-            self.cells[newest.base + slot] = 0;
-        }
+        self.own_newest(newest, slot, record);
         Ok(())
+    }
+
+    /// Lets the components of the newest object begin, of a record type, which this master owns, over the frame of its declaration, for which
+    /// there is room (RM 7.6); the declaration goes on at this place.
+    pub(crate) fn begin_declared(
+        &mut self,
+        code: &Code,
+        declared: Declared,
+        record: usize,
+        master: u64,
+        place: usize,
+    )
+        ghost t: { Grown }
+        requires awaits { AwaitsWith code.now self.old (FrameOf.Creating declared place) t.control t.world }
+        requires is_of { IsOf «record» (OwnerOf.Master master) t.new }
+        requires newest { t.new.spot ≡ whole_spot self.old.numbered.objects }
+        requires control { vec_len self.old.control + 2 ≤ vec_capacity self.old.control }
+        requires spots { vec_len self.old.spots < vec_capacity self.old.spots }
+        ensures { Makes code.now self.old self.new (Table.begin_part code.now t.new t.control t.world) }
+    {
+        self.control
+            .push_reserved(Frame::Creating { declared, place });
+        let spot = Spot::whole(self.alloc, self.numbered.objects);
+        self.begin_part(code, spot, record, Owner::Master(master));
     }
 
     /// Declares an object of a record type without a value (RM 3.3.1): it is created, and its components are to begin (RM 7.6); unchanged
@@ -100,10 +145,7 @@ impl Engine {
         let size = size_of(code, record);
         self.reserve_object()?;
         self.create(newest, slot, record, size)?;
-        self.control
-            .push_reserved(Frame::Creating { place: place + 1 });
-        let spot = Spot::whole(self.alloc, self.numbered.objects);
-        self.begin_part(code, spot, record, Owner::Master(newest.number));
+        self.begin_declared(code, Declared::Object, record, newest.number, place + 1);
         Ok(())
     }
 

@@ -356,7 +356,10 @@ impl Engine {
         requires parts { Table.parts_of code.now finalization.record_type ≢ PartsOf.Plain }
         ensures { Makes code.now self.old self.new (Table.finalize_object code.now (Table.parts_of code.now finalization.record_type) finalization.cause number finalization.record_type t.control t.world) }
     {
-        self.control.push_reserved(Frame::Finalizing(number));
+        self.control.push_reserved(Frame::Finalizing {
+            cause: finalization.cause,
+            number,
+        });
         self.begin_finalization(number);
         self.finalize_part(code, finalization, doubles);
     }

@@ -2,6 +2,7 @@
 
 use crate::spots::Spot;
 use ctl_code::code::Way;
+use ctl_objects::Place;
 use ctl_tree::ending::Stop;
 use ctl_tree::event::{Cause, Owner};
 
@@ -72,6 +73,13 @@ pub enum Nulled {
     Part,
 }
 
+/// What a declaration declares: an object, or a block pool, which closes where its creation fails (RM 3.3.1, 13.11).
+#[derive(Clone, Copy)]
+pub enum Declared {
+    Object,
+    Pool,
+}
+
 /// What waits on the control stack.
 #[derive(Clone, Copy)]
 pub enum Frame {
@@ -85,8 +93,9 @@ pub enum Frame {
         after: After,
         next: usize,
     },
-    /// the creation of the newest owned object is under way, or failed, and the place where its declaration goes on (RM 3.3.1)
+    /// the creation of the newest owned object is under way, or failed, what it is, and the place where its declaration goes on (RM 3.3.1)
     Creating {
+        declared: Declared,
         place: usize,
     },
     /// the creation of an allocated object of this number is under way, or failed, and the place where its allocator goes on (RM 4.8)
@@ -171,15 +180,19 @@ pub enum Frame {
         last: u64,
         failed: bool,
     },
-    /// the finalization of the object of this number, which is freed, what becomes null, and the place where that goes on
-    /// (RM 13.11.2)
+    /// the finalization of the object of this number, which is freed, what becomes null, where its storage lies, and the place where that
+    /// goes on (RM 13.11.2)
     Freeing {
         object: u64,
         nulled: Nulled,
+        storage: Place,
         place: usize,
     },
-    /// the finalization of the object of this number
-    Finalizing(u64),
+    /// the finalization of the object of this number, for this cause
+    Finalizing {
+        cause: Cause,
+        number: u64,
+    },
     /// the Finalize of the newest part, of a record type, for this cause (RM 7.6.1)
     FinalizingOwn {
         cause: Cause,

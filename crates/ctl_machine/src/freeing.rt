@@ -1,11 +1,16 @@
-//! Objects are freed (RM 13.11.2): one that is still to be finalized is finalized, what designated it becomes null, and it is gone.
+//! Objects are freed (RM 13.11.2): one that is still to be finalized is finalized, what designated it becomes null, it is gone, and its storage
+//! is given back.
 
 ghost use Rattle.std.specs.Prelude.{◌≡◌, ◌+◌, ◌-◌, ◌^◌, ◌<◌, ◌≤◌, ◌∷◌, ◌&&◌, List, ℕ, IfOk, OnErr, OnOk, Some, drop, length, reverse, slice_get, vec_capacity, vec_len};
 ghost use Rattle.ctl_meaning.specs.Changes.{object_at};
 ghost use Rattle.ctl_meaning.specs.Finalization as S;
 ghost use Rattle.ctl_meaning.specs.Objects.{is_untouched};
+ghost use Rattle.ctl_meaning.specs.World.{World};
+ghost use Rattle.ctl_objects.specs.Existing.{origin_of};
+ghost use Rattle.ctl_objects.specs.Pools.{ShowsPools};
+ghost use Rattle.ctl_storage.specs.Allocated.{place_of};
 ghost use Rattle.ctl_storage.specs.Stages.{state_of};
-ghost use Rattle.ctl_program.specs.declared.types.Var.{Var};
+ghost use Rattle.ctl_code.specs.declared.code.AccessHome.{AccessHome};
 ghost use Rattle.ctl_code.specs.declared.code.Instr.TheVariants as InstrOf;
 ghost use Rattle.ctl_code.specs.Table as Table;
 ghost use Rattle.ctl_code.specs.States.{Giving, NullPart, State, whole_spot};
@@ -16,7 +21,7 @@ ghost use Rattle.ctl_machine.specs.declared.frame.Nulled.TheVariants as NulledOf
 ghost use Rattle.ctl_machine.specs.Assigning.{HasRoom};
 ghost use Rattle.ctl_machine.specs.Finishing.{AreDoubles};
 ghost use Rattle.ctl_machine.specs.Freeing as Freeing;
-ghost use Rattle.ctl_machine.specs.Freeing.{Freed, Frees, IsFate};
+ghost use Rattle.ctl_machine.specs.Freeing.{Freed, Frees, IsFate, IsGivenBack, storage_at};
 ghost use Rattle.ctl_machine.specs.Masters.{heads_of};
 ghost use Rattle.ctl_machine.specs.Moves.{Before, BeforeResuming, GoesOn, Makes, here_of};
 ghost use Rattle.ctl_machine.specs.Shows as Shows;
@@ -31,7 +36,7 @@ use crate::layers::PROGRAM_ERROR;
 use crate::parts::{offset_of, parts_of};
 use crate::spots::Spot;
 use ctl_code::code::{Code, Parts, Way};
-use ctl_objects::{Existing, Life, Origin};
+use ctl_objects::{BlockReturn, Existing, Life, Objects, Origin, Place, PoolState};
 use ctl_program::types::{Ty, Var};
 use ctl_tree::ending::Stop;
 use ctl_tree::event::Cause;
@@ -46,6 +51,13 @@ pub enum Fate {
     Goes,
     /// it is finalized before, as an object of this record type
     Finalizes(usize),
+}
+
+/// What was found of an object that is to be freed: what becomes of it, and where its storage lies (RM 13.11).
+#[derive(Clone, Copy)]
+pub struct Found {
+    pub fate: Fate,
+    pub storage: Place,
 }
 
 /// An object that is freed: its number, what becomes null, the place of the instruction, and the cell where the window of a body begins that
@@ -98,6 +110,52 @@ fn fate_of_member(code: &Code, existing: &Existing) -> Fate
     }
 }
 
+/// Answers where the storage of an object lies, by where it comes from (RM 13.11).
+fn storage_of(origin: Origin) -> Place
+    ensures { place_of result ≡ Table.storage_of (origin_of origin) }
+{
+    match origin {
+        Origin::Allocated { place, .. } => place,
+        Origin::Declared(_) => Place::Standard,
+    }
+}
+
+/// Gives back the storage of an object that is gone (RM 13.11.2): a block goes back to its pool. Where the pool is gone or has closed, or the
+/// block is not out, or holds an object, the program is erroneous, and nothing changes.
+fn give_back(stock: &mut Objects, storage: Place) -> Option<Stop>
+    ensures objects { stock.new.objects ≡ stock.old.objects }
+    ensures needs { stock.new.needs ≡ stock.old.needs }
+    ensures back { (next : ℕ) (w : World) → w.objects ≡ stock.old.objects → ShowsPools next w.pools stock.old → IsGivenBack next w stock.new (Table.return_to (place_of storage) w) result }
+{
+    let Place::InBlock(block) = storage else {
+        return None;
+    };
+    if !stock.exists(block.pool) {
+        return Some(Stop::UseAfterFree);
+    }
+    let Some(pool) = stock.pool(block.pool) else {
+        return Some(Stop::UseAfterFree);
+    };
+    if let PoolState::Closed = pool.state {
+        return Some(Stop::UseAfterFree);
+    }
+    match stock.give_block(block.pool, block.address) {
+        BlockReturn::Accepted => None,
+        BlockReturn::Refused => Some(Stop::BadAddress),
+    }
+}
+
+/// Answers how it goes on at a place where an object is freed whose finalization has ended so, once its storage was given back: it stops where
+/// the program is erroneous.
+fn mode_given_back(given: Option<Stop>, ended: Ended, place: usize) -> Mode
+    ensures { result ≡ Freeing.mode_given_back given ended place }
+{
+    match given {
+        Some(stop) => Mode::Stopped(stop),
+        None => mode_freed(ended, place),
+    }
+}
+
 /// Answers how it goes on at a place where an object is freed whose finalization has ended so: where a Finalize failed, by Program_Error
 /// (RM 13.11.2).
 fn mode_freed(ended: Ended, place: usize) -> Mode
@@ -110,16 +168,24 @@ fn mode_freed(ended: Ended, place: usize) -> Mode
 }
 
 impl Engine {
-    /// Answers what becomes of the object of this number, by the access type from whose collection it is to be freed (RM 13.11.2).
-    fn fate(&self, code: &Code, access: &Var, object: u64) -> Fate
+    /// Answers what becomes of the object of this number, by the access type from whose collection it is to be freed (RM 13.11.2), and where
+    /// its storage lies.
+    fn fate(&self, code: &Code, access: &Var, object: u64) -> Found
         ghost s: { State }
         requires holds { Holds code.now (kept self.now) s.control s.operands s.world }
         requires level { 1 ≤ access.now.level }
-        ensures { IsFate code.now access.now object self.now.owned.items s result }
+        ensures fate { IsFate code.now access.now object self.now.owned.items s result.fate }
+        ensures storage { storage_at (object_at object s.world) ≡ place_of result.storage }
     {
         match self.stock.find(object) {
-            Some(existing) => fate_of(code, self.set_held(code, access), &existing),
-            None => Fate::Stops(Stop::UseAfterFree),
+            Some(existing) => Found {
+                fate: fate_of(code, self.set_held(code, access), &existing),
+                storage: storage_of(existing.origin),
+            },
+            None => Found {
+                fate: Fate::Stops(Stop::UseAfterFree),
+                storage: Place::Standard,
+            },
         }
     }
 
@@ -129,7 +195,7 @@ impl Engine {
         requires valid { IsValid code.now }
         requires frees { Frees code.now self.old release.nulled t }
         requires at { release.place ≡ t.place }
-        requires access { (v : Var) × (slice_get code.now.accesses.items access ≡ Some v) × (1 ≤ v.level) }
+        requires access { (a : AccessHome) × (slice_get code.now.accesses.items access ≡ Some a) × (1 ≤ a.collection.level) }
         requires place { t.place + 1 < 2 ^ 64 }
         requires base { release.base ≡ tall t.state.control (heads_of t.state.world.activations) + length t.operands }
         requires room { HasRoom code.now self.old release.base }
@@ -138,17 +204,18 @@ impl Engine {
         requires doubles { AreDoubles doubles (whole_spot release.object) }
         ensures { Makes code.now self.old self.new (Table.free_object code.now t.nulled (slice_get code.now.accesses.items access) (object_at release.object t.state.world) t.operands (here_of t.place t.state)) }
     {
-        let fate = self.fate(code, &code.accesses[access], release.object);
-        if let Fate::Stops(stop) = fate {
+        let found = self.fate(code, &code.accesses[access].collection, release.object);
+        if let Fate::Stops(stop) = found.fate {
             self.go_on(Mode::Stopped(stop));
             return;
         }
         self.control.push_reserved(Frame::Freeing {
             object: release.object,
             nulled: release.nulled,
+            storage: found.storage,
             place: release.place + 1,
         });
-        let Fate::Finalizes(record_type) = fate else {
+        let Fate::Finalizes(record_type) = found.fate else {
             self.mode = Mode::Giving(Ended::Complete);
             return;
         };
@@ -277,8 +344,8 @@ impl Engine {
         self.free_designated(code, access, object, offset, position, place)
     }
 
-    /// Ends the freeing of an object by a variable, behind its finalization, which has ended so: the variable becomes null, and the object
-    /// is gone (RM 13.11.2).
+    /// Ends the freeing of an object by a variable, behind its finalization, which has ended so: the variable becomes null, the object is
+    /// gone, and its storage is given back (RM 13.11.2).
     fn end_in_variable(
         &mut self,
         code: &Code,
@@ -286,25 +353,27 @@ impl Engine {
         object: u64,
         out: usize,
         slot: usize,
+        storage: Place,
         place: usize,
     )
         ghost s: { State }
         requires before { BeforeResuming code.now self.old s }
-        requires top { (fs : List Frame) × (reverse self.old.control.items ≡ FrameOf.Freeing object (NulledOf.Variable out slot) place ∷ fs) }
+        requires top { (fs : List Frame) × (reverse self.old.control.items ≡ FrameOf.Freeing object (NulledOf.Variable out slot) storage place ∷ fs) }
         ensures { Makes code.now self.old self.new (Table.act code.now (Giving (Shows.tried_of ended)) s.control s.operands s.world 0) }
     {
         self.give(code, out, slot, 0, place);
         let _ = self.control.take_last();
         self.stock.forget(object);
-        self.mode = mode_freed(ended, place);
+        let given = give_back(&mut self.stock, storage);
+        self.mode = mode_given_back(given, ended, place);
     }
 
-    /// Ends the freeing of an object by a component, behind its finalization, which has ended so: the component becomes null, and the object
-    /// is gone. Where the object of the component is gone, the program is erroneous (RM 13.11.2).
-    fn end_in_part(&mut self, code: &Code, ended: Ended, object: u64, place: usize)
+    /// Ends the freeing of an object by a component, behind its finalization, which has ended so: the component becomes null, the object is
+    /// gone, and its storage is given back. Where the object of the component is gone, the program is erroneous (RM 13.11.2).
+    fn end_in_part(&mut self, code: &Code, ended: Ended, object: u64, storage: Place, place: usize)
         ghost s: { State }
         requires before { BeforeResuming code.now self.old s }
-        requires top { (fs : List Frame) × (reverse self.old.control.items ≡ FrameOf.Freeing object NulledOf.Part place ∷ fs) }
+        requires top { (fs : List Frame) × (reverse self.old.control.items ≡ FrameOf.Freeing object NulledOf.Part storage place ∷ fs) }
         ensures { Makes code.now self.old self.new (Table.act code.now (Giving (Shows.tried_of ended)) s.control s.operands s.world 0) }
     {
         let _ = code;
@@ -315,30 +384,32 @@ impl Engine {
         }
         self.stock.write(component.object(), component.offset(), 0);
         self.stock.forget(object);
-        self.mode = mode_freed(ended, place);
+        let given = give_back(&mut self.stock, storage);
+        self.mode = mode_given_back(given, ended, place);
     }
 
-    /// Goes on with the freeing of an object behind its finalization, which has ended so: what designated it becomes null, and it is gone;
-    /// where a Finalize failed, Program_Error is raised (RM 13.11.2).
+    /// Goes on with the freeing of an object behind its finalization, which has ended so: what designated it becomes null, it is gone, and
+    /// its storage is given back; where a Finalize failed, Program_Error is raised (RM 13.11.2).
     pub(crate) fn resume_freeing(
         &mut self,
         code: &Code,
         ended: Ended,
         object: u64,
         nulled: Nulled,
+        storage: Place,
         place: usize,
     )
         ghost s: { State }
         requires valid { IsValid code.now }
         requires before { BeforeResuming code.now self.old s }
-        requires top { (fs : List Frame) × (reverse self.old.control.items ≡ FrameOf.Freeing object nulled place ∷ fs) }
+        requires top { (fs : List Frame) × (reverse self.old.control.items ≡ FrameOf.Freeing object nulled storage place ∷ fs) }
         ensures { Makes code.now self.old self.new (Table.act code.now (Giving (Shows.tried_of ended)) s.control s.operands s.world 0) }
     {
         match nulled {
             Nulled::Variable { out, slot } => {
-                self.end_in_variable(code, ended, object, out, slot, place);
+                self.end_in_variable(code, ended, object, out, slot, storage, place);
             }
-            Nulled::Part => self.end_in_part(code, ended, object, place),
+            Nulled::Part => self.end_in_part(code, ended, object, storage, place),
         }
     }
 }

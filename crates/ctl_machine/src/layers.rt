@@ -1,6 +1,7 @@
 //! The layers of a master, which are left one by one, the newest first: objects are finalized where some part of them is controlled
 //! (RM 7.6.1); and how what it owned goes.
 
+ghost use Rattle.ctl_tree.specs.declared.event.Cause.TheVariants as CauseOf;
 ghost use Rattle.std.specs.Prelude.{◌≡◌, ◌||◌, ◌+◌, ◌<◌, ◌≤◌, ℕ, [], ◌∷◌, List, IfNone, IfSome, IsFalse, None, Some, drop, length, reverse, slice_get, slice_set, take, vec_capacity, vec_len};
 ghost use Rattle.ctl_meaning.specs.Objects.{change_in, with_begun};
 ghost use Rattle.ctl_meaning.specs.Outcome.{Fine};
@@ -25,6 +26,7 @@ use crate::engine::Engine;
 use crate::frame::{Completion, Ended, Frame, Master, Mode, Owned, Role};
 use ctl_code::code::{Code, Entry, Way};
 use ctl_objects::Objects;
+use ctl_tree::event::Cause;
 
 /// The number of Program_Error in the table of exceptions (RM 11.1).
 pub(crate) const PROGRAM_ERROR: usize = 1;
@@ -167,7 +169,7 @@ impl Engine {
         requires found { slice_get self.old.owned.items at ≡ Some o }
         requires top { 0 < vec_len self.old.control }
         requires control { vec_len self.old.control < vec_capacity self.old.control }
-        ensures control { reverse self.new.control.items ≡ FrameOf.Finalizing o.number ∷ FrameOf.Leaving departure.failed departure.pending departure.after at ∷ drop 1 (reverse self.old.control.items) }
+        ensures control { reverse self.new.control.items ≡ FrameOf.Finalizing CauseOf.Scope o.number ∷ FrameOf.Leaving departure.failed departure.pending departure.after at ∷ drop 1 (reverse self.old.control.items) }
         ensures room { vec_len self.new.control ≡ vec_len self.old.control + 1 }
         ensures capacity { vec_capacity self.new.control ≡ vec_capacity self.old.control }
         ensures owned { self.new.owned.items ≡ slice_set self.old.owned.items at (out o) }
@@ -188,19 +190,24 @@ impl Engine {
         let number = object.number;
         self.stock.begin_finalization(number);
         replace_top(&mut self.control, departure.frame(at));
-        self.control.push_reserved(Frame::Finalizing(number));
+        self.control.push_reserved(Frame::Finalizing {
+            cause: Cause::Scope,
+            number,
+        });
     }
 
-    /// Notes that the finalization of the object of this number has ended, and hands on whether it failed (RM 7.6.1).
-    pub(crate) fn resume_finalizing(&mut self, code: &Code, ended: Ended, number: u64)
+    /// Notes that the finalization of the object of this number, for this cause, has ended, and hands on whether it failed (RM 7.6.1). A
+    /// declared object that is a pool closes (RM 13.11).
+    pub(crate) fn resume_finalizing(&mut self, code: &Code, ended: Ended, cause: Cause, number: u64)
         ghost s: { State }
         requires valid { IsValid code.now }
         requires before { BeforeResuming code.now self.old s }
-        requires top { (fs : List Frame) × (reverse self.old.control.items ≡ FrameOf.Finalizing number ∷ fs) }
+        requires top { (fs : List Frame) × (reverse self.old.control.items ≡ FrameOf.Finalizing cause number ∷ fs) }
         ensures done { Makes code.now self.old self.new (Table.act code.now (Giving (Shows.tried_of ended)) s.control s.operands s.world 0) }
     {
         let _ = code;
         self.stock.end_finalization(number);
+        self.close_after(cause, number);
         let _ = self.control.take_last();
         self.mode = Mode::Giving(remembered(ended));
     }

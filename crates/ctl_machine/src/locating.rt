@@ -33,7 +33,7 @@ impl Engine {
     }
 
     /// Answers the number of the object that is held, or of which a part is.
-    fn number_of(&self, holder: Holder) -> u64
+    pub(crate) fn number_of(&self, holder: Holder) -> u64
         requires { IsThere self.now.formals.items holder }
         ensures { (spot : Spot) × (found_in self.now.formals.items (Some holder) ≡ Some spot) × (result ≡ spot.object) }
     {

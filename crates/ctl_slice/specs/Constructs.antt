@@ -1,10 +1,10 @@
 -- Which items and statements by themselves this version runs.
-use Rattle.std.specs.Prelude.{Bool, true, false, not, ◌&&◌, ◌||◌, List, [], ◌∷◌, codes, is_none, is_some, Option, Some, None, if◌then◌else◌}
+use Rattle.std.specs.Prelude.{Bool, true, false, not, ◌&&◌, ◌||◌, List, [], ◌∷◌, codes, is_some, Option, Some, None, if◌then◌else◌}
 use Rattle.ctl_grammar.specs.Spelling.{same_name}
 use Rattle.ctl_syntax.specs.declared.denoted.Definition.{Definition}
 use Rattle.ctl_syntax.specs.declared.denoted.Denoted.{Denoted}
 use Rattle.ctl_syntax.specs.declared.denoted.Denoted.TheVariants.{Declared, Library}
-use Rattle.ctl_syntax.specs.declared.denoted.LibraryName.TheVariants.{Integer, Boolean, True, False, Put, PutLine, NewLine, Controlled, LimitedControlled}
+use Rattle.ctl_syntax.specs.declared.denoted.LibraryName.TheVariants.{Integer, Boolean, True, False, Put, PutLine, NewLine, Controlled, LimitedControlled, BlockPool}
 use Rattle.ctl_syntax.specs.declared.denoted.Use.{Use}
 use Rattle.ctl_syntax.specs.declared.expression.Expression.{Expression, out-Expression}
 use Rattle.ctl_syntax.specs.declared.expression.Expression.TheOpen.{Expression-F}
@@ -25,10 +25,11 @@ use Rattle.ctl_slice.specs.declared.construct.Support.TheVariants.{Run, LeftOut}
 abbrev pub support_when : Bool → Support
 support_when is_run = if is_run then Run else LeftOut
 
--- Controlled or Limited_Controlled (7.6), or a type of the text, which is judged where it is declared
+-- Controlled, Limited_Controlled (7.6) or Block_Pool (13.11), or a type of the text, which is judged where it is declared
 abbrev pub may_be_extended : Denoted → Bool
 may_be_extended (Library Controlled) = true
 may_be_extended (Library LimitedControlled) = true
+may_be_extended (Library BlockPool) = true
 may_be_extended (Declared number level) = true
 may_be_extended d = false
 
@@ -113,16 +114,21 @@ abbrev pub is_specific : Coverage → Bool
 is_specific Specific = true
 is_specific ClassWide = false
 
--- a record of such components (3.8), a type that extends such a type by them (3.9.1), or an access type for one type of the text, of objects
--- in the standard pool (3.10, 13.11)
+-- a record of such components (3.8), a type that extends such a type by them (3.9.1), or an access type for one type of the text (3.10)
 abbrev pub of_type : Type_definition Use → Support
 of_type (Record limitation components) = support_when (may_all_be_components components)
 of_type (Extension parent added) = support_when (may_be_extended parent.first.denoted && may_all_be_components added)
-of_type (Access generality designated coverage pool) = support_when (is_of_text designated.first.denoted && (is_specific coverage && is_none pool))
+of_type (Access generality designated coverage pool) = support_when (is_of_text designated.first.denoted && is_specific coverage)
 
--- objects of this type, with these discriminants: of a type of the text without any, and of a scalar one (3.3.1)
+-- discriminants that are all numeric literals, if there are any (13.11)
+abbrev pub are_literals : List (Association Use) → Bool
+are_literals [] = true
+are_literals (x ∷ xs) = is_literal x.value && are_literals xs
+
+-- objects of this type, with these discriminants: of a type of the text and of Block_Pool with such ones, and of a scalar type (3.3.1, 13.11)
 abbrev pub are_objects_run : Denoted → List (Association Use) → Bool
-are_objects_run (Declared number level) discriminants = is_empty discriminants
+are_objects_run (Declared number level) discriminants = are_literals discriminants
+are_objects_run (Library BlockPool) discriminants = are_literals discriminants
 are_objects_run d discriminants = is_scalar d
 
 -- a name: one layer of an expression (4.1)

@@ -50,7 +50,8 @@ item_of place (kind.Body s inside) = body_of (of_heading s) place inside
 item_of place (kind.Instance n m actuals) = None
 item_of place (kind.Incomplete n t) = None
 item_of place (kind.«Type» n d) = where_left_out (of_type d) place
-item_of place (kind.StoragePool t m) = Some place
+-- its pool is judged where it is declared (13.11)
+item_of place (kind.StoragePool t m) = None
 item_of place (kind.Exceptions ns) = None
 item_of place (kind.Objects os) = where_left_out (of_objects os) place
 

@@ -7,7 +7,7 @@ use ctl_grammar::spelling::is_same_name;
 use ctl_syntax::denoted::{Definition, Denoted, LibraryName, Use};
 use ctl_syntax::expression::Expression;
 use ctl_syntax::item::{
-    Components, Coverage, Definition as TypeDefinition, Formal, Objects, Specification,
+    Association, Components, Coverage, Definition as TypeDefinition, Formal, Objects, Specification,
 };
 use ctl_syntax::name::Name;
 use sqlite_items::Boxed;
@@ -144,7 +144,7 @@ fn may_all_be_components(all: &[Components<Use>]) -> bool
 }
 
 /// Judges a type: a record with such components alone is run (RM 3.8), and so is one that extends Controlled, Limited_Controlled or a type of
-/// the text by them (RM 3.9.1, 7.6), and an access type for one type of the text, of objects in the standard pool (RM 3.10, 13.11).
+/// the text by them (RM 3.9.1, 7.6), or Block_Pool (RM 13.11), and an access type for one type of the text (RM 3.10).
 pub(crate) fn of_type(definition: &TypeDefinition<Use>) -> Support
     ensures { result ≡ spec.of_type definition.now }
 {
@@ -155,22 +155,22 @@ pub(crate) fn of_type(definition: &TypeDefinition<Use>) -> Support
         TypeDefinition::Extension(parent, added) => support_when(
             may_be_extended(parent.first.denoted) && may_all_be_components(added.as_slice()),
         ),
-        TypeDefinition::Access(_, designated, coverage, pool) => support_when(
-            is_of_text(designated.first.denoted)
-                && matches!(coverage, Coverage::Specific)
-                && pool.is_none(),
+        TypeDefinition::Access(_, designated, coverage, _) => support_when(
+            is_of_text(designated.first.denoted) && matches!(coverage, Coverage::Specific),
         ),
     }
 }
 
-/// Tells whether this is Controlled or Limited_Controlled (RM 7.6), or a type of the text, which is judged where it is declared.
+/// Tells whether this is Controlled, Limited_Controlled (RM 7.6) or Block_Pool (RM 13.11), or a type of the text, which is judged where it is
+/// declared.
 fn may_be_extended(denoted: Denoted) -> bool
     ensures { result ≡ spec.may_be_extended denoted }
 {
     matches!(
         denoted,
-        Denoted::Library(LibraryName::Controlled | LibraryName::LimitedControlled)
-            | Denoted::Declared(..)
+        Denoted::Library(
+            LibraryName::Controlled | LibraryName::LimitedControlled | LibraryName::BlockPool
+        ) | Denoted::Declared(..)
     )
 }
 
@@ -228,13 +228,27 @@ pub(crate) fn of_returned(value: &Option<Expression<Use>>) -> Support
     support_when(!has_left_out_allocator(value))
 }
 
-/// Judges objects: scalar ones are run, and others of a declared type without discriminants, and none whose value is such an allocator
-/// (RM 3.3.1, 4.8).
+/// Tells whether discriminants are all numeric literals, if there are any (RM 13.11).
+fn are_literals(discriminants: &[Association<Use>]) -> bool
+    ensures { result ≡ spec.are_literals discriminants.now }
+{
+    for discriminant in discriminants {
+        if !is_literal(&discriminant.value) {
+            return false;
+        }
+    }
+    true
+}
+
+/// Judges objects: scalar ones are run, and those of a declared type and of Block_Pool whose discriminants are literals, and none whose value
+/// is such an allocator (RM 3.3.1, 4.8, 13.11).
 pub(crate) fn of_objects(objects: &Objects<Definition, Use>) -> Support
     ensures { result ≡ spec.of_objects objects.now }
 {
     let is_run = match objects.mark.first.denoted {
-        Denoted::Declared(_, _) => objects.discriminants.as_slice().is_empty(),
+        Denoted::Declared(_, _) | Denoted::Library(LibraryName::BlockPool) => {
+            are_literals(objects.discriminants.as_slice())
+        }
         denoted => is_scalar(denoted),
     };
     support_when(is_run && !has_left_out_allocator(&objects.value))

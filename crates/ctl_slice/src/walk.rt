@@ -98,7 +98,8 @@ fn item(item: &Item<Definition, Use>) -> Option<Span>
         ItemKind::Objects(objects) => where_left_out(of_objects(objects), item.span),
         // Unchecked_Deallocation is the one generic of the language (RM 13.11.2).
         ItemKind::Exceptions(_) | ItemKind::Incomplete(..) | ItemKind::Instance(..) => None,
-        ItemKind::StoragePool(..) => Some(item.span),
+        // Its pool is judged where it is declared (RM 13.11).
+        ItemKind::StoragePool(..) => None,
     }
 }
 

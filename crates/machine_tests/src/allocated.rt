@@ -3,7 +3,7 @@
 use crate::codes::{code_of, completed, is_well_formed, validated};
 use crate::lines::{CELL_2, CELL_3, Line, SECOND};
 use crate::runs::{outcome_of, traced};
-use ctl_code::code::{Code, Instr};
+use ctl_code::code::{AccessHome, Code, Instr};
 use ctl_program::types::{Ty, Var};
 use ctl_tree::request::Order;
 use std::alloc::{AllocError, Global};
@@ -98,7 +98,10 @@ fn lines_with(gather: Instr, new: Instr, value: Instr, object: Instr) -> [Line; 
 
 /// Adds an access type whose collection has this level.
 fn add_access_type(code: &mut Code, level: usize) -> Result<(), AllocError> {
-    code.accesses.push(Var { level, slot: 0 })?;
+    code.accesses.push(AccessHome {
+        collection: Var { level, slot: 0 },
+        pool: None,
+    })?;
     Ok(())
 }
 

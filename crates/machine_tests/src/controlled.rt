@@ -2,7 +2,7 @@
 //! that are complete are finalized.
 
 use crate::codes::{code_of, completed, is_well_formed, validated};
-use crate::lines::{BODY_LEVEL, BODY_SLOTS, Line};
+use crate::lines::{BODY_LEVEL, BODY_SLOTS, Line, UNITS};
 use crate::runs::{outcome_of, traced};
 use ctl_code::code::{Begun, Code, Entry, Initial, Instr, Layout, Operations, Parts, Way};
 use ctl_program::operators::SubprogramKind;
@@ -105,6 +105,8 @@ fn layout_of(alloc: Global, shape: Shape) -> Result<Layout, AllocError> {
         parts,
         level: BODY_LEVEL,
         cells,
+        content: UNITS,
+        units: UNITS,
         offsets: Vec::new(alloc),
         begun: Vec::new(alloc),
         controlled: Vec::new(alloc),

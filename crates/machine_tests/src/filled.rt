@@ -1,7 +1,7 @@
 //! Components of a declared object take their defaults, one chosen after another, or the object takes a copy of another's value.
 
 use crate::codes::{FAREWELL, valid_code_with, valid_code_with_adjust};
-use crate::lines::{BODY_LEVEL, CELL_3, CELL_4, Line};
+use crate::lines::{BODY_LEVEL, CELL_3, CELL_4, Line, UNITS};
 use crate::runs::{outcome_of, shown_and_told, told};
 use ctl_code::code::{Begun, Initial, Instr, Layout, Parts, Way};
 use ctl_machine::outcome::Outcome;
@@ -187,6 +187,8 @@ fn layout_of_three(alloc: Global, parts: Parts, count: usize) -> Result<Layout, 
         parts,
         level: BODY_LEVEL,
         cells: 3,
+        content: UNITS,
+        units: UNITS,
         offsets: Vec::new(alloc),
         begun: Vec::new(alloc),
         controlled: Vec::new(alloc),

@@ -149,12 +149,17 @@ pub fn note_lines(notes: &mut KindNotes, lines: &[Line]) -> Result<(), AllocErro
     Ok(())
 }
 
+/// As many storage units as each object of the tests has: no fewer than its cells take.
+pub const UNITS: usize = 1_024;
+
 /// The layout of each record type of the tests, whose objects are finalized: two components of one cell each, without defaults.
 pub fn layout_of_two(alloc: Global) -> Result<Layout, AllocError> {
     Ok(Layout {
         parts: Parts::Controlled,
         level: BODY_LEVEL,
         cells: 2,
+        content: UNITS,
+        units: UNITS,
         offsets: vec![in alloc; 0, 1]?,
         begun: Vec::new(alloc),
         controlled: Vec::new(alloc),

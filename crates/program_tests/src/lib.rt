@@ -18,6 +18,8 @@ mod names;
 #[cfg(test)]
 mod parts;
 #[cfg(test)]
+mod pools;
+#[cfg(test)]
 mod runs;
 #[cfg(test)]
 mod sinks;

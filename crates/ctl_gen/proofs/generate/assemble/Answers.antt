@@ -3,7 +3,7 @@ use Rattle.std.specs.Prelude.{slice_get}
 use Rattle.std.proofs.lemmas.List.{drop_all}
 use Rattle.ctl_code.specs.declared.code.Instr.TheVariants.{Start}
 use Rattle.ctl_gen.specs.Emitted.{Emitted, lined, one, stated}
-use Rattle.ctl_layout.specs.Layout.{AreLayouts, bodies, entries_from, operations_of}
+use Rattle.ctl_layout.specs.Layout.{AreLayouts, bodies, entries_from, home_of, operations_of}
 use Rattle.ctl_layout.proofs.Turns.{turn_of}
 use Rattle.ctl_gen.proofs.EmittedBodies.{all_emitted, all_instructions, all_kinds, all_texts, begun, begun_place, next_body, next_entry, nothing_stands}
 use Rattle.ctl_gen.proofs.generate.assemble.Goals as goal
@@ -58,7 +58,7 @@ returns-clause-laid_out c =
       entries = sym (append-nil done) ∙ ap (λ xs. done ++ entries_from (length e.instructions) (length e.texts) xs) end ∙ c.loop-subprogram.invariant.1;
       records = c.in_ok-records.ensures ∙ ap operations_of c.as_slice.ensures;
       layouts = subst (λ rs. AreLayouts [] c.in_ok-layouts.layouts.items rs) c.as_slice-2.ensures c.in_ok-layouts.ensures;
-      accesses = c.in_ok-accesses.ensures ∙ ap (map (λ a. a.collection)) c.as_slice-3.ensures;
+      accesses = c.in_ok-accesses.ensures ∙ ap (map home_of) c.as_slice-3.ensures;
       texts = c.finish-instructions.ensures.texts ∙ all_texts p e all;
       exceptions = c.in_ok-exceptions.ensures ∙ c.as_slice-4.ensures;
     }

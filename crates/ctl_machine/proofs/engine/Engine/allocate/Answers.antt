@@ -1,3 +1,4 @@
+use Rattle.std.proofs.Common.{refl}
 use Rattle.ctl_machine.proofs.NewMember.{set_refuses, set_takes}
 use Rattle.ctl_machine.proofs.Steps.{on_ok}
 use Rattle.ctl_machine.proofs.engine.Engine.allocate.Goals as goal
@@ -6,7 +7,7 @@ pub set_for-requires : goal.set_for-requires
 set_for-requires g c = let b = c.requires.1.0 in (b.inside.holds, (b.fine.1.0, b.fine.1.1, b.fine.1.2))
 
 pub create_member-requires : goal.create_member-requires
-create_member-requires g c = ((c.args.access, g.s.1, g.s.2, c.requires.1.0), c.requires.1.1)
+create_member-requires g c = (c.requires.0, ((g.s.1, g.s.2, c.requires.1.0), (refl, c.requires.1.1)))
 
 pub returns-in-Ok-clause-ok : goal.returns-in-Ok-clause-ok
 returns-in-Ok-clause-ok g c =

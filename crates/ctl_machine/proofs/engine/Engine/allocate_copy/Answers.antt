@@ -1,4 +1,4 @@
-use Rattle.std.proofs.Common.{◌∙◌, ap, drop, sym}
+use Rattle.std.proofs.Common.{◌∙◌, ap, drop, refl, sym}
 use Rattle.ctl_meaning.specs.Finalization.{Spot}
 use Rattle.ctl_meaning.specs.Objects.{object_in}
 use Rattle.ctl_machine.specs.Spots.{first_spot, standing}
@@ -28,7 +28,7 @@ copy_member-requires g c =
     let b = c.requires.1.0 in
     let count = c.count_spots-newest in
     let there = source_found c.args.code.now c.args.self.now c.args.access c.args.place c.args.record g.s.2 g.s.1 g.s.0 b count.result c.object.result c.index.result.now count.ensures.count c.index.ensures c.object.ensures (sym c.exists.ensures ∙ c.if-not-exists.false) in
-    (c.requires.0, ((c.args.access, g.s.1, g.s.2, b), (there, c.requires.1.1)))
+    (c.requires.0, ((g.s.1, g.s.2, b), (there, (refl, c.requires.1.1))))
 
 pub returns-in-Ok-clause-ok : goal.returns-in-Ok-clause-ok
 returns-in-Ok-clause-ok g c =

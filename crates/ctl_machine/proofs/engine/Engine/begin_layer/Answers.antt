@@ -2,6 +2,7 @@ use Rattle.std.proofs.Common.{◌∙◌, [], ◌∷◌, List, ap, reverse, drop}
 use Rattle.std.specs.Prelude.{slice_get, slice_set}
 use Rattle.std.proofs.lemmas.List.{reverse-append}
 use Rattle.std.proofs.lemmas.Option.{slice_get_within}
+use Rattle.ctl_tree.specs.declared.event.Cause.TheVariants.{Scope}
 use Rattle.ctl_meaning.specs.Objects.{change_in, with_begun}
 use Rattle.ctl_machine.specs.declared.frame.Frame.{Frame}
 use Rattle.ctl_machine.specs.declared.frame.Frame.TheVariants as FrameOf
@@ -18,9 +19,9 @@ returns-clause-control g c =
     let same = same_at x g.o (slice_get owned c.args.at) (got owned c.args.at x (slice_get_within owned c.args.at g.o c.requires.0) c.index_mut-object.ensures.value) c.requires.0 in
     let others = drop 1 (reverse c.args.self.now.control.items) in
     ap (λ (l : List Frame). reverse l) c.push_reserved.ensures.items
-    ∙ (reverse-append c.replace_top.new.control.items (FrameOf.Finalizing x.number ∷ [])
-    ∙ (ap (λ (l : List Frame). FrameOf.Finalizing x.number ∷ l) (c.replace_top.ensures.items ∙ ap (λ (f : Frame). f ∷ others) c.frame.ensures)
-    ∙ ap (λ (o : Owned). FrameOf.Finalizing o.number ∷ FrameOf.Leaving c.args.departure.failed c.args.departure.pending c.args.departure.after c.args.at ∷ others) same))
+    ∙ (reverse-append c.replace_top.new.control.items (FrameOf.Finalizing Scope x.number ∷ [])
+    ∙ (ap (λ (l : List Frame). FrameOf.Finalizing Scope x.number ∷ l) (c.replace_top.ensures.items ∙ ap (λ (f : Frame). f ∷ others) c.frame.ensures)
+    ∙ ap (λ (o : Owned). FrameOf.Finalizing Scope o.number ∷ FrameOf.Leaving c.args.departure.failed c.args.departure.pending c.args.departure.after c.args.at ∷ others) same))
 
 pub returns-clause-owned : goal.returns-clause-owned
 returns-clause-owned g c =

@@ -3,6 +3,7 @@ use Rattle.ctl_meaning.specs.Finalization.{Spot}
 use Rattle.ctl_code.specs.States.{Giving}
 use Rattle.ctl_code.specs.Table.{act}
 use Rattle.ctl_machine.specs.declared.frame.Ended.{Ended}
+use Rattle.ctl_machine.specs.declared.frame.Declared.TheVariants as DeclaredOf
 use Rattle.ctl_machine.specs.declared.frame.Frame.{Frame}
 use Rattle.ctl_machine.specs.declared.frame.Frame.TheVariants as FrameOf
 use Rattle.ctl_code.specs.declared.code.Way.TheVariants as WayOf
@@ -19,7 +20,7 @@ become_layer-requires g c =
     let top = c.requires.1.0 in
     let old = c.args.self.now in
     let x = copying c.args.code.now old c.args.place c.args.first top.0 g.s c.requires.0 top.1 in
-    object_newest (Copies c.args.first x.0) c.args.place top.0 old g.s x.1
+    object_newest DeclaredOf.Object (Copies c.args.first x.0) c.args.place top.0 old g.s x.1
 
 pub returns-in-Raised : goal.returns-in-Raised
 returns-in-Raised g c =

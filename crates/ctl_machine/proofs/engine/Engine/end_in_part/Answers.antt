@@ -10,12 +10,11 @@ use Rattle.ctl_machine.specs.Finishing.{with_objects}
 use Rattle.ctl_machine.specs.Shows.{Kept, kept, stock_of}
 use Rattle.ctl_machine.specs.Spots.{standing}
 use Rattle.ctl_machine.proofs.Foreign.{foreign_allocated}
-use Rattle.ctl_machine.proofs.Freed.{behind_frame, freeing, stands_behind}
+use Rattle.ctl_machine.proofs.Freed.{GoesBack, behind_frame, freeing, goes_back, stands_behind}
 use Rattle.ctl_machine.proofs.FreedPart.{dropped_so, null_inside, null_written, nulled_part, part_ends, part_stops, with_null}
 use Rattle.ctl_machine.proofs.Owned.{none_there, some_there}
-use Rattle.ctl_machine.proofs.Stocked.{stocked, forgot, with_stock, with_forgotten}
+use Rattle.ctl_machine.proofs.Stocked.{stocked, with_stock}
 use Rattle.ctl_machine.proofs.engine.Engine.end_in_part.Goals as goal
-use Rattle.ctl_objects.specs.Pools.{KeepsShown}
 
 pub returns-then-not-exists : goal.returns-then-not-exists
 returns-then-not-exists g c =
@@ -23,14 +22,14 @@ returns-then-not-exists g c =
     let old = c.args.self.now in
     let b = c.requires.0 in
     let top = c.requires.1 in
-    let u = freeing code old c.args.object NulledOf.Part c.args.place top.0 g.s b top.1 in
-    let x = nulled_part code old c.args.object c.args.place top.0 g.s b u in
+    let u = freeing code old c.args.object NulledOf.Part c.args.storage c.args.place top.0 g.s b top.1 in
+    let x = nulled_part code old c.args.object c.args.storage c.args.place top.0 g.s b u in
     let parts = standing u.waiting u.point.operands in
     let d = c.drop_frame-component in
-    let dropped = dropped_so old d.new.self (FrameOf.Freeing c.args.object NulledOf.Part c.args.place) top.0 parts x.part d.result d.ensures top.1 x.spots in
+    let dropped = dropped_so old d.new.self (FrameOf.Freeing c.args.object NulledOf.Part c.args.storage c.args.place) top.0 parts x.part d.result d.ensures top.1 x.spots in
     let number : c.object.result ≡ x.part.object = c.object.ensures ∙ ap (λ (s : Spot). s.object) dropped.same in
     let none : object_in c.object.result d.new.self.stock.objects ≡ None = none_there (object_in c.object.result d.new.self.stock.objects) (sym c.exists.ensures ∙ c.if-not-exists.true) in
-    part_stops code old _ c.args.ended c.args.object c.args.place top.0 g.s b top.1 u x
+    part_stops code old _ c.args.ended c.args.object c.args.storage c.args.place top.0 g.s b top.1 u x
     (ap (λ (e : Kept). object_in x.part.object e.objects) (sym dropped.kept) ∙ (ap (λ n. object_in n d.new.self.stock.objects) (sym number) ∙ none)) refl dropped.kept d.ensures.events d.ensures.picks
 
 pub forget-requires : goal.forget-requires
@@ -39,12 +38,12 @@ forget-requires g c =
     let old = c.args.self.now in
     let b = c.requires.0 in
     let top = c.requires.1 in
-    let u = freeing code old c.args.object NulledOf.Part c.args.place top.0 g.s b top.1 in
-    let x = nulled_part code old c.args.object c.args.place top.0 g.s b u in
-    let v = stands_behind code old c.args.object NulledOf.Part c.args.place top.0 g.s b top.1 u in
+    let u = freeing code old c.args.object NulledOf.Part c.args.storage c.args.place top.0 g.s b top.1 in
+    let x = nulled_part code old c.args.object c.args.storage c.args.place top.0 g.s b u in
+    let v = stands_behind code old c.args.object NulledOf.Part c.args.storage c.args.place top.0 g.s b top.1 u in
     let parts = standing u.waiting u.point.operands in
     let d = c.drop_frame-component in
-    let dropped = dropped_so old d.new.self (FrameOf.Freeing c.args.object NulledOf.Part c.args.place) top.0 parts x.part d.result d.ensures top.1 x.spots in
+    let dropped = dropped_so old d.new.self (FrameOf.Freeing c.args.object NulledOf.Part c.args.storage c.args.place) top.0 parts x.part d.result d.ensures top.1 x.spots in
     let e = with_null x.part (behind_frame top.0 parts (kept old)) in
     let written : c.write.new.self.objects ≡ e.objects = null_written c.write.new.self.objects d.new.self.stock.objects old.stock.objects c.object-2.result c.offset.result x.part c.write.ensures.objects (c.object-2.ensures ∙ ap (λ (s : Spot). s.object) dropped.same) (c.offset.ensures ∙ ap (λ (s : Spot). s.offset) dropped.same) (ap (λ (z : Kept). z.objects) dropped.kept) in
     let i = null_inside code (behind_frame top.0 parts (kept old)) v.stack u.waiting u.point.operands g.s.world x.part v.inside in
@@ -57,19 +56,23 @@ returns g c =
     let old = c.args.self.now in
     let b = c.requires.0 in
     let top = c.requires.1 in
-    let u = freeing code old c.args.object NulledOf.Part c.args.place top.0 g.s b top.1 in
-    let x = nulled_part code old c.args.object c.args.place top.0 g.s b u in
+    let u = freeing code old c.args.object NulledOf.Part c.args.storage c.args.place top.0 g.s b top.1 in
+    let x = nulled_part code old c.args.object c.args.storage c.args.place top.0 g.s b u in
     let parts = standing u.waiting u.point.operands in
     let d = c.drop_frame-component in
-    let dropped = dropped_so old d.new.self (FrameOf.Freeing c.args.object NulledOf.Part c.args.place) top.0 parts x.part d.result d.ensures top.1 x.spots in
+    let dropped = dropped_so old d.new.self (FrameOf.Freeing c.args.object NulledOf.Part c.args.storage c.args.place) top.0 parts x.part d.result d.ensures top.1 x.spots in
     let number : c.object.result ≡ x.part.object = c.object.ensures ∙ ap (λ (s : Spot). s.object) dropped.same in
     let some = some_there (object_in c.object.result d.new.self.stock.objects) (sym c.exists.ensures ∙ c.if-not-exists.false) in
     let found : object_in x.part.object old.stock.objects ≡ Some some.0 = ap (λ (e : Kept). object_in x.part.object e.objects) (sym dropped.kept) ∙ (ap (λ n. object_in n d.new.self.stock.objects) (sym number) ∙ some.1) in
     let e = with_null x.part (behind_frame top.0 parts (kept old)) in
     let written : c.write.new.self.objects ≡ e.objects = null_written c.write.new.self.objects d.new.self.stock.objects old.stock.objects c.object-2.result c.offset.result x.part c.write.ensures.objects (c.object-2.ensures ∙ ap (λ (s : Spot). s.object) dropped.same) (c.offset.ensures ∙ ap (λ (s : Spot). s.offset) dropped.same) (ap (λ (z : Kept). z.objects) dropped.kept) in
     let nulled : with_stock c.write.new.self (kept d.new.self) ≡ e = stocked (kept d.new.self) c.write.new.self e.objects written c.write.ensures.same ∙ ap (λ (z : Kept). with_objects e.objects z) dropped.kept in
-    part_ends code old _ c.args.ended c.args.object c.args.place top.0 g.s some.0 b top.1 u x found c.mode_freed-self.ensures (
-      forgot (with_stock c.write.new.self (kept d.new.self)) c.forget.new.self c.args.object c.forget.ensures.objects c.forget.ensures.same ∙ ap (λ (z : Kept). with_forgotten c.args.object c.forget.new.self.blocks z) nulled,
-      subst (λ (z : Kept). KeepsShown (stock_of z) c.forget.new.self) nulled c.forget.ensures.pools,
-    )
+    let f = c.forget in
+    let back = c.give_back-given in
+    let r = goes_back c.write.new.self f.new.self back.new.stock c.args.object c.args.storage back.result f.ensures.objects f.ensures.same f.ensures.pools back.ensures.objects back.ensures.needs back.ensures.back in
+    part_ends code old _ c.args.ended c.args.object c.args.storage c.args.place back.result top.0 g.s some.0 b top.1 u x found c.mode_given_back-self.ensures
+    (record {
+      is = ap (λ (z : Kept). with_stock back.new.stock z) nulled;
+      back = subst (λ (z : Kept). GoesBack (stock_of z) c.args.object c.args.storage back.new.stock back.result) nulled r;
+    })
     d.ensures.events d.ensures.picks

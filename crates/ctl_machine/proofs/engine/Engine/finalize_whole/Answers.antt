@@ -20,6 +20,7 @@ finalize_part-requires g c =
     let code = c.args.code.now in
     let old = c.args.self.now in
     let n = c.args.number in
+    let cause = c.args.finalization.cause in
     let t = g.t in
     let r = c.requires.1 in
     let room = r.1.1.0 in
@@ -29,17 +30,17 @@ finalize_part-requires g c =
     let begun = c.begin_finalization.ensures in
     let before : Engine = record old { control = c.push_reserved.new.self } in
     let mid = c.begin_finalization.new.self in
-    let control : reverse c.push_reserved.new.self.items ≡ FrameOf.Finalizing n ∷ reverse old.control.items = ap (λ (l : List Frame). reverse l) c.push_reserved.ensures.items ∙ reverse-append old.control.items (FrameOf.Finalizing n ∷ []) in
-    let finishes = whole_finishes code old before mid n t r.0 (ap (λ (l : List Frame). record (kept old) { control = l }) control) (λ k w h. begun.holds code k [] w h) (ap (λ v. v.items) begun.spots) in
-    let base = whole_base c.args.finalization.base n t r.1.0 in
+    let control : reverse c.push_reserved.new.self.items ≡ FrameOf.Finalizing cause n ∷ reverse old.control.items = ap (λ (l : List Frame). reverse l) c.push_reserved.ensures.items ∙ reverse-append old.control.items (FrameOf.Finalizing cause n ∷ []) in
+    let finishes = whole_finishes code old before mid cause n t r.0 (ap (λ (l : List Frame). record (kept old) { control = l }) control) (λ k w h. begun.holds code k [] w h) (ap (λ v. v.items) begun.spots) in
+    let base = whole_base c.args.finalization.base cause n t r.1.0 in
     let len = c.push_reserved.ensures.len in
     let capacity = c.push_reserved.ensures.capacity in
     let is : c.args.doubles.spot ≡ whole_spot n = doubles.spot in (
       c.requires.0,
       (
-        subst (λ (s : Spot). Finishes code mid (whole_of s t)) (sym is) finishes,
+        subst (λ (s : Spot). Finishes code mid (whole_of cause s t)) (sym is) finishes,
         (
-          subst (λ (s : Spot). BeginsOver c.args.finalization.base (whole_of s t)) (sym is) base,
+          subst (λ (s : Spot). BeginsOver c.args.finalization.base (whole_of cause s t)) (sym is) base,
           (
             record {
               call = record {
@@ -72,6 +73,6 @@ returns g c =
     let begun = c.begin_finalization.ensures in
     let mid = c.begin_finalization.new.self in
     let new = c.finalize_part.new.self in
-    let made = subst (λ (s : Spot). (let f = whole_of s t in Makes code mid new (finalize_part code (parts_of code type) cause f.spot type f.control f.world))) doubles.spot c.finalize_part.ensures in
+    let made = subst (λ (s : Spot). (let f = whole_of cause s t in Makes code mid new (finalize_part code (parts_of code type) cause f.spot type f.control f.world))) doubles.spot c.finalize_part.ensures in
     subst (λ (m : Move). Makes code old new m) (sym (object_finalized code (parts_of code type) cause n type t.control t.world parts))
     (makes_later code old mid new _ (ap (λ v. v.items) begun.events) (ap (λ v. v.items) begun.picks) made)

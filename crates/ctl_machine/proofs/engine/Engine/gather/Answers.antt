@@ -1,7 +1,7 @@
 use Rattle.std.proofs.Common.{◌≡◌, ◌∙◌, List, Some, ap, arith, refl}
 use Rattle.std.specs.Prelude.{slice_get}
 use Rattle.std.proofs.lemmas.Option.{slice_get_within}
-use Rattle.ctl_program.specs.declared.types.Var.{Var}
+use Rattle.ctl_code.specs.declared.code.AccessHome.{AccessHome}
 use Rattle.ctl_machine.specs.declared.frame.Owned.{Owned}
 use Rattle.ctl_machine.specs.Gathering.{with_set}
 use Rattle.ctl_machine.specs.Shows.{kept}
@@ -23,7 +23,7 @@ index-requires g c =
 pub add_set-requires-clause-cell : goal.add_set-requires-clause-cell
 add_set-requires-clause-cell g c =
     let b = c.requires.1.0 in
-    (gathers c.args.code.now c.args.self.now b.stack c.index.result.now.slot c.args.count g.s c.newest-newest.result b.inside c.newest-newest.ensures.last).within
+    (gathers c.args.code.now c.args.self.now b.stack c.index.result.now.collection.slot c.args.count g.s c.newest-newest.result b.inside c.newest-newest.ensures.last).within
 
 pub returns-clause-ok : goal.returns-clause-ok
 returns-clause-ok g c =
@@ -31,9 +31,9 @@ returns-clause-ok g c =
     let old = c.args.self.now in
     let b = c.requires.1.0 in
     let access = b.fine.0 in
-    let v : Var = c.index.result.now in
+    let v : AccessHome = c.index.result.now in
     let m = c.newest-newest.result in
     let found : slice_get code.accesses.items c.args.access ≡ Some v = got code.accesses.items c.args.access v (slice_get_within code.accesses.items c.args.access access.0 access.1) c.index.ensures in
     gather_makes code old _ c.args.access c.args.count c.args.place v g.s m b found c.newest-newest.ensures.last refl
-    (c.add_set.ensures.kept ∙ ap (λ (l : List Owned). with_set m v.slot c.args.count (record (kept old) { owned = l })) c.in_ok-reserve.ensures.items)
+    (c.add_set.ensures.kept ∙ ap (λ (l : List Owned). with_set m v.collection.slot c.args.count (record (kept old) { owned = l })) c.in_ok-reserve.ensures.items)
     (ap (λ x. x.items) c.add_set.ensures.events) (ap (λ x. x.items) c.add_set.ensures.picks)

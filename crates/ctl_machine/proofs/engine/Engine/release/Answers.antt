@@ -21,11 +21,11 @@ returns-in-Stops g c =
     let n = c.args.release.object in
     let t = g.t in
     let f = c.requires.1.0 in
-    let a = c.requires.1.1.1.0 in
-    let v = c.index.result.now in
-    let found = got code.accesses.items c.args.access v (slice_get_within code.accesses.items c.args.access a.0 a.1) c.index.ensures in
-    let is = subst (λ (x : Fate). IsFate code v n old.owned.items t.state x) c.in-Stops.is c.fate-fate.ensures in
-    fate_makes code old c.go_on.new.self c.args.access n v t old.owned.items (FateOf.Stops c.in-Stops.stop) found is
+    let has = c.requires.1.1.1.0 in
+    let a = c.index.result.now in
+    let found = got code.accesses.items c.args.access a (slice_get_within code.accesses.items c.args.access has.0 has.1) c.index.ensures in
+    let is = subst (λ (x : Fate). IsFate code a.collection n old.owned.items t.state x) c.in-Stops.is c.fate-found.ensures.fate in
+    fate_makes code old c.go_on.new.self c.args.access n a t old.owned.items (FateOf.Stops c.in-Stops.stop) found is
     (stays_makes code old c.go_on.new.self c.in-Stops.stop t.state.control t.state.operands t.state.world f.before c.go_on.ensures)
 
 pub returns-in_default-fate : goal.returns-in_default-fate
@@ -35,15 +35,15 @@ returns-in_default-fate g c =
     let n = c.args.release.object in
     let t = g.t in
     let f = c.requires.1.0 in
-    let a = c.requires.1.1.1.0 in
-    let v = c.index.result.now in
-    let found = got code.accesses.items c.args.access v (slice_get_within code.accesses.items c.args.access a.0 a.1) c.index.ensures in
-    let goes = goes_so c.fate-fate.result c.in_default.not-Stops c.in_default-fate.not-Finalizes in
-    let is = subst (λ (x : Fate). IsFate code v n old.owned.items t.state x) goes c.fate-fate.ensures in
+    let has = c.requires.1.1.1.0 in
+    let a = c.index.result.now in
+    let found = got code.accesses.items c.args.access a (slice_get_within code.accesses.items c.args.access has.0 has.1) c.index.ensures in
+    let goes = goes_so c.fate-found.result.fate c.in_default.not-Stops c.in_default-fate.not-Finalizes in
+    let is = subst (λ (x : Fate). IsFate code a.collection n old.owned.items t.state x) goes c.fate-found.ensures.fate in
     let new : Engine = record old { mode = ModeOf.Giving EndedOf.Complete; control = c.push_reserved.new.self } in
-    let are = freeing_pushed old c.push_reserved.new.self.items c.args.release.nulled n t.place c.args.release.place c.push_reserved.ensures.items c.requires.1.1.0 in
-    let finishes = freeing_finishes code old new c.args.release.nulled n t f is.may are in
-    fate_makes code old new c.args.access n v t old.owned.items FateOf.Goes found is (finished_gives code old new (freed_over n t) EndedOf.Complete (Fine T.Complete) finishes refl refl refl refl)
+    let are = freeing_pushed old c.push_reserved.new.self.items c.args.release.nulled n c.fate-found.result.storage t.place c.args.release.place c.push_reserved.ensures.items c.requires.1.1.0 in
+    let finishes = freeing_finishes code old new c.args.release.nulled n c.fate-found.result.storage t f is.may c.fate-found.ensures.storage are in
+    fate_makes code old new c.args.access n a t old.owned.items FateOf.Goes found is (finished_gives code old new (freed_over n t) EndedOf.Complete (Fine T.Complete) finishes refl refl refl refl)
 
 pub finalize_whole-requires : goal.finalize_whole-requires
 finalize_whole-requires g c =
@@ -51,10 +51,10 @@ finalize_whole-requires g c =
     let old = c.args.self.now in
     let n = c.args.release.object in
     let t = g.t in
-    let v = c.index.result.now in
-    let is = subst (λ (x : Fate). IsFate code v n old.owned.items t.state x) c.in-Finalizes.is c.fate-fate.ensures in
+    let a = c.index.result.now in
+    let is = subst (λ (x : Fate). IsFate code a.collection n old.owned.items t.state x) c.in-Finalizes.is c.fate-found.ensures.fate in
     let mid : Engine = record old { control = c.push_reserved.new.self } in
-    let are = freeing_pushed old c.push_reserved.new.self.items c.args.release.nulled n t.place c.args.release.place c.push_reserved.ensures.items c.requires.1.1.0 in
+    let are = freeing_pushed old c.push_reserved.new.self.items c.args.release.nulled n c.fate-found.result.storage t.place c.args.release.place c.push_reserved.ensures.items c.requires.1.1.0 in
     let r = c.requires.1.1.1.1.1 in
     let room = r.1.0 in
     let frames = r.1.1.0 in
@@ -62,7 +62,7 @@ finalize_whole-requires g c =
     let capacity = c.push_reserved.ensures.capacity in (
       c.requires.0,
       (
-        freeing_finishes code old mid c.args.release.nulled n t c.requires.1.0 is.may.0 are,
+        freeing_finishes code old mid c.args.release.nulled n c.fate-found.result.storage t c.requires.1.0 is.may.0 c.fate-found.ensures.storage are,
         (
           r.0,
           (
@@ -79,9 +79,9 @@ returns g c =
     let old = c.args.self.now in
     let n = c.args.release.object in
     let t = g.t in
-    let a = c.requires.1.1.1.0 in
-    let v = c.index.result.now in
-    let found = got code.accesses.items c.args.access v (slice_get_within code.accesses.items c.args.access a.0 a.1) c.index.ensures in
-    let is = subst (λ (x : Fate). IsFate code v n old.owned.items t.state x) c.in-Finalizes.is c.fate-fate.ensures in
+    let has = c.requires.1.1.1.0 in
+    let a = c.index.result.now in
+    let found = got code.accesses.items c.args.access a (slice_get_within code.accesses.items c.args.access has.0 has.1) c.index.ensures in
+    let is = subst (λ (x : Fate). IsFate code a.collection n old.owned.items t.state x) c.in-Finalizes.is c.fate-found.ensures.fate in
     let mid : Engine = record old { control = c.push_reserved.new.self } in
-    fate_makes code old c.finalize_whole.new.self c.args.access n v t old.owned.items (FateOf.Finalizes c.in-Finalizes.record_type) found is (makes_later code old mid c.finalize_whole.new.self _ refl refl c.finalize_whole.ensures)
+    fate_makes code old c.finalize_whole.new.self c.args.access n a t old.owned.items (FateOf.Finalizes c.in-Finalizes.record_type) found is (makes_later code old mid c.finalize_whole.new.self _ refl refl c.finalize_whole.ensures)

@@ -1,0 +1,33 @@
+//! Whether the declaration of a pool is well formed (RM 13.11).
+
+ghost use Rattle.std.specs.Prelude.{◌≡◌, ◌↔◌, ℕ, ◌+◌, ◌^◌, ◌<◌, [], ◌∷◌, drop, IsTrue};
+ghost use Rattle.ctl_program.specs.declared.types.Ty.TheVariants.{Count};
+ghost use Rattle.ctl_code.specs.declared.kinds.Kind.TheVariants.{Operand};
+ghost use Rattle.ctl_code.specs.Kinds.{stack_at};
+ghost use Rattle.ctl_code.specs.Valid.{IsDeclarable, Leads, Under};
+ghost use Rattle.ctl_code.specs.Windows.{depth, height};
+
+use crate::code::Code;
+use crate::fine::{has, is_operand, leads_on};
+use crate::kinds::Kind;
+use crate::layouts::is_declarable;
+use ctl_program::types::Ty;
+
+/// Tells whether two values of Storage_Count stand on top, the lower one in this cell.
+fn has_discriminants(code: &Code, place: usize, at: usize) -> bool
+    ensures { let stack = stack_at code.now.kinds place in
+        IsTrue result ↔ ((stack ≡ Operand Count ∷ Operand Count ∷ drop 2 stack) × (at ≡ height (drop 2 stack))) }
+{
+    has(code, place, 0, Kind::Operand(Ty::Count)) && is_operand(code, place, 1, at, Ty::Count)
+}
+
+/// Checks the declaration of a block pool: its discriminants stand on top, the first of them in this cell (RM 13.11).
+pub(crate) fn is_pool_fine(code: &Code, place: usize, number: usize, at: usize) -> bool
+    requires { place + 1 < 2 ^ 64 }
+    ensures { let stack = stack_at code.now.kinds place in
+        IsTrue result ↔ (IsDeclarable code.now (depth stack) number × Under (Operand Count ∷ Operand Count ∷ []) stack (λ below. (at ≡ height below) × Leads code.now (place + 1) below)) }
+{
+    is_declarable(code, code.kinds.depth_at(place), number)
+        && has_discriminants(code, place, at)
+        && leads_on(code, place, 2, None)
+}

@@ -1,0 +1,197 @@
+-- Storage is granted where it is seen: the pool that a variable holds is found, and an object is put into it.
+use Rattle.std.proofs.Common.{◌≡◌, ℕ, ◌+◌, ◌-◌, ◌*◌, ◌<◌, ◌≤◌, List, [], ◌∷◌, ◌++◌, Option, Some, None, Bool, true, false, length, refl, sym, ap, ◌∙◌, subst, arith, drop, take, replicate}
+use Rattle.std.specs.Prelude.{◌||◌, is_some, nat_eq, nat_lt, not, slice_get, slice_index_or, if◌then◌else◌}
+use Rattle.std.specs.Option.{option_map, option_map_or}
+use Rattle.ctl_program.specs.declared.types.Ty.TheVariants.{Record}
+use Rattle.ctl_program.specs.declared.types.Var.{Var}
+use Rattle.ctl_meaning.specs.World as W
+use Rattle.ctl_meaning.specs.World.{World, Allocated, BlockPool, InBlock, Object, Place, Slot, Standard}
+use Rattle.ctl_meaning.specs.Activations.{master_of, slot_in}
+use Rattle.ctl_meaning.specs.Changes.{in_pools, new_object, object_at, opened_changes, slot_at}
+use Rattle.ctl_meaning.specs.Finalization.{Spot}
+use Rattle.ctl_meaning.specs.Lists.{item_or}
+use Rattle.ctl_meaning.specs.Objects.{object_in}
+use Rattle.ctl_meaning.specs.Pools.{block_pool_at, hold_block, take_block}
+use Rattle.ctl_storage.specs.Calls.{is_exhausted_at, pool_of, state_of, taken_at, with_taken}
+use Rattle.ctl_storage.specs.declared.pools.Pool.{Pool}
+use Rattle.ctl_storage.specs.declared.pools.PoolState.{PoolState}
+use Rattle.ctl_storage.specs.declared.pools.PoolState.TheVariants.{Open}
+use Rattle.ctl_objects.specs.Pools.{ShowsPools}
+use Rattle.ctl_objects.specs.Stock.{Stock}
+use Rattle.ctl_code.specs.declared.code.AccessHome.{AccessHome}
+use Rattle.ctl_code.specs.declared.code.Code.{Code}
+use Rattle.ctl_code.specs.declared.code.Layout.{Layout}
+use Rattle.ctl_code.specs.declared.code.Way.TheVariants as WayOf
+use Rattle.ctl_code.specs.States as T
+use Rattle.ctl_code.specs.States.{State, Word}
+use Rattle.ctl_code.specs.Table.{Grant, Granted, Exhausted, UnknownPool, grant, holder_grant, object_grant, pool_grant, pool_in, size_in, size_of, spot_of, units_in, units_of, with_member}
+use Rattle.ctl_code.specs.Valid.{IsValid}
+use Rattle.ctl_machine.specs.declared.engine.Engine.{Engine}
+use Rattle.ctl_machine.specs.declared.frame.Formal.{Formal}
+use Rattle.ctl_machine.specs.declared.frame.Holder.{Holder}
+use Rattle.ctl_machine.specs.declared.frame.Master.{Master}
+use Rattle.ctl_machine.specs.declared.frame.Mode.{Mode}
+use Rattle.ctl_machine.specs.declared.frame.Mode.TheVariants as ModeOf
+use Rattle.ctl_machine.specs.declared.frame.Owned.{Owned}
+use Rattle.ctl_machine.specs.Gathering.{with_new_member}
+use Rattle.ctl_machine.specs.Granting.{Adds, IsNewMember, Lacks, Serves, block_unless, pool_grants, storage_seen}
+use Rattle.ctl_machine.specs.Holders.{formal_in, found_in, holder_in, own_end, own_formals}
+use Rattle.ctl_machine.specs.Masters.{display_from, first_display, heads_of}
+use Rattle.ctl_machine.specs.Moves.{GoesOn}
+use Rattle.ctl_machine.specs.Shows.{Holds, Kept, kept, stock_of}
+use Rattle.ctl_machine.proofs.HeldThere.{content_is}
+use Rattle.ctl_machine.proofs.Links.{got}
+use Rattle.ctl_machine.proofs.Lists.{same_at}
+use Rattle.ctl_machine.proofs.Owned.{object_shown}
+use Rattle.ctl_machine.proofs.Reached.{linked_in}
+use Rattle.ctl_machine.proofs.SetSeen.{level_is, no_level}
+use Rattle.ctl_machine.proofs.Stocked.{with_stock}
+
+-- What a variable holds ----------------------------------------------------------------------------------
+
+-- the number of the object of a part, if there is one
+abbrev pub number_in : Option Spot → Option ℕ
+number_in y = option_map (λ (z : Spot). z.object) y
+
+-- levels count from 1
+level_seen : (d : List ℕ) (v : Var) (level : ℕ) → level - 1 ≡ v.level - 1 → master_of d (record v { level = level }) ≡ master_of d v
+unfolding master_of
+level_seen d v level same = ap (λ i. item_or 0 (slice_get d i)) same
+
+-- no master stands at the level
+pub none_seen : (d : List ℕ) (v : Var) (level : ℕ) → 1 ≤ level → level - 1 ≡ v.level - 1 → length (take level d) < level → master_of d v ≡ 0
+none_seen d v level some same few = sym (level_seen d v level same) ∙ no_level d (record v { level = level }) some few
+
+-- the newest of so many does
+pub master_seen : (code : Code) (e : Engine) (k : List T.Frame) (ops : List Word) (w : World) (v : Var) (level count : ℕ) (m : Master) → Holds code (kept e) k ops w → 1 ≤ level → level - 1 ≡ v.level - 1 → count ≤ length e.masters.items
+    → display_from count (heads_of w.activations) ≡ take level (first_display (heads_of w.activations)) → length (display_from count (heads_of w.activations)) ≤ count → level ≤ length (display_from count (heads_of w.activations))
+    → m ≡ slice_index_or e.masters.items (count - 1) m → (slice_get e.masters.items (count - 1) ≡ Some m) × (master_of (first_display (heads_of w.activations)) v ≡ m.number)
+master_seen code e k ops w v level count m h some same bound display shallow long read =
+    let hs = heads_of w.activations in
+    let d = first_display hs in
+    let found = got e.masters.items (count - 1) m (omega (arith, bound, shallow, long, some)) read in
+    (found, sym (level_seen d v level same) ∙ level_is d (record v { level = level }) count e.masters.items hs m some (linked_in code e k ops w h) found (omega (arith, shallow, long, some)) display long)
+
+-- a slot that is not there holds none
+pub no_object_held : (n slot : ℕ) (w : World) → slot_in n slot w.activations ≡ W.unset → None ≡ number_in (spot_of (slot_at n slot w).content)
+unfolding opened_changes
+no_object_held n slot w is = ap (λ (y : Slot). number_in (spot_of y.content)) (sym is)
+
+-- what was found in a slot is what it holds
+pub part_held : (code : Code) (e : Engine) (k : List T.Frame) (ops : List Word) (w : World) (n slot i end : ℕ) (x : Master) (owned : List Owned) (formals : List Formal) (r : Option Holder) → Holds code (kept e) k ops w → slice_get e.masters.items i ≡ Some x → n ≡ x.number → slot < x.slots
+    → owned ≡ e.owned.items → formals ≡ e.formals.items → end ≡ own_end (slice_get e.masters.items (i + 1)) (length e.owned.items) → found_in formals r ≡ spot_of (holder_in (drop x.owned (take end owned)) slot (formal_in (own_formals x formals) slot))
+    → spot_of (slot_at n slot w).content ≡ found_in e.formals.items r
+part_held code e k ops w n slot i end x owned formals r h found number less all bound ends part =
+    let formal = formal_in (own_formals x e.formals.items) slot in
+    ap (λ c. spot_of c) (content_is code e k ops w n slot i x h found number less)
+    ∙ sym (sym (ap (λ (l : List Formal). found_in l r) bound)
+    ∙ (part
+    ∙ (ap (λ (l : List Formal). spot_of (holder_in (drop x.owned (take end owned)) slot (formal_in (own_formals x l) slot))) bound
+    ∙ (ap (λ (l : List Owned). spot_of (holder_in (drop x.owned (take end l)) slot formal)) all ∙ ap (λ j. spot_of (holder_in (drop x.owned (take j e.owned.items)) slot formal)) ends))))
+
+-- The pool -------------------------------------------------------------------------------------------------
+
+-- a pool that is open grants a block, unless it is exhausted
+from_block : (n : ℕ) (w : World) (stands full : Bool) → state_of stands ≡ Open → (if not stands then UnknownPool else if full then Exhausted else Granted (InBlock n w.pools.next_address) (in_pools (take_block n) w)) ≡ block_unless full n w
+from_block n w false full is = absurd (cc)
+from_block n w true true is = refl
+from_block n w true false is = refl
+
+from_pool : (n size : ℕ) (q : Pool) (w : World) (p : Option BlockPool) → Some q ≡ option_map pool_of p → q.state ≡ Open → pool_grant n size p w ≡ block_unless (option_map_or (λ x. nat_eq x.free 0 || nat_lt x.block_size size) p false) n w
+from_pool n size q w None is stands = absurd (cc)
+from_pool n size q w (Some p) is stands =
+    from_block n w p.is_open (nat_eq p.free 0 || nat_lt p.block_size size) (ap (λ (o : Option Pool). state_in o) (sym is) ∙ stands)
+  where
+    state_in : Option Pool → PoolState
+    state_in None = Open
+    state_in (Some x) = x.state
+
+from_object : (n size : ℕ) (q : Pool) (w : World) (o : Option Object) → is_some o ≡ true → Some q ≡ option_map pool_of (block_pool_at n w.pools) → q.state ≡ Open → object_grant n size o w ≡ pool_grants n size w
+from_object n size q w None there is stands = absurd (cc)
+from_object n size q w (Some o) there is stands = from_pool n size q w (block_pool_at n w.pools) is stands
+
+from_holder : (n size : ℕ) (q : Pool) (w : World) (y : Option Spot) → Some n ≡ number_in y → is_some (object_at n w) ≡ true → Some q ≡ option_map pool_of (block_pool_at n w.pools) → q.state ≡ Open → holder_grant y size w ≡ pool_grants n size w
+from_holder n size q w None held there is stands = absurd (cc)
+from_holder n size q w (Some s) held there is stands =
+    let same : n ≡ s.object = same_at n s.object (Some n) refl held in
+    subst (λ i. object_grant i size (object_at i w) w ≡ pool_grants n size w) same (from_object n size q w (object_at n w) there is stands)
+
+pub open_grants : (code : Code) (e : Kept) (k : List T.Frame) (ops : List Word) (w : World) (y : Option Spot) (n size : ℕ) (q : Pool) → Holds code e k ops w → Some n ≡ number_in y → is_some (object_in n e.objects) ≡ true → Some q ≡ option_map pool_of (block_pool_at n w.pools) → q.state ≡ Open
+    → holder_grant y size w ≡ pool_grants n size w
+open_grants code e k ops w y n size q h held there is stands = from_holder n size q w y held (ap (λ o. is_some o) (object_shown code e k ops w n h) ∙ there) is stands
+
+-- An object is put there -------------------------------------------------------------------------------------
+
+-- each cell of an object has its storage units
+pub units_suffice : (code : Code) (t : ℕ) → IsValid code → 8 * size_of code t ≤ units_of code t
+units_suffice code t v = by (slice_get code.layouts.items t) refl
+  where
+    by : (o : Option Layout) → slice_get code.layouts.items t ≡ o → 8 * size_in o ≤ units_in o
+    by None is = omega arith
+    by (Some x) is = (v.layouts t x is).units
+
+-- the stock has one object more, and its needs are the same
+pub member_kept : (e : Kept) (x : Stock) (next set t size cells : ℕ) (place : Place) → next ≡ e.next_object → size ≡ cells → x.objects ≡ e.objects ++ new_object next (Record t) (replicate size 0) (Allocated set place) ∷ [] → x.needs ≡ e.needs
+    → record (with_stock x e) { next_object = e.next_object + 1 } ≡ with_new_member set t place (replicate cells 0) x e
+member_kept e x next set t size cells place at all objects needs =
+    ap (λ (os : List Object). record (with_stock x e) { objects = os; next_object = e.next_object + 1 }) objects
+    ∙ (ap (λ l. record (with_stock x e) { objects = e.objects ++ new_object next (Record t) (replicate size 0) (Allocated set place) ∷ []; needs = l; next_object = e.next_object + 1 }) needs
+    ∙ (ap (λ n. with_so n size) at ∙ ap (λ n. with_so e.next_object n) all))
+  where
+    with_so : ℕ → ℕ → Kept
+    with_so n count = record e { objects = e.objects ++ new_object n (Record t) (replicate count 0) (Allocated set place) ∷ []; sizes = x.sizes; blocks = x.blocks; given = x.given; next_object = e.next_object + 1 }
+
+-- in the standard pool
+pub standard_shown : (code : Code) (set t next : ℕ) (w : World) (x : Stock) → ShowsPools next w.pools x → ShowsPools next (with_member code set t Standard w).pools x
+unfolding opened_changes
+standard_shown code set t next w x h = h
+
+-- in a block
+block_shown : (code : Code) (set t n a next : ℕ) (v : World) (x : Stock) → ShowsPools next (hold_block n a v.ledger.next_object v.pools) x → ShowsPools next (with_member code set t (InBlock n a) v).pools x
+unfolding opened_changes
+block_shown code set t n a next v x h = h
+
+-- the block that went out
+abbrev pub IsPutThere : Code → Kept → Kept → ℕ → ℕ → ℕ → ℕ → ℕ → World → Type 0
+IsPutThere code old new set t n size a w = (new ≡ with_new_member set t (InBlock n a) (replicate (size_of code t) 0) (stock_of new) old) × ShowsPools (old.next_object + 1) (hold_block n a old.next_object (with_taken n size w.pools)) (stock_of new)
+
+pub adds_block : (code : Code) (old new : Kept) (k : List T.Frame) (ops : List Word) (set t n size a : ℕ) (w : World) → Holds code old k ops w → Some a ≡ taken_at n size w.pools → IsPutThere code old new set t n size a w → Adds code old new set t w (pool_grants n size w)
+unfolding opened_changes
+adds_block code old new k ops set t n size a w h taken put = by (is_exhausted_at n size w.pools) taken put.1
+  where
+    by : (full : Bool) → Some a ≡ (if full then None else Some w.pools.next_address) → ShowsPools (old.next_object + 1) (hold_block n a old.next_object (if full then w.pools else take_block n w.pools)) (stock_of new) → Adds code old new set t w (block_unless full n w)
+    by true e shown = absurd (cc)
+    by false e shown =
+        let same : a ≡ w.pools.next_address = same_at a w.pools.next_address (Some a) refl e in
+        let v : World = in_pools (take_block n) w in
+        let at : v.ledger.next_object ≡ old.next_object = h.next_object in
+        record {
+          granted = refl;
+          member = subst (λ i. IsNewMember code old new set t (InBlock n i) v) same (record {
+            kept = put.0;
+            pools = block_shown code set t n a (old.next_object + 1) v (stock_of new) (subst (λ i. ShowsPools (old.next_object + 1) (hold_block n a i (take_block n w.pools)) (stock_of new)) (sym at) shown);
+          });
+        }
+
+-- no block is free
+pub lacks_block : (n size : ℕ) (w : World) → None ≡ taken_at n size w.pools → Lacks (pool_grants n size w) (ModeOf.Transfers (WayOf.Raise 2))
+lacks_block n size w taken = by (is_exhausted_at n size w.pools) taken
+  where
+    by : (full : Bool) → None ≡ (if full then None else Some w.pools.next_address) → Lacks (block_unless full n w) (ModeOf.Transfers (WayOf.Raise 2))
+    by true e = refl
+    by false e = absurd (cc)
+
+-- By an access type ------------------------------------------------------------------------------------------
+
+-- the pool of an access type, as it is read
+pub pool_read : (code : Code) (access t : ℕ) (a : AccessHome) (s : State) → slice_get code.accesses.items access ≡ Some a → storage_seen code access t s ≡ grant a.pool (first_display (heads_of s.world.activations)) (units_of code t) s.world
+pool_read code access t a s found = ap (λ (o : Option AccessHome). grant (pool_in o) (first_display (heads_of s.world.activations)) (units_of code t) s.world) found
+
+-- two changes, of which the first keeps all
+pub goes_both : (old mid new : Engine) (mode : Mode) → GoesOn old mid old.mode old.cells.items → GoesOn mid new mode mid.cells.items → GoesOn old new mode old.cells.items
+goes_both old mid new mode a b = record { mode = b.mode; kept = b.kept ∙ a.kept; events = b.events ∙ a.events; picks = b.picks ∙ a.picks }
+
+-- what comes of it is the same, where room was made before
+pub serves_after : (code : Code) (old mid new : Engine) (set t : ℕ) (w : World) (g : Grant) (r : Option Mode) → GoesOn old mid old.mode old.cells.items → Serves code mid new set t w g r → Serves code old new set t w g r
+serves_after code old mid new set t w g None a h = subst (λ (e : Kept). Adds code e (kept new) set t w g) a.kept h
+serves_after code old mid new set t w g (Some mode) a h = (h.0, goes_both old mid new old.mode a (subst (λ (m : Mode). GoesOn mid new m mid.cells.items) a.mode h.1))
