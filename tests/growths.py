@@ -34,6 +34,7 @@ JOBS = [
     ("refused_copy.adb", ["run"], []),
     ("rolled_back.adb", ["run"], ["--trace"]),
     ("freed_list.adb", ["run"], ["--trace"]),
+    ("counting_pool.adb", ["run"], ["--trace"]),
     (None, ["check"], []),
     (None, ["run"], []),
 ]

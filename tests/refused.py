@@ -29,6 +29,20 @@ POOLS = "with Block_Pools; use Block_Pools; procedure Main is "
 
 ADDRESSES = "with System; with System.Storage_Elements; use System.Storage_Elements; " + POOLS
 
+ALLOCATE = "procedure Allocate (Pool : in out K; A : out System.Address; S, L : in Storage_Count)"
+
+DEALLOCATE = "procedure Deallocate (Pool : in out K; A : in System.Address; S, L : in Storage_Count)"
+
+# a pool type with an Allocate of its own, which passes on what is asked, with a record type before its body
+OWN_POOL = (
+    ADDRESSES
+    + "type K is new Block_Pool with null record; "
+    + ALLOCATE
+    + "; type R is record N : Integer; end record; type L is access R; "
+    + ALLOCATE
+    + " is begin Allocate (Block_Pool (Pool), A, S, L); end Allocate; "
+)
+
 MARK_POOLS = "with MR_Pools; use MR_Pools; procedure Main is "
 
 NESTED = "procedure Main is X : Integer; begin X := {}1{}; end Main;"
@@ -163,21 +177,29 @@ TEXTS = [
     (ITEM + "type R is record N : Integer; end record; type P is access all R; X : aliased R; V : P; begin V := X'Access; end Main;", ACCEPTED, 1, 1),
     ("with Ada.Unchecked_Deallocation; " + ITEM + "type R is record N : Integer; end record; type P is access R; procedure Free is new Ada.Unchecked_Deallocation (R, P); V : P; begin Free (V); end Main;", ACCEPTED, 1, 1),
     (ITEM + "type R is record N : Integer; end record; type P is access R; type Q is access P; V : Q; begin V := new P'(null); end Main;", 12, 1, 114),
-    # block pools are run, by themselves and extended, whose discriminants are computed from literals
+    # block pools are run, by themselves and extended
     (POOLS + "P : Block_Pool (16, 4); type R is record N : Integer; end record; type A is access R; for A'Storage_Pool use P; V : A; begin V := new R; V.N := 1; end Main;", ACCEPTED, 1, 1),
     (POOLS + "type R is record N : Integer; end record; P : Block_Pool (Block_Count => 4, Block_Size => 16); type A is access R with Storage_Pool => P; X : R; V : A := new R'(X); begin null; end Main;", ACCEPTED, 1, 1),
     (POOLS + "type K is new Block_Pool with record N : Integer := 1; end record; procedure Finalize (X : in out K); procedure Finalize (X : in out K) is begin X.N := 2; end Finalize; P : K (8, 1); begin P.N := P.N + 1; end Main;", ACCEPTED, 1, 1),
     (POOLS + "P : Block_Pool (4 + 4, 1); begin null; end Main;", ACCEPTED, 1, 1),
     (POOLS + "P : Block_Pool (16, 1); procedure Q (X : in out Block_Pool) is begin null; end Q; begin Q (P); end Main;", ACCEPTED, 1, 1),
-    # a pool type with an Allocate or a Deallocate of its own is left out at its heading, but where no object has that type
-    (ADDRESSES + "type K is new Block_Pool with null record; procedure Allocate (Pool : in out K; A : out System.Address; S, L : in Storage_Count); procedure Allocate (Pool : in out K; A : out System.Address; S, L : in Storage_Count) is begin null; end Allocate; P : K (16, 1); begin null; end Main;", 12, 1, 169),
-    (ADDRESSES + "type K is new Block_Pool with null record; procedure Deallocate (Pool : in out K; A : in System.Address; S, L : in Storage_Count); procedure Deallocate (Pool : in out K; A : in System.Address; S, L : in Storage_Count) is begin null; end Deallocate; P : K (16, 1); begin null; end Main;", 12, 1, 169),
-    (ADDRESSES + "type K is new Block_Pool with null record; procedure Deallocate (Pool : in out K; A : in System.Address; S, L : in Storage_Count); procedure Deallocate (Pool : in out K; A : in System.Address; S, L : in Storage_Count) is begin null; end Deallocate; begin null; end Main;", ACCEPTED, 1, 1),
-    # calls of the library's operations, variables of type Storage_Count and Address, and conversions to the first
-    (ADDRESSES + "P : Block_Pool (16, 1); A : System.Address; begin Allocate (P, A, 8, 8); end Main;", 12, 1, 150),
-    (POOLS + "P : Block_Pool (16, 1); begin Finalize (P); end Main;", 12, 1, 84),
-    (ADDRESSES + "N : Storage_Count := 8; P : Block_Pool (N, 1); begin null; end Main;", 12, 1, 126),
+    # pool types with an Allocate or a Deallocate of their own are run, and so are allocators that call it; but none with a value in such a program
+    (ADDRESSES + f"type K is new Block_Pool with null record; {ALLOCATE}; {ALLOCATE} is begin null; end Allocate; P : K (16, 1); begin null; end Main;", ACCEPTED, 1, 1),
+    (ADDRESSES + f"type K is new Block_Pool with null record; {DEALLOCATE}; {DEALLOCATE} is begin null; end Deallocate; P : K (16, 1); begin null; end Main;", ACCEPTED, 1, 1),
+    (OWN_POOL + "begin declare P : K (16, 1); type M is access R with Storage_Pool => P; V : M; begin V := new R; V.N := 1; end; end Main;", ACCEPTED, 1, 1),
+    (OWN_POOL + "begin declare P : K (16, 1); type M is access R with Storage_Pool => P; X : R; V : M; begin V := new R'(X); end; end Main;", 12, 1, 108),
+    (OWN_POOL + "X : R; V : L; begin V := new R'(X); end Main;", 12, 1, 108),
+    # calls of the library's Allocate and Deallocate are run where the address goes to a variable, but none of its Finalize
+    (ADDRESSES + "P : Block_Pool (16, 1); A : System.Address; begin Allocate (P, A, 8, 8); Deallocate (P, A, 8, 8); end Main;", ACCEPTED, 1, 1),
+    (ADDRESSES + "type R is record A : System.Address; end record; X : R; P : Block_Pool (16, 1); begin Allocate (P, X.A, 8, 8); end Main;", 12, 1, 108),
+    (POOLS + "P : Block_Pool (16, 1); begin Finalize (P); end Main;", 12, 1, 36),
+    # and variables, components, formals and results of the types Storage_Count and Address; but no conversions
+    (ADDRESSES + "N, M : Storage_Count := 8; A, B : System.Address; begin if N < M and A = B then N := M + 1; A := B; end if; end Main;", ACCEPTED, 1, 1),
+    (ADDRESSES + "type R is record N : Storage_Count := 8; A : System.Address; end record; X : R; begin X.N := X.N * 2; X.A := System.Null_Address; end Main;", ACCEPTED, 1, 1),
+    (ADDRESSES + "function F (N : Storage_Count) return Storage_Count is begin return N + 1; end F; N : Storage_Count; begin N := F (N); end Main;", ACCEPTED, 1, 1),
+    (ADDRESSES + "N : Storage_Count := 8; P : Block_Pool (N, 1); begin null; end Main;", ACCEPTED, 1, 1),
     (ADDRESSES + "P : Block_Pool (Storage_Count (8), 1); begin null; end Main;", 12, 1, 126),
+    (ADDRESSES + "N : Storage_Count; I : Integer := 3; begin N := Storage_Count (I); end Main;", 12, 1, 108),
     # a discriminant that is read: only types tell it from a component
     (POOLS + "P, Q : Block_Pool (16, 4); begin if P.Block_Size = Q.Block_Size then null; end if; end Main;", 12, 1, 36),
     (POOLS + "P : Block_Pool (16, 4); Q : Block_Pool (P.Block_Size, 1); begin null; end Main;", 12, 1, 78),

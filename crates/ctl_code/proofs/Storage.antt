@@ -11,18 +11,21 @@ use Rattle.ctl_meaning.specs.Finalization.{Spot}
 use Rattle.ctl_meaning.specs.Activations.{master_of}
 use Rattle.ctl_meaning.specs.Pools.{block_at, block_pool_at, give_block, take_block}
 use Rattle.ctl_meaning.specs.Changes.{close_pool_at, in_pools, is_vacant, object_at, slot_at}
-use Rattle.ctl_code.specs.Table.{Grant, Granted, Exhausted, UnknownPool, GivenBack, Returned, NotReturned, block_grant, pool_grant, object_grant, holder_grant, grant, block_return, pool_return, object_return, return_to, closed_if, with_end, spot_of}
+use Rattle.ctl_code.specs.declared.code.Code.{Code}
+use Rattle.ctl_code.specs.Table.{Grant, Granted, Exhausted, UnknownPool, AllocateOf, GivenBack, Returned, NotReturned, DeallocateOf, operation_for, block_grant, pool_grant, own_grant, object_grant, holder_grant, grant, block_return, pool_return, own_return, object_return, return_to, closed_if, with_end, spot_of}
 
 -- where storage was granted this holds of the world then
 abbrev pub OnGrant : (World → Type 0) → Grant → Type 0
 OnGrant P (Granted place w) = P w
 OnGrant P Exhausted = Unit {0}
 OnGrant P UnknownPool = Unit {0}
+OnGrant P (AllocateOf o f) = Unit {0}
 
 -- and where it was given back
 abbrev pub OnReturn : (World → Type 0) → GivenBack → Type 0
 OnReturn P (Returned w) = P w
 OnReturn P (NotReturned s) = Unit {0}
+OnReturn P (DeallocateOf o a f) = Unit {0}
 
 module _ (P : World → Type 0) (in_pools_holds : (f : Pools → Pools) (w : World) → P w → P (in_pools f w)) where
   of_block : (n size : ℕ) (p : BlockPool) (w : World) → P w → OnGrant P (block_grant n size p w)
@@ -33,21 +36,25 @@ module _ (P : World → Type 0) (in_pools_holds : (f : Pools → Pools) (w : Wor
       by false true = tt
       by false false = in_pools_holds (take_block n) w h
 
-  of_pool : (n size : ℕ) (p : Option BlockPool) (w : World) → P w → OnGrant P (pool_grant n size p w)
-  of_pool n size None w h = tt
-  of_pool n size (Some p) w h = of_block n size p w h
+  pub granted_of_pool : (n size : ℕ) (p : Option BlockPool) (w : World) → P w → OnGrant P (pool_grant n size p w)
+  granted_of_pool n size None w h = tt
+  granted_of_pool n size (Some p) w h = of_block n size p w h
 
-  of_object : (n size : ℕ) (o : Option Object) (w : World) → P w → OnGrant P (object_grant n size o w)
-  of_object n size None w h = tt
-  of_object n size (Some o) w h = of_pool n size (block_pool_at n w.pools) w h
+  of_own : (f : Option ℕ) (size : ℕ) (o : Object) (w : World) → P w → OnGrant P (own_grant f size o w)
+  of_own None size o w h = granted_of_pool o.number size (block_pool_at o.number w.pools) w h
+  of_own (Some f) size o w h = tt
 
-  of_holder : (s : Option Spot) (size : ℕ) (w : World) → P w → OnGrant P (holder_grant s size w)
-  of_holder None size w h = tt
-  of_holder (Some s) size w h = of_object s.object size (object_at s.object w) w h
+  of_object : (code : Code) (size : ℕ) (o : Option Object) (w : World) → P w → OnGrant P (object_grant code size o w)
+  of_object code size None w h = tt
+  of_object code size (Some o) w h = of_own (operation_for (λ x. x.allocate) code o.ty) size o w h
 
-  pub granted_keeps : (pool : Option Var) (d : List ℕ) (size : ℕ) (w : World) → P w → OnGrant P (grant pool d size w)
-  granted_keeps None d size w h = h
-  granted_keeps (Some v) d size w h = of_holder (spot_of (slot_at (master_of d v) v.slot w).content) size w h
+  of_holder : (code : Code) (s : Option Spot) (size : ℕ) (w : World) → P w → OnGrant P (holder_grant code s size w)
+  of_holder code None size w h = tt
+  of_holder code (Some s) size w h = of_object code size (object_at s.object w) w h
+
+  pub granted_keeps : (code : Code) (pool : Option Var) (d : List ℕ) (size : ℕ) (w : World) → P w → OnGrant P (grant code pool d size w)
+  granted_keeps code None d size w h = h
+  granted_keeps code (Some v) d size w h = of_holder code (spot_of (slot_at (master_of d v) v.slot w).content) size w h
 
   to_block : (n a : ℕ) (p : BlockPool) (w : World) → P w → OnReturn P (block_return n a p w)
   to_block n a p w h = by (not p.is_open) (is_vacant w (block_at a p))
@@ -57,18 +64,22 @@ module _ (P : World → Type 0) (in_pools_holds : (f : Pools → Pools) (w : Wor
       by false true = in_pools_holds (give_block n a) w h
       by false false = tt
 
-  to_pool : (n a : ℕ) (p : Option BlockPool) (w : World) → P w → OnReturn P (pool_return n a p w)
-  to_pool n a None w h = tt
-  to_pool n a (Some p) w h = to_block n a p w h
+  pub returned_to_pool : (n a : ℕ) (p : Option BlockPool) (w : World) → P w → OnReturn P (pool_return n a p w)
+  returned_to_pool n a None w h = tt
+  returned_to_pool n a (Some p) w h = to_block n a p w h
 
-  to_object : (n a : ℕ) (o : Option Object) (w : World) → P w → OnReturn P (object_return n a o w)
-  to_object n a None w h = tt
-  to_object n a (Some o) w h = to_pool n a (block_pool_at n w.pools) w h
+  to_own : (f : Option ℕ) (a : ℕ) (o : Object) (w : World) → P w → OnReturn P (own_return f a o w)
+  to_own None a o w h = returned_to_pool o.number a (block_pool_at o.number w.pools) w h
+  to_own (Some f) a o w h = tt
 
-  pub returned_keeps : (place : Place) (w : World) → P w → OnReturn P (return_to place w)
-  returned_keeps Standard w h = h
-  returned_keeps (InBlock n a) w h = to_object n a (object_at n w) w h
-  returned_keeps (InSubpool s) w h = h
+  to_object : (code : Code) (a : ℕ) (o : Option Object) (w : World) → P w → OnReturn P (object_return code a o w)
+  to_object code a None w h = tt
+  to_object code a (Some o) w h = to_own (operation_for (λ x. x.deallocate) code o.ty) a o w h
+
+  pub returned_keeps : (code : Code) (place : Place) (w : World) → P w → OnReturn P (return_to code place w)
+  returned_keeps code Standard w h = h
+  returned_keeps code (InBlock n a) w h = to_object code a (object_at n w) w h
+  returned_keeps code (InSubpool s) w h = h
 
 module _ (P : World → Type 0) (closed_holds : (n : ℕ) (w : World) → P w → P (close_pool_at n w)) where
   of_closed : (p : Option BlockPool) (n : ℕ) (w : World) → P w → P (closed_if p n w)

@@ -14,13 +14,13 @@ ghost use Rattle.ctl_code.specs.Valid.{HasFormals, HaveOperands, IsCalled, IsOpe
 ghost use Rattle.ctl_code.specs.Windows.{depth, height, variable_at};
 
 use crate::accesses::{
-    is_free_fine, is_free_part_fine, is_gather_fine, is_new_copy_fine, is_new_fine,
+    is_free_fine, is_free_part_fine, is_gather_fine, is_new_copy_fine, is_new_fine, is_new_in_fine,
 };
 use crate::code::{Cell, Code, Instr, Named, Operator, Way};
 use crate::images::count_images;
 use crate::kinds::{Kind, is_same_kind};
 use crate::layouts::{is_declarable, is_in_scope};
-use crate::pools::is_pool_fine;
+use crate::pools::{is_giving_fine, is_pool_fine, is_taking_fine};
 use crate::types::{is_binary_of, is_cell_of, is_scalar, is_unary_of};
 use ctl_program::operators::SubprogramKind;
 use ctl_program::types::Ty;
@@ -135,7 +135,7 @@ fn taken(code: &Code, place: usize, before: usize, cell: Cell, ty: Ty) -> Option
 }
 
 /// Tells whether a new operand stands in this cell, where so many were taken, and the next place finds it.
-pub(crate) fn puts_operand(code: &Code, place: usize, taken: usize, at: usize, ty: Ty) -> bool
+fn puts_operand(code: &Code, place: usize, taken: usize, at: usize, ty: Ty) -> bool
     requires { place + 1 < 2 ^ 64 }
     ensures { let stack = drop taken (stack_at code.now.kinds place) in
         IsTrue result ↔ ((at ≡ height stack) × Leads code.now (place + 1) (Operand ty ∷ stack)) }
@@ -213,7 +213,7 @@ fn drops(code: &Code, place: usize, from: Cell, ty: Ty) -> bool
 }
 
 /// Tells whether a part of this record type stands on top, where so many were taken.
-fn is_part(code: &Code, place: usize, before: usize, record: usize) -> bool
+pub(crate) fn is_part(code: &Code, place: usize, before: usize, record: usize) -> bool
     requires { before + 1 < 2 ^ 64 }
     ensures { let stack = stack_at code.now.kinds place in
         IsTrue result ↔ (drop before stack ≡ Operand (Record «record») ∷ drop (before + 1) stack) }
@@ -729,6 +729,13 @@ pub fn is_fine(code: &Code, place: usize, instr: &Instr) -> bool
             ty,
             at,
         } => is_new_copy_fine(code, place, access, record, ty, at),
+        Instr::NewIn { record, ty, at } => is_new_in_fine(code, place, record, ty, at),
+        Instr::TakeBlock {
+            record,
+            out: _,
+            slot: _,
+        } => is_taking_fine(code, place, record),
+        Instr::GiveBlock { record } => is_giving_fine(code, place, record),
         Instr::Free { access, .. } => is_free_fine(code, place, access),
         Instr::FreePart { access, record, .. } => is_free_part_fine(code, place, access, record),
         Instr::Dereference { record, at } => is_dereference_fine(code, place, record, at),

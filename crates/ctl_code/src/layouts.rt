@@ -7,7 +7,7 @@ ghost use Rattle.ctl_code.specs.declared.code.Begun.{Begun as BegunOf};
 ghost use Rattle.ctl_code.specs.declared.code.Layout.{Layout as LayoutOf};
 ghost use Rattle.ctl_code.specs.Table as Table;
 ghost use Rattle.ctl_code.specs.Valid as valid;
-ghost use Rattle.ctl_code.specs.Valid.{AreBegunBy, AreInScope, IsBegunBy, IsDeclarable, IsInScope, IsLaid, PositionsRise, told_before};
+ghost use Rattle.ctl_code.specs.Valid.{AreBegunBy, AreInScope, IsBegunBy, IsDeclarable, IsInScope, IsLaid, IsStorageInScope, PositionsRise, told_before};
 
 use crate::code::{Begun, Code, Initial, Layout, Parts};
 
@@ -160,6 +160,19 @@ fn are_in_scope(code: &Code, masters: usize, number: usize) -> bool
     }
 }
 
+/// Tells whether the Allocate and the Deallocate of a record type are declared in some of so many masters around (RM 13.11).
+fn is_storage_in_scope(code: &Code, masters: usize, number: usize) -> bool
+    ensures { IsTrue result ↔ IsStorageInScope code.now masters number }
+{
+    match code.records.get(number) {
+        Some(operations) => {
+            is_in_scope(code, masters, operations.allocate)
+                && is_in_scope(code, masters, operations.deallocate)
+        }
+        None => false,
+    }
+}
+
 /// Tells whether each cell of an object has its storage units (RM 13.3).
 fn has_units(layout: &Layout) -> bool
     ensures { IsTrue result ↔ (8 * layout.now.cells ≤ layout.now.units) }
@@ -178,6 +191,7 @@ fn is_laid(code: &Code, number: usize, layout: &Layout) -> bool
     if !are_in_scope(code, layout.level, number)
         || !are_begun_by(code, layout)
         || !has_units(layout)
+        || !is_storage_in_scope(code, layout.level, number)
     {
         return false;
     }

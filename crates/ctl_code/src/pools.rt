@@ -2,13 +2,14 @@
 
 ghost use Rattle.std.specs.Prelude.{◌≡◌, ◌↔◌, ℕ, ◌+◌, ◌^◌, ◌<◌, [], ◌∷◌, drop, IsTrue};
 ghost use Rattle.ctl_program.specs.declared.types.Ty.TheVariants.{Count};
+ghost use Rattle.ctl_code.specs.declared.code.Instr.TheVariants as I;
 ghost use Rattle.ctl_code.specs.declared.kinds.Kind.TheVariants.{Operand};
 ghost use Rattle.ctl_code.specs.Kinds.{stack_at};
-ghost use Rattle.ctl_code.specs.Valid.{IsDeclarable, Leads, Under};
+ghost use Rattle.ctl_code.specs.Valid.{DropsPart, IsDeclarable, IsFine, Leads, Under};
 ghost use Rattle.ctl_code.specs.Windows.{depth, height};
 
 use crate::code::Code;
-use crate::fine::{has, is_operand, leads_on};
+use crate::fine::{drops_part, has, is_operand, leads_on};
 use crate::kinds::Kind;
 use crate::layouts::is_declarable;
 use ctl_program::types::Ty;
@@ -19,6 +20,31 @@ fn has_discriminants(code: &Code, place: usize, at: usize) -> bool
         IsTrue result ↔ ((stack ≡ Operand Count ∷ Operand Count ∷ drop 2 stack) × (at ≡ height (drop 2 stack))) }
 {
     has(code, place, 0, Kind::Operand(Ty::Count)) && is_operand(code, place, 1, at, Ty::Count)
+}
+
+/// Tells whether a size and an alignment stand on top.
+fn has_request(code: &Code, place: usize) -> bool
+    ensures { let stack = stack_at code.now.kinds place in IsTrue result ↔ (stack ≡ Operand Count ∷ Operand Count ∷ drop 2 stack) }
+{
+    has(code, place, 0, Kind::Operand(Ty::Count)) && has(code, place, 1, Kind::Operand(Ty::Count))
+}
+
+/// Checks a call of the library's Allocate: the part that is the pool stands below a size and an alignment (RM 13.11).
+pub(crate) fn is_taking_fine(code: &Code, place: usize, record: usize) -> bool
+    requires { place + 1 < 2 ^ 64 }
+    ensures { IsTrue result ↔ Under (Operand Count ∷ Operand Count ∷ []) (stack_at code.now.kinds place) (DropsPart code.now place «record») }
+{
+    has_request(code, place) && drops_part(code, place, 2, record)
+}
+
+/// Checks a call of the library's Deallocate: the part that is the pool stands below an address, a size and an alignment (RM 13.11).
+pub(crate) fn is_giving_fine(code: &Code, place: usize, record: usize) -> bool
+    requires { place + 1 < 2 ^ 64 }
+    ensures { IsTrue result ↔ IsFine code.now place (I.GiveBlock «record») (stack_at code.now.kinds place) }
+{
+    has_request(code, place)
+        && has(code, place, 2, Kind::Operand(Ty::Address))
+        && drops_part(code, place, 3, record)
 }
 
 /// Checks the declaration of a block pool: its discriminants stand on top, the first of them in this cell (RM 13.11).

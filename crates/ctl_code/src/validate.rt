@@ -7,7 +7,7 @@ ghost use Rattle.ctl_code.specs.declared.code.Entry.{Entry};
 ghost use Rattle.ctl_code.specs.declared.code.Instr.{Instr};
 ghost use Rattle.ctl_code.specs.declared.code.Operations.{Operations};
 ghost use Rattle.ctl_code.specs.Kinds.{stack_at};
-ghost use Rattle.ctl_code.specs.Valid.{IsBegun, IsFine, IsStarted, IsValid, MayBeEntry, TakesObject};
+ghost use Rattle.ctl_code.specs.Valid.{IsBegun, IsFine, IsStarted, IsValid, MayBeEntry, TakesObject, TakesStorage};
 
 use crate::code::{Code, Instr};
 use crate::fine::{has_formals, is_entry, is_fine};
@@ -78,6 +78,33 @@ fn takes_object(code: &Code, number: Option<usize>) -> bool
     }
 }
 
+/// How many formals Allocate and Deallocate have: a pool, an address, a size and an alignment (RM 13.11).
+const STORAGE_FORMALS: usize = 4;
+
+/// Tells whether there is no operation, or a procedure whose body has slots for the formals of Allocate and Deallocate (RM 13.11).
+fn takes_storage(code: &Code, number: Option<usize>) -> bool
+    ensures { IsTrue result ↔ TakesStorage code.now number }
+{
+    match number {
+        Some(number) => has_formals(code, SubprogramKind::Procedure, number, STORAGE_FORMALS),
+        None => true,
+    }
+}
+
+/// Tells whether each Allocate and Deallocate of a record type has slots for what is allocated (RM 13.11).
+fn is_storage_fine(code: &Code) -> bool
+    ensures { IsTrue result ↔ ((t : ℕ) (o : Operations) → slice_get code.now.records.items t ≡ Some o → TakesStorage code.now o.allocate × TakesStorage code.now o.deallocate) }
+{
+    for operations in &code.records {
+        if !takes_storage(code, operations.allocate)
+            || !takes_storage(code, operations.deallocate)
+        {
+            return false;
+        }
+    }
+    true
+}
+
 /// Tells whether each operation of a record type has a slot for its object (RM 7.6).
 fn are_formals_fine(code: &Code) -> bool
     ensures { IsTrue result ↔ ((t : ℕ) (o : Operations) → slice_get code.now.records.items t ≡ Some o → TakesObject code.now o.initialize × TakesObject code.now o.finalize × TakesObject code.now o.adjust) }
@@ -117,7 +144,7 @@ pub fn is_valid(code: &Code) -> bool
     if !is_started(code) || !are_stacks_fine(code) || !are_instructions_fine(code) {
         return false;
     }
-    if !are_formals_fine(code) || !are_layouts_fine(code) {
+    if !are_formals_fine(code) || !is_storage_fine(code) || !are_layouts_fine(code) {
         return false;
     }
     are_entries_fine(code) && are_records_fine(code)

@@ -135,14 +135,14 @@ module _ (ask : Ask) (k : Tables) (code : Code) (setting : Setting k code) (call
   adjusted_is s t a ks notes l w = ap (λ x. gives x (Fine (handed a.failed)) (tell_all (birth_in code made s t) l) w) (notes s.path a.paths)
 
   -- after the execution of its own Adjust, one that raised is remembered
-  over : (s : Spot) (t : ℕ) (a : Adjusted) (ks : Noted) → Notes made ks → (s0 : State) (c : ℕ) (x : Out Returned) → Runs ask code (Told k code wr) 2 3 s0 c (returns (AdjustingOwn made s t a.failed ∷ ks a.paths)) x → Adjusts 3 3 s0 c ks (after_own s t a (bind (add 0 x) (on_goes (λ _. nothing))))
+  over : (s : Spot) (t : ℕ) (a : Adjusted) (ks : Noted) → Notes made ks → (s0 : State) (c : ℕ) (x : Out Returned) → Runs ask code (Told k code wr) 0 3 s0 c (returns (AdjustingOwn made s t a.failed ∷ ks a.paths)) x → Adjusts 3 3 s0 c ks (after_own s t a (bind (add 0 x) (on_goes (λ _. nothing))))
   unfolding picked opened_outcome after_adjust
   over s t a ks notes s0 c (Gives (Goes v) u c1 l w) z =
       subst (λ y. Adjusts 3 3 s0 c ks (add (0 + u + 0 + 0) y)) (sym (after_is s t a c1 l w))
-      (then_step ask code (Sure k code wr) 2 3 s0 _ _ c c1 u _ z (adjusted_is s t a ks notes l w) (tt, z.fits.1) (omega arith))
+      (then_step ask code (Sure k code wr) 0 3 s0 _ _ c c1 u _ z (adjusted_is s t a ks notes l w) (tt, z.fits.1) (omega arith))
   over s t a ks notes s0 c (Gives (Leaves y) u c1 l w) z =
-      by_raise (λ x. Runs ask code (Told k code wr) 2 3 s0 c (returns {A = Returned} (AdjustingOwn made s t a.failed ∷ ks a.paths)) (Gives (Leaves x) u c1 l w) → Adjusts 3 3 s0 c ks (after_own s t a (bind {A = Returned} (add 0 (Gives (Leaves x) u c1 l w)) (on_goes (λ _. nothing)))))
-      (λ e z1. then_step ask code (Sure k code wr) 2 3 s0 _ _ c c1 u _ z1 refl (tt, z1.fits.1) (omega arith)) y z.fits.0 z
+      by_raise (λ x. Runs ask code (Told k code wr) 0 3 s0 c (returns {A = Returned} (AdjustingOwn made s t a.failed ∷ ks a.paths)) (Gives (Leaves x) u c1 l w) → Adjusts 3 3 s0 c ks (after_own s t a (bind {A = Returned} (add 0 (Gives (Leaves x) u c1 l w)) (on_goes (λ _. nothing)))))
+      (λ e z1. then_step ask code (Sure k code wr) 0 3 s0 _ _ c c1 u _ z1 refl (tt, z1.fits.1) (omega arith)) y z.fits.0 z
   over s t a ks notes s0 c (Stops why u l) z = more_quits ask code (Sure k code wr) 3 3 s0 u _ l why (omega arith) z
   over s t a ks notes s0 c (Cut u c1 l) z = more_halts ask code (Sure k code wr) 3 3 s0 c u _ l (omega arith) z
 

@@ -1,32 +1,36 @@
 -- Allocators: the code of one creates an object for the collection of its access type, by default or with the value of a part, or raises, as it
 -- means (4.8).
 use Rattle.std.proofs.Common.{◌≡◌, ◌≢◌, ℕ, zero, suc, ◌+◌, ◌≤◌, List, [], ◌∷◌, ◌++◌, length, append_assoc, length-append, Option, Some, None, Bool, true, false, refl, sym, ap, ◌∙◌, subst, arith, inl}
-use Rattle.std.specs.Prelude.{slice_get, replicate, ◌&&◌, ◌||◌, not, nat_eq, nat_lt, if◌then◌else◌, option_map}
+use Rattle.std.specs.Prelude.{drop, slice_get, replicate, ◌&&◌, ◌||◌, not, nat_eq, nat_lt, if◌then◌else◌, option_map}
 use Rattle.std.proofs.lemmas.Option.{slice_get_within}
+use Rattle.std.proofs.lemmas.Bool.{eqb-true}
 use Rattle.ctl_program.specs.declared.types.Ty.{Ty}
-use Rattle.ctl_program.specs.declared.types.Ty.TheVariants.{Record}
+use Rattle.ctl_program.specs.declared.types.Ty.TheVariants.{Integer, Count, Boolean, Address, Handle, Access, Record}
 use Rattle.ctl_program.specs.declared.types.AccessType.{AccessType}
 use Rattle.ctl_program.specs.declared.types.Root.{Root}
 use Rattle.ctl_program.specs.declared.types.Root.TheVariants as RootOf
 use Rattle.ctl_program.specs.declared.types.Var.{Var}
 use Rattle.ctl_program.specs.declared.expression.Actual.TheOpen.{Expr-F}
-use Rattle.ctl_tree.specs.declared.ending.Stop.TheVariants.{UseAfterFree}
+use Rattle.ctl_program.specs.declared.operators.SubprogramKind.TheVariants.{Procedure}
+use Rattle.ctl_tree.specs.declared.ending.Stop.TheVariants.{UseAfterFree, BadAddress}
+use Rattle.ctl_tree.specs.declared.event.Event.TheVariants.{Allocate}
 use Rattle.ctl_tree.specs.declared.event.Owner.TheVariants as OwnerOf
-use Rattle.ctl_meaning.specs.World.{Place, InBlock, Allocated, Object, Collection, Content, Nothing, Holds, Binds, Copies, Gathers, BlockPool, Log, World}
-use Rattle.ctl_meaning.specs.Lists.{opened_lists}
+use Rattle.ctl_meaning.specs.World.{Place, InBlock, Allocated, Object, Collection, Content, Nothing, Holds, Binds, Copies, Gathers, Slot, unset, BlockPool, Log, World}
+use Rattle.ctl_meaning.specs.Lists.{item_or, opened_lists}
 use Rattle.ctl_meaning.specs.Activations.{master_of}
 use Rattle.ctl_meaning.specs.Ledger.{collection_at}
-use Rattle.ctl_meaning.specs.Objects.{cells_at}
-use Rattle.ctl_meaning.specs.Pools.{block_pool_at, take_block}
-use Rattle.ctl_meaning.specs.Changes.{create_at, forget, in_pools, join, new_object, object_at, owner_of, slot_at}
+use Rattle.ctl_meaning.specs.Limits.{integer_last}
+use Rattle.ctl_meaning.specs.Objects.{cells_at, object_in}
+use Rattle.ctl_meaning.specs.Pools.{block_at, block_pool_at, take_block}
+use Rattle.ctl_meaning.specs.Changes.{create_at, forget, home_of as origin_home, in_pools, is_vacant, join, new_object, object_at, owner_of, slot_at}
 use Rattle.ctl_meaning.specs.Choice.{Ask, picked}
-use Rattle.ctl_meaning.specs.Outcome.{program_error, storage_error, ByRaise, Result, Goes, Leaves, Out, Gives, Stops, Cut, Act, Done, Fine, add, bind, on_goes, ◌>>=◌, ◌>>◌, done, nothing, raise, change, told, look, either, on_some, spend, opened_outcome}
+use Rattle.ctl_meaning.specs.Outcome.{constraint_error, program_error, storage_error, ByRaise, Result, Goes, Leaves, Out, Gives, Stops, Cut, Act, Done, Fine, add, bind, on_goes, ◌>>=◌, ◌>>◌, done, nothing, raise, change, show, stop, tell, told, look, either, on_some, spend, opened_outcome}
 use Rattle.ctl_meaning.specs.Types.{Tables, begin_cells, depth as table_depth, of_record, operation, record_of, root_of, size_of}
-use Rattle.ctl_meaning.specs.Names.{OfAllocator, Returned, Call, Default, Tools, existing, find_var, found_in, gone, must_exist, object_of, scalar_of, opened_names}
-use Rattle.ctl_meaning.specs.Finalization.{Spot, whole}
+use Rattle.ctl_meaning.specs.Names.{OfAllocator, OfSubprogram, Returned, Call, Default, Tools, existing, find_var, found_in, gone, must_exist, object_of, scalar_of, opened_names}
+use Rattle.ctl_meaning.specs.Finalization.{Spot, whole, with_home}
 use Rattle.ctl_meaning.specs.Adjustment.{Birth, birth_of}
 use Rattle.ctl_meaning.specs.Initialization.{fill, initialize, initialize_part}
-use Rattle.ctl_meaning.specs.Storage.{block_storage, library_allocate, storage, storage_in, user_allocate, with_block_pool}
+use Rattle.ctl_meaning.specs.Storage.{address_in, block_storage, library_allocate, storage, storage_actuals, storage_in, tested, user_allocate, with_block_pool}
 use Rattle.ctl_meaning.specs.Allocation.{allocate, allocate_for, created, created_or_gone, is_new, join_collection, refuses, set_in, set_of, with_set, opened_allocation}
 use Rattle.ctl_meaning.specs.Run.{completed}
 use Rattle.ctl_meaning.specs.Expressions.{Valued, eval_step, opened_expressions}
@@ -36,26 +40,27 @@ use Rattle.ctl_code.specs.declared.code.Instr.{Instr}
 use Rattle.ctl_code.specs.declared.code.Instr.TheVariants as InstrOf
 use Rattle.ctl_code.specs.declared.kinds.Kind.{Kind}
 use Rattle.ctl_code.specs.declared.kinds.Kind.TheVariants.{Operand}
-use Rattle.ctl_code.specs.States.{Move, Word, Scalar, Located, Complete, Point, AfterFunction, ByAllocator, Frame, Creating, Filling, State, whole_spot}
+use Rattle.ctl_code.specs.States.{Move, Word, Scalar, Located, Complete, Point, After, AfterFunction, AfterProcedure, ByAllocator, Frame, Creating, Filling, State, whole_spot}
 use Rattle.ctl_code.specs.Table as Table
-use Rattle.ctl_code.specs.Table.{Exhausted, Grant, Granted, Here, UnknownPool, begun_of, come_to_life, grant, is_refused, joins, newborn, pool_in, set_seen, size_of as code_size, units_of, with_member}
+use Rattle.ctl_code.specs.Table.{AllocateOf, Exhausted, Grant, Granted, Here, NotPassed, Passed, Test, UnknownPool, address_test, begun_of, come_to_life, first_value, grant, is_refused, joins, newborn, operation_for, operation_of, own_grant, pool_in, set_seen, size_of as code_size, units_of, with_member}
 use Rattle.ctl_code.proofs.Storage.{OnGrant, granted_keeps}
 use Rattle.ctl_code.specs.Steps.{moved, step}
-use Rattle.ctl_code.specs.Valid.{IsAllocable, IsDeclarable}
+use Rattle.ctl_code.specs.Valid.{IsAllocable, IsDeclarable, storage_formals}
 use Rattle.ctl_code.specs.Windows.{depth, height}
 use Rattle.ctl_layout.specs.Around.{Line}
 use Rattle.ctl_layout.specs.Parts.{OfVariable, Reached, part_code, part_runs}
+use Rattle.ctl_layout.specs.Records.{none_allocates}
 use Rattle.ctl_layout.specs.Values.{moved_to, new, new_copy}
 use Rattle.ctl_layout.specs.Layout.{home_of}
 use Rattle.ctl_gen.proofs.Known.{IsPlainType, no_allocate, no_mark_pool}
-use Rattle.ctl_gen.proofs.Each.{IfFound}
+use Rattle.ctl_gen.proofs.Each.{Each, IfFound, found_passes}
 use Rattle.ctl_gen.proofs.Parted.{GivesDefaults}
-use Rattle.ctl_gen.proofs.Collections.{found_number, home}
-use Rattle.ctl_gen.proofs.Worlds.{Fits, IsNoCopy, Settled, Since, allocated_there, keeps_itself, no_copy_at, object_fits, since_allocate, since_forget, since_granted, since_join, since_on}
-use Rattle.ctl_gen.proofs.Scopes.{type_inside}
+use Rattle.ctl_gen.proofs.Collections.{found_number, home, of_gathered}
+use Rattle.ctl_gen.proofs.Worlds.{Fits, IsNoCopy, IsPlainSlot, Settled, Since, allocated_there, keeps_itself, no_copy_at, object_fits, origin_nested, since_allocate, since_forget, since_granted, since_join, since_on, still_of}
+use Rattle.ctl_gen.proofs.Scopes.{allocate_in, type_inside}
 use Rattle.ctl_gen.proofs.CreatedParts.{IsAround, parts_run}
 use Rattle.ctl_gen.proofs.Allocable.{may_allocate}
-use Rattle.ctl_gen.proofs.Setting.{Setting, Allocates, Calls, IsSeen, MayAllocate, Told, by_allocator, returned_to, returns, tools_with}
+use Rattle.ctl_gen.proofs.Setting.{Setting, Allocates, Calls, IsSeen, IsServed, MayAllocate, Told, allocator_steps, allocator_takes, behind_allocator, by_allocator, enter_shows, returned_to, returns, tools_with}
 use Rattle.ctl_gen.proofs.Cells.{Any, OneCell, by_code, here, landed, landed_leaves}
 use Rattle.ctl_gen.proofs.Place.{Laid, laid_front, laid_back}
 use Rattle.ctl_gen.proofs.Calls.{point_at}
@@ -67,6 +72,20 @@ use Rattle.ctl_gen.proofs.Begun.{OnTime, Starts}
 use Rattle.ctl_gen.proofs.Walked.{start_of}
 use Rattle.ctl_gen.proofs.TakenValues as T
 use Rattle.ctl_gen.proofs.Follow.{RunsTo, add_none, at, bind_add, bind_bind, both_to, by_raise, gives, last_step_to, no_step_to, one_step_to, stop_step_to, transferred, way_of, within_to}
+
+-- the object that is found has the number that was looked for
+found_object : (n : ℕ) (w : World) (o : Object) → object_at n w ≡ Some o → o.number ≡ n
+unfolding object_at object_in
+found_object n w o there = eqb-true o.number n (found_passes (λ x. nat_eq x.number n) w.objects o there)
+
+-- the step of an allocator takes at most one from the clock, and so many steps are enough
+takes_few : (value : Option (List ℕ)) → allocator_takes value ≤ 1
+takes_few None = omega arith
+takes_few (Some v) = omega arith
+
+steps_enough : (value : Option (List ℕ)) → 7 ≤ allocator_steps value
+steps_enough None = omega arith
+steps_enough (Some v) = omega arith
 
 module _ (ask : Ask) (k : Tables) (code : Code) (setting : Setting k code) (call : Call) (default : Default) (constants : GivesDefaults k default) (bound : ℕ) (calls : Calls ask k code setting bound call) (t : ℕ) (plain : IsPlainType k (Record t)) where
   abbrev K : Tools
@@ -98,43 +117,55 @@ module _ (ask : Ask) (k : Tables) (code : Code) (setting : Setting k code) (call
   unfolding begin_cells
   cells_are = ap (λ i. replicate i 0) (sym (setting.sizes t plain.2.laid.is))
 
-  -- Storage (13.11) -------------------------------------------------------------------------------------
+  -- as many storage units as the table of the code says (13.3)
+  abbrev units : ℕ
+  units = size_of k (Record t)
 
-  -- what a request of storage gives
-  abbrev gives_place : Grant → Act Place
-  gives_place (Granted place w1) c l w = Gives (Goes place) 0 c l w1
-  gives_place Exhausted c l w = Gives (Leaves (ByRaise storage_error)) 0 c l w
-  gives_place UnknownPool c l w = Stops UseAfterFree 0 l
+  units_are : units_of code t ≡ units
+  units_are = setting.units t plain.2.laid.is
+
+  -- Storage (13.11) -------------------------------------------------------------------------------------
 
   -- a block is a place
   abbrev in_block : ℕ → ℕ → Act Place
   in_block n a = done (InBlock n a)
 
+  -- what a request of so many storage units gives
+  abbrev gives_place : ℕ → Grant → Act Place
+  gives_place size (Granted place w1) c l w = Gives (Goes place) 0 c l w1
+  gives_place size Exhausted c l w = Gives (Leaves (ByRaise storage_error)) 0 c l w
+  gives_place size UnknownPool c l w = Stops UseAfterFree 0 l
+  gives_place size (AllocateOf o f) c l w = bind (user_allocate K o.number size f c l w) (on_goes (in_block o.number))
+
   -- a block of a pool
   abbrev takes_block : ℕ → ℕ → BlockPool → Act ℕ
   takes_block n size p = either p.is_open (either (nat_eq p.free 0 || nat_lt p.block_size size) (raise storage_error) (look (λ w. change (in_pools (take_block n)) >> done w.pools.next_address))) gone
 
-  block_is : (n size : ℕ) (p : BlockPool) (c : ℕ) (l : Log) (w : World) → bind (takes_block n size p c l w) (on_goes (in_block n)) ≡ gives_place (Table.block_grant n size p w) c l w
+  block_is : (n size : ℕ) (p : BlockPool) (c : ℕ) (l : Log) (w : World) → bind (takes_block n size p c l w) (on_goes (in_block n)) ≡ gives_place size (Table.block_grant n size p w) c l w
   unfolding opened_outcome opened_names
   block_is n size p c l w = by p.is_open (nat_eq p.free 0 || nat_lt p.block_size size)
     where
-      by : (opened full : Bool) → bind (either opened (either full (raise storage_error) (look (λ v. change (in_pools (take_block n)) >> done v.pools.next_address))) gone c l w) (on_goes (in_block n)) ≡ gives_place (if not opened then UnknownPool else if full then Exhausted else Granted (InBlock n w.pools.next_address) (in_pools (take_block n) w)) c l w
+      by : (opened full : Bool) → bind (either opened (either full (raise storage_error) (look (λ v. change (in_pools (take_block n)) >> done v.pools.next_address))) gone c l w) (on_goes (in_block n)) ≡ gives_place size (if not opened then UnknownPool else if full then Exhausted else Granted (InBlock n w.pools.next_address) (in_pools (take_block n) w)) c l w
       by false full = refl
       by true true = refl
       by true false = refl
 
-  pool_is : (n size : ℕ) (o : Option BlockPool) (c : ℕ) (l : Log) (w : World) → bind (on_some o gone (takes_block n size) c l w) (on_goes (in_block n)) ≡ gives_place (Table.pool_grant n size o w) c l w
+  pool_is : (n size : ℕ) (o : Option BlockPool) (c : ℕ) (l : Log) (w : World) → bind (on_some o gone (takes_block n size) c l w) (on_goes (in_block n)) ≡ gives_place size (Table.pool_grant n size o w) c l w
   unfolding opened_outcome opened_names
   pool_is n size None c l w = refl
   pool_is n size (Some p) c l w = block_is n size p c l w
 
-  -- of a pool object that is there: it has the library's Allocate
-  block_storage_is : (n size c : ℕ) (l : Log) (w : World) (o : Object) → object_at n w ≡ Some o → operation (λ x. x.allocate) k (record_of o.ty) ≡ None → block_storage K n size c l w ≡ gives_place (Table.pool_grant n size (block_pool_at n w.pools) w) c l w
-  unfolding block_storage library_allocate with_block_pool existing opened_outcome
-  block_storage_is n size c l w o at none =
-      ap (λ q. bind (on_some q gone (λ y. on_some (operation (λ x. x.allocate) k (record_of y.ty)) (library_allocate n size) (user_allocate K n size)) c l w) (on_goes (in_block n))) at
-      ∙ ap (λ q. bind (on_some q (library_allocate n size) (user_allocate K n size) c l w) (on_goes (in_block n))) none
-      ∙ pool_is n size (block_pool_at n w.pools) c l w
+  -- of a pool object that is there: by the Allocate that the user wrote for its type, if there is one
+  own_is : (size c : ℕ) (l : Log) (w : World) (o : Object) (g : Option ℕ) → bind (on_some g (library_allocate o.number size) (user_allocate K o.number size) c l w) (on_goes (in_block o.number)) ≡ gives_place size (own_grant g size o w) c l w
+  unfolding library_allocate with_block_pool opened_outcome
+  own_is size c l w o None = pool_is o.number size (block_pool_at o.number w.pools) c l w
+  own_is size c l w o (Some f) = refl
+
+  block_storage_is : (size c : ℕ) (l : Log) (w : World) (o : Object) → object_at o.number w ≡ Some o → block_storage K o.number size c l w ≡ gives_place size (own_grant (operation (λ x. x.allocate) k (record_of o.ty)) size o w) c l w
+  unfolding block_storage existing opened_outcome
+  block_storage_is size c l w o there =
+      ap (λ q. bind (on_some q gone (λ y. on_some (operation (λ x. x.allocate) k (record_of y.ty)) (library_allocate o.number size) (user_allocate K o.number size)) c l w) (on_goes (in_block o.number))) there
+      ∙ own_is size c l w o (operation (λ x. x.allocate) k (record_of o.ty))
 
   -- of one that is no mark pool
   no_mark : (n size : ℕ) (r : Root) → r ≢ RootOf.MarkPool → storage_in K n None size r ≡ block_storage K n size
@@ -144,16 +175,32 @@ module _ (ask : Ask) (k : Tables) (code : Code) (setting : Setting k code) (call
   no_mark n size RootOf.BlockPool other = refl
   no_mark n size RootOf.MarkPool other = absurd (other refl)
 
-  object_is : (n size c : ℕ) (l : Log) (w : World) → Fits k code w → existing n (λ o. storage_in K n None size (root_of k (record_of o.ty))) c l w ≡ gives_place (Table.object_grant n size (object_at n w) w) c l w
+  -- the table of the code names that Allocate
+  named_is : (ty : Ty) → IsPlainType k ty → operation_for (λ x. x.allocate) code ty ≡ operation (λ x. x.allocate) k (record_of ty)
+  unfolding record_of of_record
+  named_is (Record u) h = setting.allocate u
+  named_is Integer h = absurd h
+  named_is Count h = absurd h
+  named_is Boolean h = absurd h
+  named_is Address h = absurd h
+  named_is Handle h = absurd h
+  named_is (Access a) h = absurd h
+
+  object_is : (n size c : ℕ) (l : Log) (w : World) → Fits k code w → existing n (λ o. storage_in K n None size (root_of k (record_of o.ty))) c l w ≡ gives_place size (Table.object_grant code size (object_at n w) w) c l w
   unfolding existing gone opened_outcome
   object_is n size c l w fits = by (object_at n w) refl (object_fits k code n w fits)
     where
-      by : (o : Option Object) → object_at n w ≡ o → IfFound (Settled k code w.ledger.next_master w.activations w.ledger.collections) o → on_some o gone (λ y. storage_in K n None size (root_of k (record_of y.ty))) c l w ≡ gives_place (Table.object_grant n size o w) c l w
-      by None at settled = refl
-      by (Some o) at settled = ap (λ (f : Act Place). f c l w) (no_mark n size (root_of k (record_of o.ty)) (no_mark_pool k o.ty settled.plain)) ∙ block_storage_is n size c l w o at (no_allocate k o.ty settled.plain)
+      by : (o : Option Object) → object_at n w ≡ o → IfFound (Settled k code w.ledger.next_master w.activations w.ledger.collections) o → on_some o gone (λ y. storage_in K n None size (root_of k (record_of y.ty))) c l w ≡ gives_place size (Table.object_grant code size o w) c l w
+      by None there settled = refl
+      by (Some o) there settled =
+          let number : o.number ≡ n = found_object n w o there in
+          ap (λ (f : Act Place). f c l w) (no_mark n size (root_of k (record_of o.ty)) (no_mark_pool k o.ty settled.plain))
+          ∙ ap (λ i. block_storage K i size c l w) (sym number)
+          ∙ block_storage_is size c l w o (ap (λ i. object_at i w) number ∙ there)
+          ∙ ap (λ g. gives_place size (own_grant g size o w) c l w) (sym (named_is o.ty settled.plain))
 
   -- a slot names the pool, unless its declaration was not elaborated
-  found_is : (m i : ℕ) (x : Content) (size c : ℕ) (l : Log) (w : World) → IsNoCopy x → Fits k code w → bind (found_in m i x c l w) (on_goes (λ f. existing (object_of f) (λ o. storage_in K (object_of f) None size (root_of k (record_of o.ty))))) ≡ gives_place (Table.holder_grant (Table.spot_of x) size w) c l w
+  found_is : (m i : ℕ) (x : Content) (size c : ℕ) (l : Log) (w : World) → IsNoCopy x → Fits k code w → bind (found_in m i x c l w) (on_goes (λ f. existing (object_of f) (λ o. storage_in K (object_of f) None size (root_of k (record_of o.ty))))) ≡ gives_place size (Table.holder_grant code (Table.spot_of x) size w) c l w
   unfolding found_in object_of gone opened_outcome
   found_is m i (Holds n) size c l w no_copy fits = add_none (existing n (λ o. storage_in K n None size (root_of k (record_of o.ty))) c l w) ∙ object_is n size c l w fits
   found_is m i (Binds n offset path) size c l w no_copy fits = add_none (existing n (λ o. storage_in K n None size (root_of k (record_of o.ty))) c l w) ∙ object_is n size c l w fits
@@ -162,10 +209,105 @@ module _ (ask : Ask) (k : Tables) (code : Code) (setting : Setting k code) (call
   found_is m i (Gathers n) size c l w no_copy fits = refl
 
   -- what storage means is what comes of its request
-  storage_is : (pool : Option Var) (d : List ℕ) (size c : ℕ) (l : Log) (w : World) → Fits k code w → storage K d pool None size c l w ≡ gives_place (grant pool d size w) c l w
+  storage_is : (pool : Option Var) (d : List ℕ) (size c : ℕ) (l : Log) (w : World) → Fits k code w → storage K d pool None size c l w ≡ gives_place size (grant code pool d size w) c l w
   unfolding storage find_var opened_outcome
   storage_is None d size c l w fits = refl
   storage_is (Some v) d size c l w fits = found_is (master_of d v) v.slot (slot_at (master_of d v) v.slot w).content size c l w (no_copy_at k code (master_of d v) v.slot w fits) fits
+
+  -- A user's Allocate -----------------------------------------------------------------------------------
+
+  -- where one is called, the pool object is there, and it is the Allocate of its type
+  abbrev IsOwn : World → Grant → Type 0
+  IsOwn w (AllocateOf o f) = (object_at o.number w ≡ Some o) × ((u : ℕ) × (o.ty ≡ Record u) × (operation (λ x. x.allocate) k u ≡ Some f))
+  IsOwn w (Granted place w1) = Unit {0}
+  IsOwn w Exhausted = Unit {0}
+  IsOwn w UnknownPool = Unit {0}
+
+  own_block : (n size : ℕ) (p : BlockPool) (w : World) → IsOwn w (Table.block_grant n size p w)
+  own_block n size p w = by p.is_open (nat_eq p.free 0 || nat_lt p.block_size size)
+    where
+      by : (opened full : Bool) → IsOwn w (if not opened then UnknownPool else if full then Exhausted else Granted (InBlock n w.pools.next_address) (in_pools (take_block n) w))
+      by false full = tt
+      by true true = tt
+      by true false = tt
+
+  own_pool : (n size : ℕ) (o : Option BlockPool) (w : World) → IsOwn w (Table.pool_grant n size o w)
+  own_pool n size None w = tt
+  own_pool n size (Some p) w = own_block n size p w
+
+  own_by : (g : Option ℕ) (u size : ℕ) (o : Object) (w : World) → object_at o.number w ≡ Some o → o.ty ≡ Record u → operation (λ x. x.allocate) k u ≡ g → IsOwn w (own_grant g size o w)
+  own_by None u size o w there ty op = own_pool o.number size (block_pool_at o.number w.pools) w
+  own_by (Some f) u size o w there ty op = (there, (u, ty, op))
+
+  own_for : (ty : Ty) (size : ℕ) (o : Object) (w : World) → object_at o.number w ≡ Some o → o.ty ≡ ty → IsOwn w (own_grant (operation_for (λ x. x.allocate) code ty) size o w)
+  own_for (Record u) size o w there is = own_by (operation_of (λ x. x.allocate) code u) u size o w there is (sym (setting.allocate u))
+  own_for Integer size o w there is = own_pool o.number size (block_pool_at o.number w.pools) w
+  own_for Count size o w there is = own_pool o.number size (block_pool_at o.number w.pools) w
+  own_for Boolean size o w there is = own_pool o.number size (block_pool_at o.number w.pools) w
+  own_for Address size o w there is = own_pool o.number size (block_pool_at o.number w.pools) w
+  own_for Handle size o w there is = own_pool o.number size (block_pool_at o.number w.pools) w
+  own_for (Access a) size o w there is = own_pool o.number size (block_pool_at o.number w.pools) w
+
+  own_object : (n size : ℕ) (o : Option Object) (w : World) → object_at n w ≡ o → IsOwn w (Table.object_grant code size o w)
+  own_object n size None w there = tt
+  own_object n size (Some o) w there = own_for o.ty size o w (ap (λ i. object_at i w) (found_object n w o there) ∙ there) refl
+
+  own_holder : (s : Option Spot) (size : ℕ) (w : World) → IsOwn w (Table.holder_grant code s size w)
+  own_holder None size w = tt
+  own_holder (Some s) size w = own_object s.object size (object_at s.object w) w refl
+
+  own_granted : (pool : Option Var) (d : List ℕ) (size : ℕ) (w : World) → IsOwn w (grant code pool d size w)
+  own_granted None d size w = tt
+  own_granted (Some v) d size w = own_holder (Table.spot_of (slot_at (master_of d v) v.slot w).content) size w
+
+  -- its slots: they hold no copy and no collection
+  plain_actuals : (n size : ℕ) → Each IsPlainSlot (storage_actuals n 0 size)
+  unfolding storage_actuals
+  plain_actuals n size = (tt, (tt, (tt, (tt, tt))))
+
+  -- the call of it, where the pool object is there
+  user_is : (n size f c : ℕ) (l : Log) (w : World) (o : Object) → object_at n w ≡ Some o → nat_lt integer_last size ≡ false → user_allocate K n size f c l w ≡ bind (call (OfSubprogram f (storage_actuals n 0 size)) (origin_home o.origin w) c (tell (Allocate n size) l) w) (on_goes (λ r. tested n size (address_in r)))
+  unfolding user_allocate with_home existing opened_outcome
+  user_is n size f c l w o there small =
+      ap (λ b. either b (raise constraint_error) (show (Allocate n size) >> with_home n (λ d. call (OfSubprogram f (storage_actuals n 0 size)) d) >>= (λ r. tested n size (address_in r))) c l w) small
+      ∙ ap (λ x. bind (add 0 (on_some x gone (λ y. look (λ v. call (OfSubprogram f (storage_actuals n 0 size)) (origin_home y.origin v))) c (tell (Allocate n size) l) w)) (on_goes (λ r. tested n size (address_in r)))) there
+      ∙ ap (λ x. bind x (on_goes (λ r. tested n size (address_in r)))) (add_none (call (OfSubprogram f (storage_actuals n 0 size)) (origin_home o.origin w) c (tell (Allocate n size) l) w))
+
+  -- a size that is too great
+  great_is : (n size f c : ℕ) (l : Log) (w : World) → nat_lt integer_last size ≡ true → user_allocate K n size f c l w ≡ Gives (Leaves (ByRaise constraint_error)) 0 c l w
+  unfolding user_allocate opened_outcome
+  great_is n size f c l w great = ap (λ b. either b (raise constraint_error) (show (Allocate n size) >> with_home n (λ d. call (OfSubprogram f (storage_actuals n 0 size)) d) >>= (λ r. tested n size (address_in r))) c l w) great
+
+  -- the address that it gave is what its second formal holds
+  address_is : (r : Returned) → address_in r ≡ first_value (drop 1 r.slots)
+  unfolding address_in item_or
+  address_is r = by r.slots
+    where
+      by : (xs : List Slot) → (item_or unset (slice_get xs 1)).value ≡ first_value (drop 1 xs)
+      by [] = refl
+      by (x ∷ []) = refl
+      by (x ∷ y ∷ ys) = refl
+
+  -- what the test of an address gives
+  abbrev gives_test : ℕ → Test → Act ℕ
+  gives_test a Passed = done a
+  gives_test a (NotPassed s) = stop s
+
+  tested_is : (n size a c : ℕ) (l : Log) (w : World) → tested n size a c l w ≡ gives_test a (address_test a size (block_pool_at n w.pools) w) c l w
+  unfolding tested with_block_pool gone opened_outcome
+  tested_is n size a c l w = by (block_pool_at n w.pools)
+    where
+      passes : (vacant : Bool) → either vacant (done a) (stop BadAddress) c l w ≡ gives_test a (if vacant then Passed else NotPassed BadAddress) c l w
+      passes true = refl
+      passes false = refl
+
+      of_block : (opened : Bool) (vacant : World → Bool) → either opened (look (λ v. either (vacant v) (done a) (stop BadAddress))) (stop UseAfterFree) c l w ≡ gives_test a (if not opened then NotPassed UseAfterFree else if vacant w then Passed else NotPassed BadAddress) c l w
+      of_block false vacant = refl
+      of_block true vacant = passes (vacant w)
+
+      by : (p : Option BlockPool) → on_some p gone (λ q. either q.is_open (look (λ v. either (is_vacant v (block_at a q) && not (nat_lt q.block_size size)) (done a) (stop BadAddress))) gone) c l w ≡ gives_test a (address_test a size p w) c l w
+      by None = refl
+      by (Some p) = of_block p.is_open (λ v. is_vacant v (block_at a p) && not (nat_lt p.block_size size))
 
   -- Creation --------------------------------------------------------------------------------------------
 
@@ -289,9 +431,9 @@ module _ (ask : Ask) (k : Tables) (code : Code) (setting : Setting k code) (call
 
     -- the creation, from that step
     created_runs : (value : Option (List ℕ)) (set : ℕ) (x : Collection) (place : Place) (p : Point) (ks : List Frame) (s0 : State) (c0 c : ℕ) (l : Log) (w : World) → c ≤ bound → c ≤ c0 → c0 ≤ c + 1 → MayStand set x w → Since k code w0 w → step ask code s0 ≡ moved l (creates value set place p ks w)
-        → Gets 6 8 s0 c0 p ks (bind (created K set (Record t) value place c l w) (on_goes completed))
+        → Gets 6 (allocator_steps value) s0 c0 p ks (bind (created K set (Record t) value place c l w) (on_goes completed))
     unfolding birth_of owner_of
-    created_runs value set x place p ks s0 c0 c l w le lo hi may fits first = subst (Gets 6 8 s0 c0 p ks) (sym (created_is value set place c l w)) (by value first)
+    created_runs value set x place p ks s0 c0 c l w le lo hi may fits first = subst (Gets 6 (allocator_steps value) s0 c0 p ks) (sym (created_is value set place c l w)) (by value first)
       where
         n : ℕ
         n = w.ledger.next_object
@@ -302,12 +444,12 @@ module _ (ask : Ask) (k : Tables) (code : Code) (setting : Setting k code) (call
         fits1 : Since k code w0 w1
         fits1 = member_fits set x place w may fits
 
-        by : (v : Option (List ℕ)) → step ask code s0 ≡ moved l (creates v set place p ks w) → Gets 6 8 s0 c0 p ks (bind (begins v set place c l w) (stands n))
+        by : (v : Option (List ℕ)) → step ask code s0 ≡ moved l (creates v set place p ks w) → Gets 6 (allocator_steps v) s0 c0 p ks (bind (begins v set place c l w) (stands n))
         by None go =
             let mid = Creating ByAllocator n t p ∷ ks in
             let s1 = gives (Filling (newborn n t (OwnerOf.Collection set)) (begun_of code t) (begun_of code t) ∷ mid) (Fine Complete) l w1 in
-            one_step_to ask code (Allocates k code w0) 5 7 6 8 s0 s1 c0 c (returned_to (AfterFunction p) ks) (bind (begins None set place c l w) (stands n)) (omega arith) (omega arith) lo hi go
-            (both_to ask code (λ r v. Told k code w1 (way_of r) v) (Allocates k code w0) 3 3 1 3 5 7 s1 c (returns mid) (returned_to (AfterFunction p) ks) (begins None set place c l w) (stands n) (omega arith) (omega arith) (omega arith)
+            one_step_to ask code (Allocates k code w0) 5 6 6 7 s0 s1 c0 c (returned_to (AfterFunction p) ks) (bind (begins None set place c l w) (stands n)) (omega arith) (omega arith) lo hi go
+            (both_to ask code (λ r v. Told k code w1 (way_of r) v) (Allocates k code w0) 3 3 1 3 5 6 s1 c (returns mid) (returned_to (AfterFunction p) ks) (begins None set place c l w) (stands n) (omega arith) (omega arith) (omega arith)
             (parts_run ask k code setting call default constants bound calls (suc (length k.records)) t (let within = slice_get_within k.records t plain.0 plain.1 in omega (arith, within)) plain (whole_spot n) (OwnerOf.Collection set) (birth_of (Allocated set place) w) refl w1 fits1.0 (member_around set place w fits fits1) mid c l w1 le (fits1.0, keeps_itself k code w1))
             (λ r c1 l1 w2 lo1 told1. stands_runs w1 n p ks fits1 r c1 l1 w2 told1))
         by (Some v) go =
@@ -316,21 +458,105 @@ module _ (ask : Ask) (k : Tables) (code : Code) (setting : Setting k code) (call
             (λ r c1 l1 w2 told1. stands_runs w1 n p ks fits1 r c1 l1 w2 told1)
             v s0 c0 c l le lo hi go
 
-    -- what comes of a request of storage: the creation, an exception, or a stop
-    abbrev grants : Option (List ℕ) → ℕ → Grant → Point → List Frame → World → Move
-    grants value set (Granted place w1) p ks w = creates value set place p ks w1
-    grants value set Exhausted p ks w = Table.transfers (ByRaise storage_error) ks w
-    grants value set UnknownPool p ks w = Table.gone ks w
+    -- At the address that a user's Allocate gave (13.11) ----------------------------------------------------
 
-    new_is : (set : ℕ) (g : Grant) (ops : List Word) (h : Here) → Table.new_at code t set g ops h ≡ grants None set g (point_at h.display (h.place + 1) ops) h.control h.world
-    new_is set (Granted place w) ops h = refl
-    new_is set Exhausted ops h = refl
-    new_is set UnknownPool ops h = refl
+    -- a collection that stands still does since an earlier world, with as many masters around it
+    still_stands : (set : ℕ) (x : Collection) (v w : World) → MayStand set x v → Since k code v v → Since k code v w → (y : Collection) × MayStand set y w
+    unfolding collection_at
+    still_stands set x v w may fits since =
+        let is = still_of k code set x.master v w fits.0 since.1 (x, may.0, refl) in
+        let old = (of_gathered v.ledger.next_collection v.ledger.next_master v.activations set x.master v.ledger.collections fits.0.collections (x, may.0, refl)).1 in
+        let home_is : home is.0.master w.activations ≡ home x.master v.activations = ap (λ m. home m w.activations) is.2 ∙ since.1.homes x.master old in
+        (is.0, (is.1, subst (λ (e : List ℕ). IsDeclarable code (length e) t) (sym home_is) may.1))
 
-    copy_is : (v : List ℕ) (set : ℕ) (g : Grant) (ops : List Word) (h : Here) → Table.copy_at code t v set g ops h ≡ grants (Some v) set g (point_at h.display (h.place + 1) ops) h.control h.world
-    copy_is v set (Granted place w) ops h = refl
-    copy_is v set Exhausted ops h = refl
-    copy_is v set UnknownPool ops h = refl
+    -- the object begins at an address that passes its test
+    placed_runs : (set : ℕ) (x : Collection) (n a : ℕ) (test : Test) (d : List ℕ) (place : ℕ) (ks : List Frame) (ops : List Word) (s0 : State) (c : ℕ) (l : Log) (w : World) → c ≤ bound → MayStand set x w → Since k code w0 w → step ask code s0 ≡ moved l (Table.new_in_block code t set n a test ops (here d place ks w))
+        → Gets 6 7 s0 c (point_at d (place + 1) ops) ks (bind (bind (bind (gives_test a test c l w) (on_goes (in_block n))) (on_goes (created K set (Record t) None))) (on_goes completed))
+    unfolding opened_outcome
+    placed_runs set x n a Passed d place ks ops s0 c l w le may fits first =
+        subst (λ o. Gets 6 7 s0 c (point_at d (place + 1) ops) ks (bind o (on_goes completed))) (sym (add_none (created K set (Record t) None (InBlock n a) c l w)))
+        (created_runs None set x (InBlock n a) (point_at d (place + 1) ops) ks s0 c c l w le (omega arith) (omega arith) may fits first)
+    placed_runs set x n a (NotPassed s) d place ks ops s0 c l w le may fits first = stop_step_to ask code (Allocates k code w0) 6 7 s0 _ c 0 (returned_to (AfterFunction (point_at d (place + 1) ops)) ks) s l (omega arith) first refl refl
+
+    -- what follows the call
+    abbrev after_allocate : ℕ → ℕ → Result Returned → Act Returned
+    after_allocate set n r c l w = bind (bind (bind (on_goes (λ x. tested n units (address_in x)) r c l w) (on_goes (in_block n))) (on_goes (created K set (Record t) None))) (on_goes completed)
+
+    called_is : (set n : ℕ) (o : Out Returned) → bind (bind (bind (bind o (on_goes (λ x. tested n units (address_in x)))) (on_goes (in_block n))) (on_goes (created K set (Record t) None))) (on_goes completed) ≡ bind o (after_allocate set n)
+    called_is set n o =
+        let test : Result Returned → Act ℕ = on_goes (λ x. tested n units (address_in x)) in
+        let placed : Result ℕ → Act Place = on_goes (in_block n) in
+        let made : Result Place → Act ℕ = on_goes (created K set (Record t) None) in
+        ap (λ x. bind (bind x made) (on_goes completed)) (bind_bind o test placed)
+        ∙ ap (λ x. bind x (on_goes completed)) (bind_bind o (λ r c l w. bind (test r c l w) placed) made)
+        ∙ bind_bind o (λ r c l w. bind (bind (test r c l w) placed) made) (on_goes completed)
+
+    -- from where the call leads
+    after_runs : (set n : ℕ) (x : Collection) (d : List ℕ) (place : ℕ) (ks : List Frame) (ops : List Word) (v : World) → MayStand set x v → Since k code w0 v → IsServed k code t None place → (r : Result Returned) (c : ℕ) (l : Log) (w : World) → c ≤ bound → Told k code v (way_of r) w → Gets 6 7 (returned_to (AfterProcedure 2 (point_at d (place + 1) (Scalar n ∷ Scalar set ∷ ops))) ks r l w) c (point_at d (place + 1 + 1) ops) ks (after_allocate set n r c l w)
+    unfolding opened_outcome
+    after_runs set n x d place ks ops v may fits (ty, top, there) (Goes r) c l w le told1 =
+        let since = told1.1 in
+        let stand = still_stands set x v w may (fits.0, keeps_itself k code v) since in
+        let a = first_value (drop 1 r.slots) in
+        let s1 = at d (place + 1) ks (Scalar a ∷ Scalar (first_value r.slots) ∷ Scalar n ∷ Scalar set ∷ ops) l w in
+        subst (λ o. Gets 6 7 s1 c (point_at d (place + 1 + 1) ops) ks (bind (bind (bind o (on_goes (in_block n))) (on_goes (created K set (Record t) None))) (on_goes completed)))
+        (sym (ap (λ i. tested n units i c l w) (address_is r) ∙ tested_is n units a c l w))
+        (placed_runs set stand.0 n a (address_test a units (block_pool_at n w.pools) w) d (place + 1) ks ops s1 c l w le stand.1 (since_on k code w0 v w fits since)
+        (by_code ask code d (place + 1) ks (Scalar a ∷ Scalar (first_value r.slots) ∷ Scalar n ∷ Scalar set ∷ ops) l w (InstrOf.NewIn t ty top) there
+        ∙ ap (λ i. moved l (Table.new_in_block code t set n a (address_test a i (block_pool_at n w.pools) w) ops (here d (place + 1) ks w))) units_are))
+    after_runs set n x d place ks ops v may fits served (Leaves y) c l w le told1 =
+        by_raise (λ z. Gets 6 7 (transferred z ks l w) c (point_at d (place + 1 + 1) ops) ks (Gives (Leaves z) 0 c l w))
+        (λ e. raises 6 7 e (point_at d (place + 1 + 1) ops) ks c l w (since_on k code w0 v w fits told1.1)) y told1.0
+
+    -- from the step that calls it
+    user_runs : (set : ℕ) (x : Collection) (o : Object) (f : ℕ) (d : List ℕ) (place : ℕ) (ks : List Frame) (ops : List Word) (s0 : State) (c : ℕ) (l : Log) (w : World) → c ≤ bound → MayStand set x w → Since k code w0 w → IsOwn w (AllocateOf o f) → IsServed k code t None place → step ask code s0 ≡ moved l (Table.call_allocate code units set o f ops (here d place ks w))
+        → Gets 6 7 s0 c (point_at d (place + 1 + 1) ops) ks (bind (bind (gives_place units (AllocateOf o f) c l w) (on_goes (created K set (Record t) None))) (on_goes completed))
+    unfolding opened_outcome
+    user_runs set x o f d place ks ops s0 c l w le may fits own served first = by (nat_lt integer_last units) refl first
+      where
+        n : ℕ
+        n = o.number
+
+        v : List ℕ
+        v = origin_home o.origin w
+
+        p : Point
+        p = point_at d (place + 1 + 1) ops
+
+        after : After
+        after = AfterProcedure 2 (point_at d (place + 1) (Scalar n ∷ Scalar set ∷ ops))
+
+        shown : Log
+        shown = tell (Allocate n units) l
+
+        actuals : List Slot
+        actuals = storage_actuals n 0 units
+
+        goal : Out ℕ → Type 0
+        goal y = Gets 6 7 s0 c p ks (bind (bind (bind y (on_goes (in_block n))) (on_goes (created K set (Record t) None))) (on_goes completed))
+
+        by : (b : Bool) → nat_lt integer_last units ≡ b → step ask code s0 ≡ moved l (if b then Table.transfers (ByRaise constraint_error) ks w else Table.enter_body (slice_get code.entries.items f) (Allocate n units ∷ []) v actuals after ks w) → goal (user_allocate K n units f c l w)
+        by true is go =
+            subst goal (sym (great_is n units f c l w is))
+            (one_step_to ask code (Allocates k code w0) 5 6 6 7 s0 (transferred (ByRaise constraint_error) ks l w) c c (returned_to (AfterFunction p) ks) (Gives (Leaves (ByRaise constraint_error)) 0 c l w) (omega arith) (omega arith) (omega arith) (omega arith) go (raises 5 6 constraint_error p ks c l w fits))
+        by false is go =
+            let u = own.1.0 in
+            let op = own.1.2 in
+            let body = setting.allocate_body u f op in
+            let callable = allocate_in code setting.valid (length v) u f (type_inside k code n w o u fits.0 own.0 own.1.1) (setting.allocate u ∙ op) in
+            subst goal (sym (user_is n units f c l w o own.0 is))
+            (subst (Gets 6 7 s0 c p ks) (sym (called_is set n (call (OfSubprogram f actuals) v c shown w)))
+            (both_to ask code (λ r w1. Told k code w (way_of r) w1) (Allocates k code w0) 0 3 6 7 6 7 s0 c (returned_to after ks) (returned_to (AfterFunction p) ks) (call (OfSubprogram f actuals) v c shown w) (after_allocate set n) (omega arith) (omega arith) (omega arith)
+            (calls.runs f body.0 body.1 w v actuals after ks c shown w s0 Procedure storage_formals tt le (fits.0, keeps_itself k code w) callable (origin_nested k code o.origin w fits.0) (plain_actuals n units)
+            (go ∙ enter_shows (slice_get code.entries.items f) (Allocate n units) v actuals after ks l w))
+            (λ r c1 l1 w1 lo told1. after_runs set n x d place ks ops w may fits served r c1 l1 w1 (omega (arith, lo, le)) told1)))
+
+    -- Storage is requested ----------------------------------------------------------------------------------
+
+    -- what comes of a request of storage: the creation, the call of a user's Allocate, an exception, or a stop
+    abbrev grants : Option (List ℕ) → ℕ → Grant → List Word → Here → Move
+    grants None set g ops h = Table.new_at code t set g ops h
+    grants (Some v) set g ops h = Table.copy_at code t v set g ops h
 
     -- where there is no collection, or there is this one
     no_set : (value : Option (List ℕ)) (pool : Option Var) (ops : List Word) (h : Here) (l : Log) → moved l (by_allocator code t value pool None ops h) ≡ moved l (Table.gone h.control h.world)
@@ -338,68 +564,86 @@ module _ (ask : Ask) (k : Tables) (code : Code) (setting : Setting k code) (call
     no_set (Some v) pool ops h l = refl
 
     abbrev tests : Option (List ℕ) → Option Var → Collection → List Word → Here → Move
-    tests value pool x ops h = if is_refused code t x then Table.transfers (ByRaise program_error) h.control h.world else grants value x.number (grant pool h.display (units_of code t) h.world) (point_at h.display (h.place + 1) ops) h.control h.world
+    tests value pool x ops h = if is_refused code t x then Table.transfers (ByRaise program_error) h.control h.world else grants value x.number (grant code pool h.display (units_of code t) h.world) ops h
 
     this_set : (value : Option (List ℕ)) (pool : Option Var) (x : Collection) (ops : List Word) (h : Here) (l : Log) → moved l (by_allocator code t value pool (Some x) ops h) ≡ moved l (tests value pool x ops h)
-    this_set None pool x ops h l = ap (λ m. moved l (if is_refused code t x then Table.transfers (ByRaise program_error) h.control h.world else m)) (new_is x.number (grant pool h.display (units_of code t) h.world) ops h)
-    this_set (Some v) pool x ops h l = ap (λ m. moved l (if is_refused code t x then Table.transfers (ByRaise program_error) h.control h.world else m)) (copy_is v x.number (grant pool h.display (units_of code t) h.world) ops h)
+    this_set None pool x ops h l = refl
+    this_set (Some v) pool x ops h l = refl
 
-    -- what comes of a request of storage, for a collection that stands
-    granted_runs : (value : Option (List ℕ)) (set : ℕ) (x : Collection) (g : Grant) (p : Point) (ks : List Frame) (s0 : State) (c0 c : ℕ) (l : Log) (w : World) → c ≤ bound → c ≤ c0 → c0 ≤ c + 1 → OnGrant (MayStand set x) g → OnGrant (Since k code w0) g → Since k code w0 w → step ask code s0 ≡ moved l (grants value set g p ks w)
-        → Gets 6 8 s0 c0 p ks (bind (bind (gives_place g c l w) (on_goes (created K set (Record t) value))) (on_goes completed))
+    -- an exception in its step
+    raise_runs : (value : Option (List ℕ)) (e : ℕ) (p : Point) (ks : List Frame) (s0 : State) (c0 c : ℕ) (l : Log) (w : World) → c ≤ c0 → c0 ≤ c + 1 → Since k code w0 w → step ask code s0 ≡ transferred (ByRaise e) ks l w → Gets 6 (allocator_steps value) s0 c0 p ks (Gives (Leaves (ByRaise e)) 0 c l w)
+    raise_runs value e p ks s0 c0 c l w lo hi fits first = one_step_to ask code (Allocates k code w0) 5 6 6 (allocator_steps value) s0 (transferred (ByRaise e) ks l w) c0 c (returned_to (AfterFunction p) ks) (Gives (Leaves (ByRaise e)) 0 c l w) (omega arith) (steps_enough value) lo hi first (raises 5 6 e p ks c l w fits)
+
+    -- a use of what has ceased to exist
+    gone_runs : (value : Option (List ℕ)) (p : Point) (ks : List Frame) (s0 : State) (c0 : ℕ) (l : Log) (w : World) → step ask code s0 ≡ moved l (Table.gone ks w) → Gets 6 (allocator_steps value) s0 c0 p ks (Stops UseAfterFree 0 l)
+    gone_runs value p ks s0 c0 l w first = stop_step_to ask code (Allocates k code w0) 6 (allocator_steps value) s0 _ c0 0 (returned_to (AfterFunction p) ks) UseAfterFree l (let enough = steps_enough value in omega (arith, enough)) first refl refl
+
+    -- from there, for a collection that stands
+    granted_runs : (value : Option (List ℕ)) (set : ℕ) (x : Collection) (g : Grant) (d : List ℕ) (place : ℕ) (ks : List Frame) (ops : List Word) (s0 : State) (c0 c : ℕ) (l : Log) (w : World) → c ≤ bound → c ≤ c0 → c0 ≤ c + allocator_takes value → MayStand set x w → OnGrant (MayStand set x) g → OnGrant (Since k code w0) g → IsOwn w g → Since k code w0 w → IsServed k code t value place → step ask code s0 ≡ moved l (grants value set g ops (here d place ks w))
+        → Gets 6 (allocator_steps value) s0 c0 (point_at d (behind_allocator value place) ops) ks (bind (bind (gives_place units g c l w) (on_goes (created K set (Record t) value))) (on_goes completed))
     unfolding opened_outcome
-    granted_runs value set x (Granted place w1) p ks s0 c0 c l w le lo hi may fits1 fits first =
-        subst (λ o. Gets 6 8 s0 c0 p ks (bind o (on_goes completed))) (sym (add_none (created K set (Record t) value place c l w1)))
-        (created_runs value set x place p ks s0 c0 c l w1 le lo hi may fits1 first)
-    granted_runs value set x Exhausted p ks s0 c0 c l w le lo hi may fits1 fits first = one_step_to ask code (Allocates k code w0) 5 7 6 8 s0 (transferred (ByRaise storage_error) ks l w) c0 c (returned_to (AfterFunction p) ks) (Gives (Leaves (ByRaise storage_error)) 0 c l w) (omega arith) (omega arith) lo hi first (raises 5 7 storage_error p ks c l w fits)
-    granted_runs value set x UnknownPool p ks s0 c0 c l w le lo hi may fits1 fits first = stop_step_to ask code (Allocates k code w0) 6 8 s0 _ c0 0 (returned_to (AfterFunction p) ks) UseAfterFree l (omega arith) first refl refl
+    granted_runs None set x (Granted at1 w1) d place ks ops s0 c0 c l w le lo hi may may1 fits1 own fits served first =
+        subst (λ o. Gets 6 7 s0 c0 (point_at d (place + 1 + 1) ops) ks (bind o (on_goes completed))) (sym (add_none (created K set (Record t) None at1 c l w1)))
+        (created_runs None set x at1 (point_at d (place + 1 + 1) ops) ks s0 c0 c l w1 le lo (omega (arith, hi)) may1 fits1 first)
+    granted_runs None set x Exhausted d place ks ops s0 c0 c l w le lo hi may may1 fits1 own fits served first = raise_runs None storage_error (point_at d (place + 1 + 1) ops) ks s0 c0 c l w lo (omega (arith, hi)) fits first
+    granted_runs None set x UnknownPool d place ks ops s0 c0 c l w le lo hi may may1 fits1 own fits served first = gone_runs None (point_at d (place + 1 + 1) ops) ks s0 c0 l w first
+    granted_runs None set x (AllocateOf o f) d place ks ops s0 c0 c l w le lo hi may may1 fits1 own fits served first =
+        let same : c ≡ c0 = omega (arith, lo, hi) in
+        subst (λ i. Gets 6 7 s0 i (point_at d (place + 1 + 1) ops) ks (bind (bind (gives_place units (AllocateOf o f) c l w) (on_goes (created K set (Record t) None))) (on_goes completed))) same
+        (user_runs set x o f d place ks ops s0 c l w le may fits own served
+        (first ∙ ap (λ i. moved l (Table.call_allocate code i set o f ops (here d place ks w))) units_are))
+    granted_runs (Some v) set x (Granted at1 w1) d place ks ops s0 c0 c l w le lo hi may may1 fits1 own fits served first =
+        subst (λ o. Gets 6 8 s0 c0 (point_at d (place + 1) ops) ks (bind o (on_goes completed))) (sym (add_none (created K set (Record t) (Some v) at1 c l w1)))
+        (created_runs (Some v) set x at1 (point_at d (place + 1) ops) ks s0 c0 c l w1 le lo hi may1 fits1 first)
+    granted_runs (Some v) set x Exhausted d place ks ops s0 c0 c l w le lo hi may may1 fits1 own fits served first = raise_runs (Some v) storage_error (point_at d (place + 1) ops) ks s0 c0 c l w lo hi fits first
+    granted_runs (Some v) set x UnknownPool d place ks ops s0 c0 c l w le lo hi may may1 fits1 own fits served first = gone_runs (Some v) (point_at d (place + 1) ops) ks s0 c0 l w first
+    -- with a value no type has one
+    granted_runs (Some v) set x (AllocateOf o f) d place ks ops s0 c0 c l w le lo hi may may1 fits1 own fits served first = absurd (let e = sym own.1.2 ∙ no_allocate k own.1.0 served in cc)
 
     -- for this collection, if there is one
-    set_runs : (value : Option (List ℕ)) (pool : Option Var) (set : ℕ) (o : Option Collection) (d : List ℕ) (place : ℕ) (ks : List Frame) (ops : List Word) (s0 : State) (c0 c : ℕ) (l : Log) (w : World) → c ≤ bound → c ≤ c0 → c0 ≤ c + 1 → collection_at set w.ledger ≡ o → ((x : Collection) → o ≡ Some x → IsDeclarable code (length (home x.master w.activations)) t) → Since k code w0 w → step ask code s0 ≡ moved l (by_allocator code t value pool o ops (here d place ks w)) → Gets 6 8 s0 c0 (point_at d (place + 1) ops) ks (for_set value pool d set o c l w)
+    set_runs : (value : Option (List ℕ)) (pool : Option Var) (set : ℕ) (o : Option Collection) (d : List ℕ) (place : ℕ) (ks : List Frame) (ops : List Word) (s0 : State) (c0 c : ℕ) (l : Log) (w : World) → c ≤ bound → c ≤ c0 → c0 ≤ c + allocator_takes value → collection_at set w.ledger ≡ o → ((x : Collection) → o ≡ Some x → IsDeclarable code (length (home x.master w.activations)) t) → Since k code w0 w → IsServed k code t value place → step ask code s0 ≡ moved l (by_allocator code t value pool o ops (here d place ks w))
+        → Gets 6 (allocator_steps value) s0 c0 (point_at d (behind_allocator value place) ops) ks (for_set value pool d set o c l w)
     unfolding refuses opened_outcome opened_names in_pools
-    set_runs value pool set None d place ks ops s0 c0 c l w le lo hi is may fits first = stop_step_to ask code (Allocates k code w0) 6 8 s0 _ c0 0 (returned_to (AfterFunction (point_at d (place + 1) ops)) ks) UseAfterFree l (omega arith) (first ∙ no_set value pool ops (here d place ks w) l) refl refl
-    set_runs value pool set (Some x) d place ks ops s0 c0 c l w le lo hi is may fits first =
-        subst (λ b. Gets 6 8 s0 c0 p ks (bind (either (b && x.started) (raise program_error) (storage K d pool None size >>= created K set (Record t) value) c l w) (on_goes completed))) (sym (setting.agrees default constants t plain).has)
+    set_runs value pool set None d place ks ops s0 c0 c l w le lo hi is may fits served first = gone_runs value (point_at d (behind_allocator value place) ops) ks s0 c0 l w (first ∙ no_set value pool ops (here d place ks w) l)
+    set_runs value pool set (Some x) d place ks ops s0 c0 c l w le lo hi is may fits served first =
+        subst (λ b. Gets 6 (allocator_steps value) s0 c0 p ks (bind (either (b && x.started) (raise program_error) (storage K d pool None units >>= created K set (Record t) value) c l w) (on_goes completed))) (sym (setting.agrees default constants t plain).has)
         (by (is_refused code t x) (first ∙ this_set value pool x ops (here d place ks w) l))
       where
         p : Point
-        p = point_at d (place + 1) ops
-
-        size : ℕ
-        size = size_of k (Record t)
+        p = point_at d (behind_allocator value place) ops
 
         number : x.number ≡ set
         number = found_number set w x is
 
-        by : (b : Bool) → step ask code s0 ≡ moved l (if b then Table.transfers (ByRaise program_error) ks w else grants value x.number (grant pool d (units_of code t) w) p ks w) → Gets 6 8 s0 c0 p ks (bind (either b (raise program_error) (storage K d pool None size >>= created K set (Record t) value) c l w) (on_goes completed))
-        by true go = one_step_to ask code (Allocates k code w0) 5 7 6 8 s0 (transferred (ByRaise program_error) ks l w) c0 c (returned_to (AfterFunction p) ks) (Gives (Leaves (ByRaise program_error)) 0 c l w) (omega arith) (omega arith) lo hi go (raises 5 7 program_error p ks c l w fits)
+        by : (b : Bool) → step ask code s0 ≡ moved l (if b then Table.transfers (ByRaise program_error) ks w else grants value x.number (grant code pool d (units_of code t) w) ops (here d place ks w)) → Gets 6 (allocator_steps value) s0 c0 p ks (bind (either b (raise program_error) (storage K d pool None units >>= created K set (Record t) value) c l w) (on_goes completed))
+        by true go = raise_runs value program_error p ks s0 c0 c l w lo (let few = takes_few value in omega (arith, hi, few)) fits go
         by false go =
-            subst (λ o. Gets 6 8 s0 c0 p ks (bind (bind o (on_goes (created K set (Record t) value))) (on_goes completed))) (sym (storage_is pool d size c l w fits.0))
-            (granted_runs value set x (grant pool d size w) p ks s0 c0 c l w le lo hi
-            (granted_keeps (MayStand set x) (λ f v h. h) pool d size w (is, may x refl))
-            (since_granted k code pool d size w0 w fits) fits
-            (go ∙ ap (λ i. moved l (grants value x.number (grant pool d i w) p ks w)) (setting.units t plain.2.laid.is) ∙ ap (λ i. moved l (grants value i (grant pool d size w) p ks w)) number))
+            subst (λ o. Gets 6 (allocator_steps value) s0 c0 p ks (bind (bind o (on_goes (created K set (Record t) value))) (on_goes completed))) (sym (storage_is pool d units c l w fits.0))
+            (granted_runs value set x (grant code pool d units w) d place ks ops s0 c0 c l w le lo hi (is, may x refl)
+            (granted_keeps (MayStand set x) (λ f v h. h) code pool d units w (is, may x refl))
+            (since_granted k code pool d units w0 w fits) (own_granted pool d units w) fits served
+            (go ∙ ap (λ i. moved l (grants value x.number (grant code pool d i w) ops (here d place ks w))) units_are ∙ ap (λ i. moved l (grants value i (grant code pool d units w) ops (here d place ks w))) number))
 
     -- an allocator, from its step
     pub allocator_runs : (access : ℕ) → slice_get code.accesses.items access ≡ option_map home_of (slice_get k.accesses access)
-        → (value : Option (List ℕ)) (d : List ℕ) (place : ℕ) (ks : List Frame) (ops : List Word) (s0 : State) (c0 c : ℕ) (l : Log) (w : World) → c ≤ bound → c ≤ c0 → c0 ≤ c + 1 → Since k code w0 w → MayAllocate code access t d w → step ask code s0 ≡ moved l (by_allocator code t value (pool_in (slice_get code.accesses.items access)) (set_seen (slice_get code.accesses.items access) d w) ops (here d place ks w))
-        → Gets 6 8 s0 c0 (point_at d (place + 1) ops) ks (bind (allocate K d access (Record t) None value c l w) (on_goes completed))
-    allocator_runs access named value d place ks ops s0 c0 c l w le lo hi fits may first = by (slice_get k.accesses access) refl
+        → (value : Option (List ℕ)) (d : List ℕ) (place : ℕ) (ks : List Frame) (ops : List Word) (s0 : State) (c0 c : ℕ) (l : Log) (w : World) → c ≤ bound → c ≤ c0 → c0 ≤ c + allocator_takes value → Since k code w0 w → MayAllocate code access t d w → IsServed k code t value place → step ask code s0 ≡ moved l (by_allocator code t value (pool_in (slice_get code.accesses.items access)) (set_seen (slice_get code.accesses.items access) d w) ops (here d place ks w))
+        → Gets 6 (allocator_steps value) s0 c0 (point_at d (behind_allocator value place) ops) ks (bind (allocate K d access (Record t) None value c l w) (on_goes completed))
+    allocator_runs access named value d place ks ops s0 c0 c l w le lo hi fits may served first = by (slice_get k.accesses access) refl
       where
         p : Point
-        p = point_at d (place + 1) ops
+        p = point_at d (behind_allocator value place) ops
 
         -- its step, where this is its access type
         from : (o : Option AccessType) → slice_get k.accesses access ≡ o → step ask code s0 ≡ moved l (by_allocator code t value (pool_in (option_map home_of o)) (set_seen (option_map home_of o) d w) ops (here d place ks w))
         from o found = first ∙ ap (λ y. moved l (by_allocator code t value (pool_in y) (set_seen y d w) ops (here d place ks w))) (named ∙ ap (option_map home_of) found)
 
-        by : (o : Option AccessType) → slice_get k.accesses access ≡ o → Gets 6 8 s0 c0 p ks (bind (allocate K d access (Record t) None value c l w) (on_goes completed))
+        by : (o : Option AccessType) → slice_get k.accesses access ≡ o → Gets 6 (allocator_steps value) s0 c0 p ks (bind (allocate K d access (Record t) None value c l w) (on_goes completed))
         by None found =
-            subst (Gets 6 8 s0 c0 p ks) (sym (allocate_none value d access found c l w))
-            (stop_step_to ask code (Allocates k code w0) 6 8 s0 _ c0 0 (returned_to (AfterFunction p) ks) UseAfterFree l (omega arith) (from None found ∙ no_set value None ops (here d place ks w) l) refl refl)
+            subst (Gets 6 (allocator_steps value) s0 c0 p ks) (sym (allocate_none value d access found c l w))
+            (gone_runs value p ks s0 c0 l w (from None found ∙ no_set value None ops (here d place ks w) l))
         by (Some a) found =
-            subst (Gets 6 8 s0 c0 p ks) (sym (allocate_is value d access a found c l w))
-            (set_runs value a.pool (set_number d a.collection w) (set_seen (Some (home_of a)) d w) d place ks ops s0 c0 c l w le lo hi refl (λ x is. may x (ap (λ o. set_seen o d w) (named ∙ ap (option_map home_of) found) ∙ is)) fits (from (Some a) found))
+            subst (Gets 6 (allocator_steps value) s0 c0 p ks) (sym (allocate_is value d access a found c l w))
+            (set_runs value a.pool (set_number d a.collection w) (set_seen (Some (home_of a)) d w) d place ks ops s0 c0 c l w le lo hi refl (λ x is. may x (ap (λ o. set_seen o d w) (named ∙ ap (option_map home_of) found) ∙ is)) fits served (from (Some a) found))
 
 -- As a value ----------------------------------------------------------------------------------------------
 
@@ -432,12 +676,13 @@ module _ (ask : Ask) (k : Tables) (code : Code) (setting : Setting k code) (call
   allocated d value = call (OfAllocator access (Record t) None value) d >>= cells
 
   -- from its step, with the operands that it leaves, to where its value is wanted
-  step_runs : (value : Option (List ℕ)) (to : Cell) (ty : Ty) (s : List Kind) (d : List ℕ) (place : ℕ) (ks : List Frame) (ops : List Word) (c0 c : ℕ) (l : Log) (w : World) (s0 : State) → c + 1 ≤ bound → c ≤ c0 → c0 ≤ c + 1 → Since k code w0 w → IsSeen w0 d s → IsAllocable code (depth s) access t → Laid code (place + 1) (moved_to to ty s) → step ask code s0 ≡ moved l (by_allocator code t value (pool_in (slice_get code.accesses.items access)) (set_seen (slice_get code.accesses.items access) d w) ops (here d place ks w)) → RunsTo ask code (OneCell (Since k code w0) Any) 8 8 s0 c0 (landed to.named d (place + 1 + length (moved_to to ty s)) ks ops) (allocated d value c l w)
+  step_runs : (value : Option (List ℕ)) (to : Cell) (ty : Ty) (s : List Kind) (d : List ℕ) (place : ℕ) (ks : List Frame) (ops : List Word) (c0 c : ℕ) (l : Log) (w : World) (s0 : State) → c + 1 ≤ bound → c ≤ c0 → c0 ≤ c + allocator_takes value → Since k code w0 w → IsSeen w0 d s → IsAllocable code (depth s) access t → IsServed k code t value place → Laid code (behind_allocator value place) (moved_to to ty s) → step ask code s0 ≡ moved l (by_allocator code t value (pool_in (slice_get code.accesses.items access)) (set_seen (slice_get code.accesses.items access) d w) ops (here d place ks w)) → RunsTo ask code (OneCell (Since k code w0) Any) 7 (allocator_steps value) s0 c0 (landed to.named d (behind_allocator value place + length (moved_to to ty s)) ks ops) (allocated d value c l w)
   unfolding opened_outcome
-  step_runs value to ty s d place ks ops c0 c l w s0 le lo hi fits long allocable has first =
-      both_to ask code (Allocates k code w0) (OneCell (Since k code w0) Any) 6 8 1 1 8 8 s0 c0 (returned_to (AfterFunction (point_at d (place + 1) ops)) ks) (landed to.named d (place + 1 + length (moved_to to ty s)) ks ops) (call (OfAllocator access (Record t) None value) d c l w) (on_goes cells) (omega arith) (omega arith) (omega arith)
-      (calls.allocates access t plain value w0 d place ks ops c0 c l w s0 le lo hi fits (may_allocate k code access t d s w0 w allocable long fits) first)
-      (λ r c1 l1 w1 lo1 h. value_runs to ty s d (place + 1) ks ops has r c1 l1 w1 h)
+  step_runs value to ty s d place ks ops c0 c l w s0 le lo hi fits long allocable served has first =
+      let p = behind_allocator value place in
+      both_to ask code (Allocates k code w0) (OneCell (Since k code w0) Any) 6 (allocator_steps value) 1 1 7 (allocator_steps value) s0 c0 (returned_to (AfterFunction (point_at d p ops)) ks) (landed to.named d (p + length (moved_to to ty s)) ks ops) (call (OfAllocator access (Record t) None value) d c l w) (on_goes cells) (omega arith) (omega arith) (steps_enough value)
+      (calls.allocates access t plain value w0 d place ks ops c0 c l w s0 le lo hi fits (may_allocate k code access t d s w0 w allocable long fits) served first)
+      (λ r c1 l1 w1 lo1 h. value_runs to ty s d p ks ops has r c1 l1 w1 h)
 
   -- By default ----------------------------------------------------------------------------------------
 
@@ -451,9 +696,14 @@ module _ (ask : Ask) (k : Tables) (code : Code) (setting : Setting k code) (call
   runs to ty s d place ks ops zero l w le fits long has = record { n = 0; in_time = omega arith; logged = refl; going = tt; why = inl (omega arith) }
   runs to ty s d place ks ops (suc c) l w le fits long has =
       let i = InstrOf.New access t ty (height s) in
-      let end : place + 1 + length (moved_to to ty s) ≡ place + length ((i, s) ∷ moved_to to ty s) = omega arith in
+      let rest = has.2 in
+      let served : IsServed k code t None (place + 1) = (ty, height s, rest.2.0) in
+      let end : place + 1 + 1 + 1 + length (moved_to to ty s) ≡ place + length ((new access (Record t) None None).code to ty s) = omega arith in
+      let skipped : place + 1 + 0 ≡ place + 1 = omega arith in
       subst (λ q. RunsTo ask code (OneCell (Since k code w0) Any) 8 8 (at d place ks ops l w) (suc c) (landed to.named d q ks ops) (allocated d None c l w)) end
-      (step_runs None to ty s d place ks ops (suc c) c l w _ (omega (arith, le)) (omega arith) (omega arith) fits long (setting.valid.each place i s has.0 has.1).1 has.2 (by_code ask code d place ks ops l w i has.0))
+      (one_step_to ask code (OneCell (Since k code w0) Any) 7 7 8 8 (at d place ks ops l w) (at d (place + 1) ks ops l w) (suc c) c (landed to.named d (place + 1 + 1 + 1 + length (moved_to to ty s)) ks ops) (allocated d None c l w) (omega arith) (omega arith) (omega arith) (omega arith)
+      (by_code ask code d place ks ops l w (InstrOf.Skip 0) has.0 ∙ ap (λ q. at d q ks ops l w) skipped)
+      (step_runs None to ty s d (place + 1) ks ops c c l w _ (omega (arith, le)) (omega arith) (omega arith) fits long (setting.valid.each (place + 1) i s rest.0 rest.1).1 served rest.2.2 (by_code ask code d (place + 1) ks ops l w i rest.0)))
 
   pub new_value : Value ask k code bound w0 (new access (Record t) None None) (eval_step (Expr-F.New access (Record t) None None) V)
   new_value = record {
@@ -464,7 +714,7 @@ module _ (ask : Ask) (k : Tables) (code : Code) (setting : Setting k code) (call
 
   -- With the value of a part --------------------------------------------------------------------------
 
-  module _ (m : Valued) (x : Reached) (known : Reads V t x m) (walks : part_runs x k.records ≡ true) (v : Var) (first : start_of x ≡ OfVariable v) where
+  module _ (m : Valued) (x : Reached) (known : Reads V t x m) (none : none_allocates k.records ≡ true) (walks : part_runs x k.records ≡ true) (v : Var) (first : start_of x ≡ OfVariable v) where
     -- the value, and then the allocator
     abbrev copied : List ℕ → Act (List ℕ)
     copied d = m V d >>= (λ v. allocated d (Some v))
@@ -495,7 +745,9 @@ module _ (ask : Ask) (k : Tables) (code : Code) (setting : Setting k code) (call
 
         by : (o : Option Object) → step ask code s0 ≡ moved l (Table.new_from code t q.offset o (pool_in (slice_get code.accesses.items access)) (set_seen (slice_get code.accesses.items access) d w) ops (here d place ks w)) → RunsTo ask code (OneCell (Since k code w0) Any) 8 8 s0 c (landed to.named d (place + 1 + length (moved_to to ty s)) ks ops) (taken_from ask k code setting call default t plain (λ v. allocated d (Some v)) q.offset o c l w)
         by None go = stop_step_to ask code (OneCell (Since k code w0) Any) 8 8 s0 _ c 0 (landed to.named d (place + 1 + length (moved_to to ty s)) ks ops) UseAfterFree l (omega arith) go refl refl
-        by (Some o) go = step_runs (Some (cells_at q.offset (code_size code t) o)) to ty s d place ks ops c c l w s0 le (omega arith) (omega arith) fits long (setting.valid.each place i (Operand (Record t) ∷ s) has.0 has.1).1 has.2 go
+        by (Some o) go =
+            within_to ask code (OneCell (Since k code w0) Any) 7 8 8 8 s0 c (landed to.named d (place + 1 + length (moved_to to ty s)) ks ops) _ (omega arith) (omega arith)
+            (step_runs (Some (cells_at q.offset (code_size code t) o)) to ty s d place ks ops c c l w s0 le (omega arith) (omega arith) fits long (setting.valid.each place i (Operand (Record t) ∷ s) has.0 has.1).1 none has.2 go)
 
     copy_runs : (to : Cell) (ty : Ty) (s : List Kind) (d : List ℕ) (place : ℕ) (ks : List Frame) (ops : List Word) (c : ℕ) (l : Log) (w : World) → c ≤ bound → Since k code w0 w → IsSeen w0 d s → Laid code place ((new_copy access t (Some x)).code to ty s) → RunsTo ask code (OneCell (Since k code w0) Any) 8 8 (at d place ks ops l w) c (landed to.named d (place + length ((new_copy access t (Some x)).code to ty s)) ks ops) (spend (copied d) c l w)
     unfolding opened_outcome

@@ -118,8 +118,8 @@ module _ (ask : Ask) (k : Tables) (code : Code) (valid : IsValid code) (bound : 
     unfolding declare opened_outcome opened_types item_or scalar_of opened_lists
     default_is Integer known d slot c l w = refl
     default_is Boolean known d slot c l w = refl
-    default_is Count known d slot c l w = absurd known
-    default_is Address known d slot c l w = absurd known
+    default_is Count known d slot c l w = refl
+    default_is Address known d slot c l w = refl
     default_is Handle known d slot c l w = absurd known
     default_is (Access a) known d slot c l w = refl
     default_is (Record t) known d slot c l w = absurd known
@@ -128,8 +128,8 @@ module _ (ask : Ask) (k : Tables) (code : Code) (valid : IsValid code) (bound : 
     unfolding declare opened_outcome opened_types item_or scalar_of opened_lists
     value_is Integer known d slot n c l w = refl
     value_is Boolean known d slot n c l w = refl
-    value_is Count known d slot n c l w = absurd known
-    value_is Address known d slot n c l w = absurd known
+    value_is Count known d slot n c l w = refl
+    value_is Address known d slot n c l w = refl
     value_is Handle known d slot n c l w = absurd known
     value_is (Access a) known d slot n c l w = refl
     value_is (Record t) known d slot n c l w = absurd known

@@ -33,7 +33,7 @@ use Rattle.ctl_gen.proofs.Each.{Each}
 use Rattle.ctl_gen.proofs.Collections.{nested_taken}
 use Rattle.ctl_gen.proofs.Worlds.{IsNested, IsPlainSlot, plain_unset, Since, fits_empty, keeps_itself}
 use Rattle.ctl_gen.proofs.Scopes.{IsCallable}
-use Rattle.ctl_gen.proofs.Setting.{Setting, Allocates, MayAllocate, EndsIn, by_allocator, returned_to, returns, IsTold, Told, Calls}
+use Rattle.ctl_gen.proofs.Setting.{Setting, Allocates, IsServed, MayAllocate, EndsIn, allocator_steps, allocator_takes, behind_allocator, by_allocator, returned_to, returns, IsTold, Told, Calls}
 use Rattle.ctl_gen.proofs.Known.{IsPlainType}
 use Rattle.ctl_gen.proofs.Parted.{GivesDefaults}
 use Rattle.ctl_gen.proofs.Calls.{point_at}
@@ -149,29 +149,29 @@ module _ (ask : Ask) (p : Meaning) (code : Code) (setting : Setting p.tables cod
   Below (suc n) = Calls ask k code setting n (execution ask p (suc n))
 
   -- an execution takes one from the clock, and is a tick
-  call_runs : (n : ℕ) → Below n → (c : ℕ) → c ≤ n → (f : ℕ) (s : Subprogram) → slice_get setting.subprograms f ≡ Some s → (w0 : World) (v : List ℕ) (actuals : List Slot) (after : After) (ks : List Frame) (l : Log) (w : World) (s0 : State) (kind : SubprogramKind) (count : ℕ) → EndsIn kind after → Since k code w0 w → IsCallable code kind (length v) f count → IsNested w v → Each IsPlainSlot actuals → step ask code s0 ≡ moved l (enter_body (slice_get code.entries.items f) [] v actuals after ks w) → Runs ask code (Told k code w0) 2 3 s0 c (returned_to after ks) (execution ask p (suc n) (OfSubprogram f actuals) v c l w)
+  call_runs : (n : ℕ) → Below n → (c : ℕ) → c ≤ n → (f : ℕ) (s : Subprogram) → slice_get setting.subprograms f ≡ Some s → (w0 : World) (v : List ℕ) (actuals : List Slot) (after : After) (ks : List Frame) (l : Log) (w : World) (s0 : State) (kind : SubprogramKind) (count : ℕ) → EndsIn kind after → Since k code w0 w → IsCallable code kind (length v) f count → IsNested w v → Each IsPlainSlot actuals → step ask code s0 ≡ moved l (enter_body (slice_get code.entries.items f) [] v actuals after ks w) → Runs ask code (Told k code w0) 0 3 s0 c (returned_to after ks) (execution ask p (suc n) (OfSubprogram f actuals) v c l w)
   unfolding execution execute opened_outcome
   call_runs n below zero le f s here w0 v actuals after ks l w s0 kind count ends fits callable nested plain first =
       let e = first ∙ entered f s (bodies f s here) v actuals after ks l w in
       record { n = 1; in_time = omega arith; logged = ap (λ (x : State). x.log) e; going = subst IsGoing (sym e) tt; why = inl (omega arith) }
   call_runs zero below (suc c) le f s here w0 v actuals after ks l w s0 kind count ends fits callable nested plain first = absurd (omega (arith, le))
   call_runs (suc n) below (suc c) le f s here w0 v actuals after ks l w s0 kind count ends fits callable nested plain first =
-      added ask code (Told k code w0) 1 0 2 2 3 s0 (suc c) (returned_to after ks) _ (omega arith) (omega arith)
+      added ask code (Told k code w0) 1 0 2 0 3 s0 (suc c) (returned_to after ks) _ (omega arith) (omega arith)
       (number_runs (execution ask p (suc n)) n below f s here w0 v actuals after ks (suc c) c l w s0 kind count ends (omega (arith, le)) (omega arith) (omega arith) fits callable nested plain first)
 
   -- an allocator has taken one before
-  allocate_runs : (n : ℕ) → Below n → (access t : ℕ) → IsPlainType k (Record t) → (value : Option (List ℕ)) (w0 : World) (d : List ℕ) (place : ℕ) (ks : List Frame) (ops : List Word) (c0 c : ℕ) (l : Log) (w : World) (s0 : State) → c + 1 ≤ n → c ≤ c0 → c0 ≤ c + 1 → Since k code w0 w → MayAllocate code access t d w → step ask code s0 ≡ moved l (by_allocator code t value (pool_in (slice_get code.accesses.items access)) (set_seen (slice_get code.accesses.items access) d w) ops (here d place ks w)) → RunsTo ask code (Allocates k code w0) 6 8 s0 c0 (returned_to (AfterFunction (point_at d (place + 1) ops)) ks) (execution ask p (suc n) (OfAllocator access (Record t) None value) d c l w)
+  allocate_runs : (n : ℕ) → Below n → (access t : ℕ) → IsPlainType k (Record t) → (value : Option (List ℕ)) (w0 : World) (d : List ℕ) (place : ℕ) (ks : List Frame) (ops : List Word) (c0 c : ℕ) (l : Log) (w : World) (s0 : State) → c + 1 ≤ n → c ≤ c0 → c0 ≤ c + allocator_takes value → Since k code w0 w → MayAllocate code access t d w → IsServed k code t value place → step ask code s0 ≡ moved l (by_allocator code t value (pool_in (slice_get code.accesses.items access)) (set_seen (slice_get code.accesses.items access) d w) ops (here d place ks w)) → RunsTo ask code (Allocates k code w0) 6 (allocator_steps value) s0 c0 (returned_to (AfterFunction (point_at d (behind_allocator value place) ops)) ks) (execution ask p (suc n) (OfAllocator access (Record t) None value) d c l w)
   unfolding execution execute tools_with opened_outcome
-  allocate_runs zero below access t plain value w0 d place ks ops c0 c l w s0 le lo hi fits may first = absurd (omega (arith, le))
-  allocate_runs (suc n) below access t plain value w0 d place ks ops c0 c l w s0 le lo hi fits may first =
+  allocate_runs zero below access t plain value w0 d place ks ops c0 c l w s0 le lo hi fits may served first = absurd (omega (arith, le))
+  allocate_runs (suc n) below access t plain value w0 d place ks ops c0 c l w s0 le lo hi fits may served first =
       let inner = execution ask p (suc n) in
-      allocator_runs ask k code setting inner (default_in p.defaults (expression_tools ask p inner)) (constants inner) n below t plain w0 access (setting.accesses access) value d place ks ops s0 c0 c l w (omega (arith, le)) lo hi fits may first
+      allocator_runs ask k code setting inner (default_in p.defaults (expression_tools ask p inner)) (constants inner) n below t plain w0 access (setting.accesses access) value d place ks ops s0 c0 c l w (omega (arith, le)) lo hi fits may served first
 
   all_below : (n : ℕ) → Below n
   all_below zero = tt
   all_below (suc n) = record {
     runs = λ f s known w0 v actuals after ks c l w s0 kind count ends le fits callable nested plain first. call_runs n (all_below n) c le f s known w0 v actuals after ks l w s0 kind count ends fits callable nested plain first;
-    allocates = λ access t plain value w0 d place ks ops c0 c l w s0 le lo hi fits may first. allocate_runs n (all_below n) access t plain value w0 d place ks ops c0 c l w s0 le lo hi fits may first;
+    allocates = λ access t plain value w0 d place ks ops c0 c l w s0 le lo hi fits may served first. allocate_runs n (all_below n) access t plain value w0 d place ks ops c0 c l w s0 le lo hi fits may served first;
     counts = counted (suc n) n (omega arith);
   }
 

@@ -68,7 +68,7 @@ module _ (ask : Ask) (k : Tables) (code : Code) (setting : Setting k code) (call
     pub enters : Enters after i f count
 
   -- over the operands that its formals take
-  body_runs : (kind : SubprogramKind) (after : Point → After) (i : Instr) (f count : ℕ) → Calling kind after i f count → (q : Passed) (w0 : World) (d : List ℕ) (place : ℕ) (ks : List Frame) (ops below : List Word) (backs : List (ℕ × Found)) (c : ℕ) (l : Log) (w : World) → c ≤ bound → Since k code w0 w → IsCallable code kind (length d) f count → IsNested w d → Taken count ops below backs q → slice_get code.instructions.items place ≡ Some i → Runs ask code (Told k code w0) 2 3 (at d place ks ops l w) c (returned_to (after (point_at d (place + 1) below)) ks) (call (OfSubprogram f q.slots) d c l w)
+  body_runs : (kind : SubprogramKind) (after : Point → After) (i : Instr) (f count : ℕ) → Calling kind after i f count → (q : Passed) (w0 : World) (d : List ℕ) (place : ℕ) (ks : List Frame) (ops below : List Word) (backs : List (ℕ × Found)) (c : ℕ) (l : Log) (w : World) → c ≤ bound → Since k code w0 w → IsCallable code kind (length d) f count → IsNested w d → Taken count ops below backs q → slice_get code.instructions.items place ≡ Some i → Runs ask code (Told k code w0) 0 3 (at d place ks ops l w) c (returned_to (after (point_at d (place + 1) below)) ks) (call (OfSubprogram f q.slots) d c l w)
   body_runs kind after i f count calling q w0 d place ks ops below backs c l w le fits callable nested taken has =
       let p = point_at d (place + 1) below in
       let body = setting.body f callable.0.0 callable.0.1 in
@@ -93,8 +93,8 @@ module _ (ask : Ask) (k : Tables) (code : Code) (setting : Setting k code) (call
   called_runs kind after i f xs ms calling count few w0 each s d place ks ops next c l w le fits long called has on raises =
       A.actuals_then ask k code setting call default bound w0 (λ r. Told k code w0 (way_of r)) next (call_with K d f) 4 xs ms each s d place ks ops c l w le fits long (laid_front code place (actuals_code xs s) ((i, with_actuals xs s) ∷ []) has)
       (λ q c1 l1 w1 lo fits1 taken.
-      both ask code (Told k code w0) (Told k code w0) 2 3 count count (length xs + 4) (length xs + 4) _ c1 mid next (call (OfSubprogram f q.slots) d c1 l1 w1) (copying q.back) (omega (arith, few)) (omega arith) (omega (arith, few))
-      (subst (λ n. Runs ask code (Told k code w0) 2 3 (at d there ks (operands_of q.slots ops) l1 w1) c1 (returned_to (after (point_at d n ops)) ks) (call (OfSubprogram f q.slots) d c1 l1 w1)) end
+      both ask code (Told k code w0) (Told k code w0) 0 3 count count (length xs + 4) (length xs + 4) _ c1 mid next (call (OfSubprogram f q.slots) d c1 l1 w1) (copying q.back) (omega (arith, few)) (omega arith) (omega (arith, few))
+      (subst (λ n. Runs ask code (Told k code w0) 0 3 (at d there ks (operands_of q.slots ops) l1 w1) c1 (returned_to (after (point_at d n ops)) ks) (call (OfSubprogram f q.slots) d c1 l1 w1)) end
       (body_runs kind after i f (length xs) calling q w0 d there ks (operands_of q.slots ops) ops (backs_of d 0 xs) c1 l1 w1 (omega (arith, lo, le)) fits1 callable (seen_nested k code d s w0 w1 long fits1) taken here_it))
       (λ r c2 l2 w2 lo2 told. on q r c2 l2 w2 (omega (arith, lo, lo2)) taken told))
       (λ e l1 w1 fits1. ((tt, fits1), raises e l1 w1))

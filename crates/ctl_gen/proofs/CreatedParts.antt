@@ -242,11 +242,11 @@ module _ (ask : Ask) (k : Tables) (code : Code) (setting : Setting k code) (call
     HavePaths left paths = AreSame K s paths (paths_in K s (placed_at (behind left) (initialized_parts k t)))
 
     -- after its own Initialize the part is complete, or is cleaned up
-    called_runs : (paths : List (List ℕ)) → HavePaths [] paths → (s0 : State) (c : ℕ) (o : Out Returned) → c ≤ bound → Runs ask code (Told k code w0) 2 3 s0 c (returns (Initializing (new_part s t owner) ∷ ks)) o → Runs ask code (Told k code w0) 3 3 s0 c (returns ks) (bind (bind o (on_goes (λ _. nothing))) (own_then born s t paths))
+    called_runs : (paths : List (List ℕ)) → HavePaths [] paths → (s0 : State) (c : ℕ) (o : Out Returned) → c ≤ bound → Runs ask code (Told k code w0) 0 3 s0 c (returns (Initializing (new_part s t owner) ∷ ks)) o → Runs ask code (Told k code w0) 3 3 s0 c (returns ks) (bind (bind o (on_goes (λ _. nothing))) (own_then born s t paths))
     unfolding picked opened_outcome
     called_runs paths clean s0 c o le z =
         subst (Runs ask code (Told k code w0) 3 3 s0 c (returns ks)) (sym (bind_bind o (on_goes (λ _. nothing)) (own_then born s t paths)))
-        (both ask code (Told k code w0) (Told k code w0) 2 3 1 1 3 3 s0 c (returns (Initializing (new_part s t owner) ∷ ks)) (returns ks) o _ (omega arith) (omega arith) (omega arith) z over)
+        (both ask code (Told k code w0) (Told k code w0) 0 3 1 1 3 3 s0 c (returns (Initializing (new_part s t owner) ∷ ks)) (returns ks) o _ (omega arith) (omega arith) (omega arith) z over)
       where
         over : (r : Result Returned) (c1 : ℕ) (l1 : Log) (w1 : World) → c1 ≤ c → Told k code w0 (way_of r) w1 → Runs ask code (Told k code w0) 1 1 (returns (Initializing (new_part s t owner) ∷ ks) r l1 w1) c1 (returns ks) (bind (on_goes (λ _. nothing) r c1 l1 w1) (own_then born s t paths))
         over (Goes u) c1 l1 w1 lo told1 =

@@ -17,9 +17,9 @@ use Rattle.ctl_gen.proofs.Known.{AreParts, IsLaid, IsPart, IsScalar, laid_if, pa
 pub scalar_of_record : {A : Type 0} (d : A) (f : ℕ → A) (ty : Ty) → IsScalar ty → of_record d f ty ≡ d
 unfolding of_record
 scalar_of_record d f TyOf.Integer h = refl
+scalar_of_record d f TyOf.Count h = refl
 scalar_of_record d f TyOf.Boolean h = refl
-scalar_of_record d f TyOf.Count h = absurd h
-scalar_of_record d f TyOf.Address h = absurd h
+scalar_of_record d f TyOf.Address h = refl
 scalar_of_record d f TyOf.Handle h = absurd h
 scalar_of_record d f (TyOf.Access a) h = refl
 scalar_of_record d f (Record t) h = absurd h

@@ -16,7 +16,7 @@ use Rattle.ctl_meaning.specs.Types.{Tables, Elementary}
 use Rattle.ctl_meaning.specs.Names.{Default, Found, Tools}
 use Rattle.ctl_meaning.specs.Names as Names
 use Rattle.ctl_meaning.specs.Expressions.{Naming, Supplied, eval, eval_name, supply}
-use Rattle.ctl_meaning.specs.Statements.{Doing, arm_of, assign as assign_doing, assign_part, assign_record as assign_found, body_of, call as call_doing, do_each, exec, exit as exit_doing, free_object_of, handler_of, loop_for, loop_plainly, loop_while, new_line, null as null_doing, put, put_line, raise_again, raise_new, return as return_doing, within}
+use Rattle.ctl_meaning.specs.Statements.{Doing, arm_of, assign as assign_doing, assign_part, assign_record as assign_found, body_of, call as call_doing, call_allocate, call_deallocate, do_each, exec, exit as exit_doing, free_object_of, handler_of, loop_for, loop_plainly, loop_while, new_line, null as null_doing, put, put_line, raise_again, raise_new, return as return_doing, within}
 use Rattle.ctl_meaning.proofs.Trees.{exec_roll, arm_roll as guarding_roll, handler_roll as handling_roll, master_roll as body_roll}
 use Rattle.ctl_code.specs.declared.code.Code.{Code}
 use Rattle.ctl_code.specs.declared.code.Instr.TheVariants as InstrOf
@@ -24,7 +24,7 @@ use Rattle.ctl_code.specs.declared.code.Way.TheVariants as WayOf
 use Rattle.ctl_code.specs.Table.{caught_in}
 use Rattle.ctl_layout.specs.Parts.{Reached, Variable, Part, Object, is_begun}
 use Rattle.ctl_layout.specs.Values.{value_code, value_type, reached_by, sourced}
-use Rattle.ctl_layout.specs.Layout.{StatementCode, all, all_items, arm_code, assign, assign_record, call as call_code, record_code, exit, free as free_code, handled, handler_code, return, inside, item_code, master_code, missing_statement, statement_code, leaves_code}
+use Rattle.ctl_layout.specs.Layout.{StatementCode, all, all_items, arm_code, assign, assign_record, call as call_code, record_code, exit, free as free_code, handled, handler_code, return, inside, item_code, library_allocate, library_deallocate, master_code, missing_statement, statement_code, leaves_code}
 use Rattle.ctl_layout.specs.Values.{actual_code}
 use Rattle.ctl_gen.proofs.Known.{both_true, plain_if}
 use Rattle.ctl_layout.proofs.TreeLayers.{handler_roll, arm_roll, master_roll, statement_roll}
@@ -41,6 +41,7 @@ use Rattle.ctl_gen.proofs.Walked.{part_begun, start_of, steps_of}
 use Rattle.ctl_gen.proofs.Sources.{IsSource, source_means}
 use Rattle.ctl_gen.proofs.RecordAssign.{record_does}
 use Rattle.ctl_gen.proofs.Freeing.{part_freed_does, variable_freed_does}
+use Rattle.ctl_gen.proofs.LibraryCalls.{library_allocate_does, library_deallocate_does}
 use Rattle.ctl_gen.proofs.Calls.{call_does}
 use Rattle.ctl_gen.proofs.Returns.{return_runs}
 use Rattle.ctl_gen.proofs.Assign.{assign_runs}
@@ -166,6 +167,28 @@ module _ (ask : Ask) (k : Tables) (code : Code) (setting : Setting k code) (call
       let g = reaches x refl in
       part_freed_does ask k code setting call default constants bound calls access b act (begun x refl (both_true _ _ runs).0) steps t position runs g.0 (find Elementary K) g.1
 
+  -- the library's Allocate of a pool that a variable is, whose address a variable takes (13.11)
+  block_taken : (o q : Option Reached) (act held : List ℕ → Act (List ℕ)) (pool address : Naming) (size alignment : Expr) → ((x : Reached) → o ≡ Some x → Leads K x act pool) → ((x : Reached) → q ≡ Some x → Reaches K x held (address Elementary K)) → Performs (library_allocate o q (value_code size) (value_code alignment)) (call_allocate pool address (eval size) (eval alignment))
+  block_taken None q act held pool address size alignment leads reaches runs n texts = absurd (cc)
+  block_taken (Some (Part b steps t position)) q act held pool address size alignment leads reaches runs n texts = absurd (cc)
+  block_taken (Some (Object b steps)) q act held pool address size alignment leads reaches runs n texts = absurd (cc)
+  block_taken (Some (Variable p)) None act held pool address size alignment leads reaches runs n texts = absurd (cc)
+  block_taken (Some (Variable p)) (Some (Part b steps t position)) act held pool address size alignment leads reaches runs n texts = absurd (cc)
+  block_taken (Some (Variable p)) (Some (Object b steps)) act held pool address size alignment leads reaches runs n texts = absurd (cc)
+  block_taken (Some (Variable p)) (Some (Variable v)) act held pool address size alignment leads reaches runs n texts =
+      let h = both_true _ _ runs in
+      library_allocate_does ask k code call default bound p act pool (leads (Variable p) refl) v address (reaches (Variable v) refl) (value_code size) (value_code alignment) (eval size) (eval alignment) (means size h.0) (means alignment (both_true _ _ h.1).0)
+
+  -- and its Deallocate
+  block_given : (o : Option Reached) (act : List ℕ → Act (List ℕ)) (pool : Naming) (address size alignment : Expr) → ((x : Reached) → o ≡ Some x → Leads K x act pool) → Performs (library_deallocate o (value_code address) (value_code size) (value_code alignment)) (call_deallocate pool (eval address) (eval size) (eval alignment))
+  block_given None act pool address size alignment leads runs n texts = absurd (cc)
+  block_given (Some (Part b steps t position)) act pool address size alignment leads runs n texts = absurd (cc)
+  block_given (Some (Object b steps)) act pool address size alignment leads runs n texts = absurd (cc)
+  block_given (Some (Variable p)) act pool address size alignment leads runs n texts =
+      let h = both_true _ _ runs in
+      let g = both_true _ _ h.1 in
+      library_deallocate_does ask k code call default bound p act pool (leads (Variable p) refl) (value_code address) (value_code size) (value_code alignment) (eval address) (eval size) (eval alignment) (means address h.0) (means size g.0) (means alignment (both_true _ _ g.1).0)
+
   called_does : (f : ℕ) (actuals : List Actual) → Performs (call_code f (map actual_code actuals)) (call_doing f (map supply actuals))
   called_does f actuals runs n texts = call_does ask k code setting call default bound calls f (map actual_code actuals) (map supply actuals) (λ w0. actuals_mean ask k code setting call default bound calls w0 actuals runs)
 
@@ -219,8 +242,8 @@ module _ (ask : Ask) (k : Tables) (code : Code) (setting : Setting k code) (call
   stmt_rolled (Stmt-F.Call f xs) = does (Stmt-F.Call f xs) _ _ (statement_roll (Stmt-F.Call f xs)) (exec_roll (Stmt-F.Call f xs)) (called_does f xs)
   stmt_rolled (Stmt-F.Nothing x) = missing_does (Stmt-F.Nothing x) (statement_roll (Stmt-F.Nothing x))
   stmt_rolled (Stmt-F.Dispatch op x) = missing_does (Stmt-F.Dispatch op x) (statement_roll (Stmt-F.Dispatch op x))
-  stmt_rolled (Stmt-F.LibraryAllocate p x size al) = missing_does (Stmt-F.LibraryAllocate p x size al) (statement_roll (Stmt-F.LibraryAllocate p x size al))
-  stmt_rolled (Stmt-F.LibraryDeallocate p x size al) = missing_does (Stmt-F.LibraryDeallocate p x size al) (statement_roll (Stmt-F.LibraryDeallocate p x size al))
+  stmt_rolled (Stmt-F.LibraryAllocate p x size al) = does (Stmt-F.LibraryAllocate p x size al) _ _ (statement_roll (Stmt-F.LibraryAllocate p x size al)) (exec_roll (Stmt-F.LibraryAllocate p x size al)) (block_taken (reached_by p) (reached_by x) (given_by p K) (given_by x K) (eval_name p) (eval_name x) size al (name_leads K p) (name_finds K x))
+  stmt_rolled (Stmt-F.LibraryDeallocate p x size al) = does (Stmt-F.LibraryDeallocate p x size al) _ _ (statement_roll (Stmt-F.LibraryDeallocate p x size al)) (exec_roll (Stmt-F.LibraryDeallocate p x size al)) (block_given (reached_by p) (given_by p K) (eval_name p) x size al (name_leads K p))
   stmt_rolled (Stmt-F.Free a x) = does (Stmt-F.Free a x) _ _ (statement_roll (Stmt-F.Free a x)) (exec_roll (Stmt-F.Free a x)) (free_does a (reached_by x) (given_by x K) (eval_name x) (name_finds K x) (begins x))
   stmt_rolled (Stmt-F.Release x) = missing_does (Stmt-F.Release x) (statement_roll (Stmt-F.Release x))
 

@@ -256,14 +256,14 @@ module _ (ask : Ask) (k : Tables) (code : Code) (setting : Setting k code) (call
   within_is n s t c l w is = ap (λ b. add 1 (bind (either (b && true) (attempt (call_operation K s (operation (λ x. x.finalize) k t) (shown s)) >>= after_finalize cause) (done false) c l w) (on_goes (behind_own n s t)))) is
 
   -- a stretch and what follows it, which the tick of the part pays
-  behind_it : {X : Type 0} (s0 s1 : State) (ks : List Frame) (c c1 u t : ℕ) (x : Out Bool) → u ≤ t → Comes ask code 2 s0 c u c1 s1 X → Finalizes 2 2 s1 c1 ks x → Finalizes 0 0 s0 c ks (add 1 (add t x))
+  behind_it : {X : Type 0} (s0 s1 : State) (ks : List Frame) (c c1 u t : ℕ) (x : Out Bool) → u ≤ t → Comes ask code 0 s0 c u c1 s1 X → Finalizes 2 2 s1 c1 ks x → Finalizes 0 0 s0 c ks (add 1 (add t x))
   behind_it s0 s1 ks c c1 u t x le z next =
       added ask code (Passed k code cause wr) 1 4 4 0 0 s0 c (tells ks) (add t x) (omega arith) (omega arith)
       (after_comes ask code (Passed k code cause wr) 2 2 2 4 4 s0 s1 c c1 t (tells ks) x (omega arith) (omega arith)
       (record { n = z.n; falls = z.falls; enough = z.enough; in_time = omega (arith, z.in_time, le); comes = z.comes; fits = z.fits }) next)
 
   -- after its own Finalize, which raised
-  own_raised : (n : ℕ) → PartsRun n → (s : Spot) (t : ℕ) → IsSurrounded k code wr around s.object → t ≤ n → IsPlainType k (Record t) → IsDeclarable code around t → (ks : List Frame) (s0 : State) (e c c1 u : ℕ) (l : Log) (w : World) → c ≤ bound → Comes ask code 2 s0 c u c1 (gives (FinalizingOwn cause s t ∷ ks) (Raised e) l w) (Told k code wr (Some (ByRaise e)) w) → OnFailure cause → Finalizes 0 0 s0 c ks (after_own n s t (Gives (Leaves (ByRaise e)) u c1 l w))
+  own_raised : (n : ℕ) → PartsRun n → (s : Spot) (t : ℕ) → IsSurrounded k code wr around s.object → t ≤ n → IsPlainType k (Record t) → IsDeclarable code around t → (ks : List Frame) (s0 : State) (e c c1 u : ℕ) (l : Log) (w : World) → c ≤ bound → Comes ask code 0 s0 c u c1 (gives (FinalizingOwn cause s t ∷ ks) (Raised e) l w) (Told k code wr (Some (ByRaise e)) w) → OnFailure cause → Finalizes 0 0 s0 c ks (after_own n s t (Gives (Leaves (ByRaise e)) u c1 l w))
   unfolding picked opened_outcome
   own_raised n parts s t was old plain inside ks s0 e c c1 u l w le z (Remembers meant run) =
       let s1 = gives (FinalizingOwn cause s t ∷ ks) (Raised e) l w in
@@ -278,14 +278,14 @@ module _ (ask : Ask) (k : Tables) (code : Code) (setting : Setting k code) (call
       (last_step ask code (Passed k code cause wr) 2 2 s1 c1 0 (tells ks) (Leaves (ByRaise x)) l w (omega arith) (passed, z.fits.1) (ap (moved l) (run code s t ks w))))
 
   -- after the execution of its own Finalize
-  over : (n : ℕ) → PartsRun n → (s : Spot) (t : ℕ) → IsSurrounded k code wr around s.object → t ≤ n → IsPlainType k (Record t) → IsDeclarable code around t → (ks : List Frame) (s0 : State) (c : ℕ) (x : Out Returned) → c ≤ bound → Runs ask code (Told k code wr) 2 3 s0 c (returns (FinalizingOwn cause s t ∷ ks)) x → Finalizes 0 0 s0 c ks (after_own n s t (bind (add 0 x) (on_goes (λ _. nothing))))
+  over : (n : ℕ) → PartsRun n → (s : Spot) (t : ℕ) → IsSurrounded k code wr around s.object → t ≤ n → IsPlainType k (Record t) → IsDeclarable code around t → (ks : List Frame) (s0 : State) (c : ℕ) (x : Out Returned) → c ≤ bound → Runs ask code (Told k code wr) 0 3 s0 c (returns (FinalizingOwn cause s t ∷ ks)) x → Finalizes 0 0 s0 c ks (after_own n s t (bind (add 0 x) (on_goes (λ _. nothing))))
   unfolding picked opened_outcome after_finalize
   over n parts s t was old plain inside ks s0 c (Gives (Goes v) u c1 l w) le z =
       let s1 = gives (FinalizingOwn cause s t ∷ ks) (Fine Complete) l w in
       let falls = z.falls in
       behind_it s0 s1 ks c c1 u (0 + u + 0 + 0 + 0) (behind_own n s t false c1 l w) (omega arith) z (all_run n parts s t was old plain inside ks false c1 l w s1 (omega (arith, falls, le)) z.fits.1 refl)
   over n parts s t was old plain inside ks s0 c (Gives (Leaves y) u c1 l w) le z =
-      by_raise (λ x. Runs ask code (Told k code wr) 2 3 s0 c (returns {A = Returned} (FinalizingOwn cause s t ∷ ks)) (Gives (Leaves x) u c1 l w) → Finalizes 0 0 s0 c ks (after_own n s t (Gives (Leaves x) (0 + u + 0) c1 l w)))
+      by_raise (λ x. Runs ask code (Told k code wr) 0 3 s0 c (returns {A = Returned} (FinalizingOwn cause s t ∷ ks)) (Gives (Leaves x) u c1 l w) → Finalizes 0 0 s0 c ks (after_own n s t (Gives (Leaves x) (0 + u + 0) c1 l w)))
       (λ e z1. own_raised n parts s t was old plain inside ks s0 e c c1 (0 + u + 0) l w le (record { n = z1.n; falls = z1.falls; enough = z1.enough; in_time = omega (arith, z1.in_time); comes = z1.comes; fits = z1.fits }) (on_failure cause)) y z.fits.0 z
   over n parts s t was old plain inside ks s0 c (Stops why u l) le z = more_quits ask code (Passed k code cause wr) 3 0 s0 u _ l why (omega arith) z
   over n parts s t was old plain inside ks s0 c (Cut u c1 l) le z = more_halts ask code (Passed k code cause wr) 3 0 s0 c u _ l (omega arith) z

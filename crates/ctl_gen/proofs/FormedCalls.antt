@@ -20,7 +20,7 @@ use Rattle.ctl_code.specs.declared.code.Instr.TheVariants as InstrOf
 use Rattle.ctl_code.specs.declared.code.Code.{Code}
 use Rattle.ctl_code.specs.Windows.{depth, height}
 use Rattle.ctl_code.specs.Valid as Valid
-use Rattle.ctl_code.specs.Valid.{IsAllocable, HasFormals, HaveNumbers, HaveOperands, IsCalled, IsCellOf, IsFine, IsInScope, Leads, over_numbers}
+use Rattle.ctl_code.specs.Valid.{IsAllocable, HasFormals, HaveNumbers, HaveOperands, IsCalled, IsCellOf, IsFine, IsInScope, IsRecord, Leads, over_numbers}
 use Rattle.ctl_code.proofs.Numbered.{below_over, have_over}
 use Rattle.ctl_layout.specs.Around.{new_operand, out_to}
 use Rattle.ctl_layout.specs.Parts.{Reached, Object, Part, Variable}
@@ -137,9 +137,9 @@ MayCall code k = (env : W.Frames) (f : ℕ) (is : W.Signature) → W.Callable k 
 pub named_level : {env : W.Frames} {v : Var} {h : W.Holding} → W.Names env v h → 1 ≤ v.level
 named_level (W.slot found there) = omega arith
 
--- the collection of an access type in view stands around, and its record type is declared around that
+-- the collection of an access type in view stands around, and its record type, which the table has, is declared around that
 abbrev pub MayNew : Code → W.Setting → Type 0
-MayNew code k = (env : W.Frames) (a t : ℕ) → (to : W.HasAccess k env a) → to.is.designated ≡ Record t → IsAllocable code (length env) a t
+MayNew code k = (env : W.Frames) (a t : ℕ) → (to : W.HasAccess k env a) → to.is.designated ≡ Record t → IsAllocable code (length env) a t × IsRecord code t
 
 -- inside so many masters
 module _ (code : Code) (masters : ℕ) where

@@ -19,7 +19,7 @@ use Rattle.ctl_well_typed.specs.Expressions as T
 use Rattle.ctl_code.specs.declared.kinds.Kind.TheVariants as KindOf
 use Rattle.ctl_code.specs.declared.code.Code.{Code}
 use Rattle.ctl_code.specs.Valid as Valid
-use Rattle.ctl_code.specs.Valid.{HasFormals, IsAllocable}
+use Rattle.ctl_code.specs.Valid.{HasFormals, IsAllocable, IsRecord}
 use Rattle.ctl_layout.specs.Records.{is_run_type}
 use Rattle.ctl_layout.specs.Around.{new_operand}
 use Rattle.ctl_layout.specs.Parts.{OfVariable, Reached, access_value, behind_steps, in_variable, is_dereferenced}
@@ -66,9 +66,9 @@ module _ (code : Code) (records : List RecordType) where
       by (Some x) is led runs = inl (copied_own code masters a u x led (subst (IsBegun code masters) (sym (variable_first o x is).1.1) tt) allocable)
 
   -- an allocator, which is run where it has no handle, and no value but that of a part
-  allocated_fine : (masters a : ℕ) (t : Ty) (handle : Option ValueCode) (x : Option Expr) → ((u : ℕ) → t ≡ TyOf.Record u → IsAllocable code masters a u) → (new a t handle (option_map value_code x)).runs records ≡ true → Fine code masters (new a t handle (option_map value_code x)) (TyOf.Access a)
-  allocated_fine masters a (TyOf.Record u) None None may runs = inl (new_own code masters a u (may u refl))
-  allocated_fine masters a (TyOf.Record u) None (Some x) may runs = copied_fine masters a u (copied u (value_code x)) (copied_walked u x) (may u refl) runs
+  allocated_fine : (masters a : ℕ) (t : Ty) (handle : Option ValueCode) (x : Option Expr) → ((u : ℕ) → t ≡ TyOf.Record u → IsAllocable code masters a u × IsRecord code u) → (new a t handle (option_map value_code x)).runs records ≡ true → Fine code masters (new a t handle (option_map value_code x)) (TyOf.Access a)
+  allocated_fine masters a (TyOf.Record u) None None may runs = inl (new_own code masters a u (may u refl).0 (may u refl).1)
+  allocated_fine masters a (TyOf.Record u) None (Some x) may runs = copied_fine masters a u (copied u (value_code x)) (copied_walked u x) (may u refl).0 runs
   allocated_fine masters a (TyOf.Record u) (Some h) x may runs = absurd (cc)
   allocated_fine masters a TyOf.Integer h x may runs = absurd (cc)
   allocated_fine masters a TyOf.Count h x may runs = absurd (cc)

@@ -19,7 +19,7 @@ use Rattle.ctl_code.specs.declared.code.Initial.TheVariants.{Constant, ByType}
 use Rattle.ctl_code.specs.declared.code.Layout.{Layout}
 use Rattle.ctl_code.specs.declared.code.Code.{Code}
 use Rattle.ctl_code.specs.Table as Table
-use Rattle.ctl_code.specs.Valid.{AreBegunBy, AreInScope, IsBegunBy, IsDeclarable, IsDeclaredIn, IsLaid, is_finalized}
+use Rattle.ctl_code.specs.Valid.{AreBegunBy, AreInScope, IsBegunBy, IsDeclarable, IsDeclaredIn, IsLaid, IsStorageInScope, is_finalized}
 use Rattle.ctl_layout.specs.Layout.{IsLaidOut, cells_by, next_position, parent_layout}
 use Rattle.ctl_layout.specs.Defaults.{begun_before, begun_from, by_type, constant_of, finalized_by, initial_by, initial_of, is_begun, is_finalized_by, type_if}
 use Rattle.ctl_gen.proofs.Layouts.{IsAt, Perhaps, at, controlled_are, rise_to, roomy, told, type_of}
@@ -147,8 +147,12 @@ module _ (program : Checked) (typed : WellTyped program) (code : Code) (laid : I
   begun_within zero t lt = absurd (omega (arith, lt))
   begun_within (suc n) t lt = begun_by t (λ u less. begun_within n u (omega (arith, less, lt)))
 
-  pub layouts_laid : ((t : ℕ) (r : RecordType) (home : W.Frames) → slice_get program.records t ≡ Some r → slice_get typed.k.record_homes t ≡ Some home → AreInScope code (length home) t) → (t : ℕ) (x : Layout) → slice_get code.layouts.items t ≡ Some x → IsLaid code t x
-  layouts_laid in_scope t x there =
+  -- what holds of each type inside as many masters as are around it
+  abbrev pub EachAtHome : (ℕ → ℕ → Type 0) → Type 0
+  EachAtHome P = (t : ℕ) (r : RecordType) (home : W.Frames) → slice_get program.records t ≡ Some r → slice_get typed.k.record_homes t ≡ Some home → P (length home) t
+
+  pub layouts_laid : EachAtHome (AreInScope code) → EachAtHome (IsStorageInScope code) → (t : ℕ) (x : Layout) → slice_get code.layouts.items t ≡ Some x → IsLaid code t x
+  layouts_laid in_scope storage t x there =
       let r = type_of program.records code.layouts.items laid.layouts t x there in
       let home = home_of program typed t r.0 r.1 in
       let z = layout_at t r.0 r.1 in
@@ -156,6 +160,7 @@ module _ (program : Checked) (typed : WellTyped program) (code : Code) (laid : I
       let level : length home.0 ≡ x.level = sym (level_of t r.0 home.0 r.1 home.1) ∙ ap (λ (y : Layout). y.level) same in
       record {
         operations = subst (λ n. AreInScope code n t) level (in_scope t r.0 home.0 r.1 home.1);
+        storage = subst (λ n. IsStorageInScope code n t) level (storage t r.0 home.0 r.1 home.1);
         types = subst (λ n. AreBegunBy code n x.begun.items) level (subst (λ o. AreBegunBy code (length home.0) (Table.begun_in o)) there (begun_within (suc t) t (omega arith) r.0 home.0 r.1 home.1));
         units = (roomy program.records code.layouts.items laid.layouts t x there).units;
         rise = rise_to (length x.offsets.items) 0 x.begun.items (told program.records code.layouts.items laid.layouts t x there).rise;

@@ -29,14 +29,15 @@ use Rattle.ctl_code.specs.declared.code.Instr.TheVariants as InstrOf
 use Rattle.ctl_code.specs.declared.code.Way.TheVariants as WayOf
 use Rattle.ctl_code.specs.declared.code.Code.{Code}
 use Rattle.ctl_code.specs.Windows.{depth, variable_at}
-use Rattle.ctl_code.specs.Valid.{IsAtEnd, IsDeclarable, HasCollection, outermost}
+use Rattle.ctl_meaning.specs.Outcome.{program_error}
+use Rattle.ctl_code.specs.Valid.{IsAtEnd, IsDeclarable, IsException, HasCollection, IsScalar, outermost}
 use Rattle.ctl_layout.specs.Around.{behind, local_at, out_to}
 use Rattle.ctl_layout.specs.Parts.{Reached, Variable, Part, Object, part_runs, parts_run}
 use Rattle.ctl_layout.specs.Values.{ValueCode, actual_code, copied, sourced, value_code, value_type, reached_by}
 use Rattle.ctl_layout.specs.Records.{is_pool, is_run_type}
 use Rattle.ctl_layout.specs.Defaults.{is_assignable, is_outermost}
 use Rattle.ctl_layout.specs.Layout as Layout
-use Rattle.ctl_layout.specs.Layout.{ArmCode, HandlerCode, ItemCode, MasterCode, StatementCode, all, all_items, arm_code, arms_run, assign, assign_record, block, call, exit, free, gathers_code, return, handled, handler_code, handlers_run, has_choice, in_master, inside, item_code, master_code, missing_statement, order_of, ordered_pool, statement_code, tested, valued, with_value}
+use Rattle.ctl_layout.specs.Layout.{ArmCode, HandlerCode, ItemCode, MasterCode, StatementCode, all, all_items, arm_code, arms_run, assign, assign_record, block, call, exit, free, gathers_code, return, handled, handler_code, handlers_run, has_choice, in_master, inside, item_code, library_allocate, library_deallocate, master_code, missing_statement, order_of, ordered_pool, statement_code, tested, valued, with_value}
 use Rattle.ctl_layout.proofs.Extensions.{both_true}
 use Rattle.ctl_layout.proofs.TreeLayers.{arm_roll, layer_of, master_roll, handler_roll}
 use Rattle.ctl_gen.proofs.Place.{HasAt}
@@ -49,10 +50,10 @@ use Rattle.ctl_gen.proofs.FormedExpressions.{copied_found, name_found, source_fo
 use Rattle.ctl_gen.proofs.FormedLines.{block_formed}
 use Rattle.ctl_gen.proofs.FormedParts.{IsBegun, IsFound, record_formed}
 use Rattle.ctl_gen.proofs.Walked.{part_begun}
-use Rattle.ctl_gen.proofs.FormedStatements.{MayDeclare, Stays, all_stay, assign_formed, assign_part_formed, copy_formed, declaration_formed, for_stays, free_formed, free_part_formed, leaves_stay, leaves_when_stay, loop_stays, pool_formed, returned_formed, tested_turns, valued_formed}
+use Rattle.ctl_gen.proofs.FormedStatements.{MayDeclare, Stays, all_stay, allocate_formed, assign_formed, assign_part_formed, copy_formed, deallocate_formed, declaration_formed, for_stays, free_formed, free_part_formed, leaves_stay, leaves_when_stay, loop_stays, pool_formed, returned_formed, tested_turns, valued_formed}
 use Rattle.ctl_gen.proofs.FormedTexts.{print_formed}
 use Rattle.ctl_gen.proofs.FormedTypes.{run_scalar}
-use Rattle.ctl_gen.proofs.FormedValues.{Fine, usable_as, value_usable}
+use Rattle.ctl_gen.proofs.FormedValues.{Fine, Usable, usable_as, value_usable}
 
 -- a master has as many slots as it is told to
 pub slots_told : {k : W.Setting} {env : W.Frames} {f : W.Frame} {a : D.Around} {m : Master} → Mastered k env f a m → (master_code m).slots ≡ length f
@@ -61,8 +62,8 @@ slots_told (D.master {f = f} {is = items} {body = body} {hs = hs} elaborated don
 
 -- the operations of each record type that is declared around a place are declared there too, and so is each subprogram that can be called
 -- there, with slots for its formals; the collection of each access type stands in one of the masters around; and the operations of a record
--- type of the main procedure's own declarative part are declared inside its master
-module _ (code : Code) (records : List RecordType) (k : W.Setting) (declarable : (env : W.Frames) (t : ℕ) → W.HasRecord k env t → IsDeclarable code (length env) t) (may_call : MayCall code k) (may_new : MayNew code k) (seen : (env : W.Frames) (a : ℕ) → W.HasAccess k env a → HasCollection code (length env) a) (assignable : (t : ℕ) → is_outermost (slice_get records t) ≡ true → IsDeclarable code outermost t) (raisable : (x : ℕ) → x < k.exceptions → x < length code.exceptions.items) where
+-- type of the main procedure's own declarative part are declared inside its master; and Program_Error is an exception of the table
+module _ (code : Code) (records : List RecordType) (k : W.Setting) (declarable : (env : W.Frames) (t : ℕ) → W.HasRecord k env t → IsDeclarable code (length env) t) (may_call : MayCall code k) (may_new : MayNew code k) (seen : (env : W.Frames) (a : ℕ) → W.HasAccess k env a → HasCollection code (length env) a) (assignable : (t : ℕ) → is_outermost (slice_get records t) ≡ true → IsDeclarable code outermost t) (raisable : (x : ℕ) → x < k.exceptions → x < length code.exceptions.items) (fails : IsException code program_error) where
   -- Items ------------------------------------------------------------------------------------------
 
   may_declare : (env : W.Frames) (ty : Ty) → W.InView k env ty → MayDeclare code (length env) ty
@@ -180,8 +181,36 @@ module _ (code : Code) (records : List RecordType) (k : W.Setting) (declarable :
   free_good env access None found around runs a n p agrees texts can = absurd (cc)
   free_good env access (Some (Object b steps)) found around runs a n p agrees texts can = absurd (cc)
   free_good env access (Some (Part b steps t position)) found around runs a n p agrees texts can =
-      free_part_formed code access b steps t position a.stack found.0 (subst (λ m. IsBegun code m b) (sym agrees.deep) (found.1 (both_true _ _ runs).0)) (subst (λ m. HasCollection code m access) (sym agrees.deep) around) p
-  free_good env access (Some (Variable v)) found around runs a n p agrees texts can = free_formed code access (out_to a.stack v) v.slot a.stack (subst (λ m. HasCollection code m access) (sym agrees.deep) around) p
+      free_part_formed code access b steps t position a.stack fails found.0 (subst (λ m. IsBegun code m b) (sym agrees.deep) (found.1 (both_true _ _ runs).0)) (subst (λ m. HasCollection code m access) (sym agrees.deep) around) p
+  free_good env access (Some (Variable v)) found around runs a n p agrees texts can = free_formed code access (out_to a.stack v) v.slot a.stack fails (subst (λ m. HasCollection code m access) (sym agrees.deep) around) p
+
+  -- The library's Allocate and Deallocate, which are run for a pool in a variable (13.11) -----------
+
+  -- a value of a scalar type
+  usable_typed : (env : W.Frames) (e : Expr) (t : Ty) → T.Typed k env e t → IsScalar t → (value_code e).runs records ≡ true → Usable code (length env) (value_code e) t
+  usable_typed env e t typed scalar runs = usable_as code (length env) (value_code e) t scalar (typed_fine code records k may_call may_new typed runs)
+
+  allocate_good : (env : W.Frames) (p o : Option Reached) (size alignment : Expr) → T.Typed k env size Count → T.Typed k env alignment Count → GoodStatement env (library_allocate p o (value_code size) (value_code alignment))
+  allocate_good env None o size alignment h g runs a n q agrees texts can = absurd (cc)
+  allocate_good env (Some (Part b steps t position)) o size alignment h g runs a n q agrees texts can = absurd (cc)
+  allocate_good env (Some (Object b steps)) o size alignment h g runs a n q agrees texts can = absurd (cc)
+  allocate_good env (Some (Variable p)) None size alignment h g runs a n q agrees texts can = absurd (cc)
+  allocate_good env (Some (Variable p)) (Some (Part b steps t position)) size alignment h g runs a n q agrees texts can = absurd (cc)
+  allocate_good env (Some (Variable p)) (Some (Object b steps)) size alignment h g runs a n q agrees texts can = absurd (cc)
+  allocate_good env (Some (Variable p)) (Some (Variable v)) size alignment h g runs a n q agrees texts can =
+      let e = both_true ((value_code size).runs records) ((value_code alignment).runs records && true) runs in
+      let f = both_true ((value_code alignment).runs records) true e.1 in
+      allocate_formed code (length env) p (out_to a.stack v) v.slot (value_code size) (value_code alignment) a.stack agrees.deep (usable_typed env size Count h tt e.0) (usable_typed env alignment Count g tt f.0) q
+
+  deallocate_good : (env : W.Frames) (p : Option Reached) (address size alignment : Expr) → T.Typed k env address Address → T.Typed k env size Count → T.Typed k env alignment Count → GoodStatement env (library_deallocate p (value_code address) (value_code size) (value_code alignment))
+  deallocate_good env None address size alignment h g m runs a n q agrees texts can = absurd (cc)
+  deallocate_good env (Some (Part b steps t position)) address size alignment h g m runs a n q agrees texts can = absurd (cc)
+  deallocate_good env (Some (Object b steps)) address size alignment h g m runs a n q agrees texts can = absurd (cc)
+  deallocate_good env (Some (Variable p)) address size alignment h g m runs a n q agrees texts can =
+      let e = both_true ((value_code address).runs records) ((value_code size).runs records && ((value_code alignment).runs records && true)) runs in
+      let f = both_true ((value_code size).runs records) ((value_code alignment).runs records && true) e.1 in
+      let last = both_true ((value_code alignment).runs records) true f.1 in
+      deallocate_formed code (length env) p (value_code address) (value_code size) (value_code alignment) a.stack agrees.deep (usable_typed env address Address h tt e.0) (usable_typed env size Count g tt f.0) (usable_typed env alignment Count m tt last.0) q
 
   call_good : {env : W.Frames} {f : ℕ} {is : W.Signature} {actuals : List Actual} → W.Callable k env f is → is.result ≡ None → T.FitEach k env is.formals actuals → GoodStatement env (call f (map actual_code actuals))
   call_good {env} {f} {is} {actuals} can_call gives fits = λ runs a n p agrees texts can.
@@ -283,8 +312,8 @@ module _ (code : Code) (records : List RecordType) (k : W.Setting) (declarable :
     statement_good {env} (D.call {s = f} {actuals = actuals} can_call gives fits) = good_as env _ _ (layer_of _ (sym (rolls-Call f actuals))) (call_good can_call gives fits)
     statement_good {env} (D.nothing_done {x = x} views) = not_missing env _ (layer_of _ (sym (rolls-Nothing x)))
     statement_good {env} (D.dispatch {o = o} {x = x} views) = not_missing env _ (layer_of _ (sym (rolls-Dispatch o x)))
-    statement_good {env} (D.library_allocate {p = p} {x = x} {size = size} {alignment = alignment} views rooted denotes h g) = not_missing env _ (layer_of _ (sym (rolls-LibraryAllocate p x size alignment)))
-    statement_good {env} (D.library_deallocate {p = p} {x = x} {size = size} {alignment = alignment} views rooted address h g) = not_missing env _ (layer_of _ (sym (rolls-LibraryDeallocate p x size alignment)))
+    statement_good {env} (D.library_allocate {p = p} {x = x} {size = size} {alignment = alignment} views rooted denotes h g) = good_as env _ _ (layer_of _ (sym (rolls-LibraryAllocate p x size alignment))) (allocate_good env (reached_by p) (reached_by x) size alignment h g)
+    statement_good {env} (D.library_deallocate {p = p} {x = x} {size = size} {alignment = alignment} views rooted address h g) = good_as env _ _ (layer_of _ (sym (rolls-LibraryDeallocate p x size alignment))) (deallocate_good env (reached_by p) x size alignment address h g)
     statement_good {env} (D.free {t = t} {x = x} has denotes) = good_as env _ _ (layer_of _ (sym (rolls-Free t x))) (free_good env t (reached_by x) (name_found code records k may_call may_new denotes) (seen env t has))
     statement_good {env} (D.release {x = x} denotes) = not_missing env _ (layer_of _ (sym (rolls-Release x)))
     statement_good {env} (D.raise_again handles) = good_as env _ _ (layer_of _ (sym rolls-RaiseAgain)) (λ runs a n p agrees texts can. one code InstrOf.RaiseAgain a.stack (Some a.stack) (λ q next. tt) p)

@@ -7,24 +7,26 @@ use Rattle.ctl_program.specs.declared.types.RecordType.{RecordType}
 use Rattle.ctl_program.specs.declared.expression.Step.{Step}
 use Rattle.ctl_program.specs.declared.operators.Direction.{Direction}
 use Rattle.ctl_well_typed.specs.Setting as W
+use Rattle.ctl_meaning.specs.Outcome.{program_error}
 use Rattle.ctl_code.specs.declared.kinds.Kind.{Kind}
 use Rattle.ctl_code.specs.declared.kinds.Kind.TheVariants.{Operand}
 use Rattle.ctl_code.specs.declared.code.DiscriminantOrder.{DiscriminantOrder}
+use Rattle.ctl_code.specs.declared.code.Instr.{Instr}
 use Rattle.ctl_code.specs.declared.code.Instr.TheVariants as InstrOf
 use Rattle.ctl_code.specs.declared.code.Code.{Code}
 use Rattle.ctl_code.specs.declared.template.TextPart.{TextPart}
 use Rattle.ctl_code.specs.Windows.{depth, height, variable_at}
-use Rattle.ctl_code.specs.Valid.{IsCellOf, IsDeclarable, HasCollection, Leads}
-use Rattle.ctl_layout.specs.Parts.{Start, Reached, are_followed, located_code, part_code, part_runs}
+use Rattle.ctl_code.specs.Valid.{IsCellOf, IsDeclarable, IsException, IsFine, HasCollection, Leads}
+use Rattle.ctl_layout.specs.Parts.{Start, Reached, Variable, are_followed, located_code, part_code, part_runs}
 use Rattle.ctl_layout.specs.Around.{Line, Around, behind, local_at, local_cell, new_operand, newest_at, newest_cell, out_to}
 use Rattle.ctl_layout.specs.Values.{ValueCode, held, value_type}
-use Rattle.ctl_layout.specs.Layout.{StatementCode, all, assign_code, assign_part_code, bounds_code, copy, declaration, discriminants_code, for, free_part_code, in_loop, leaves_code, loop, pool_code, return_held, scalar_code, store_part_code, test_code, test_held, test_length, tested_code, turns_code, valued_code, with_bounds, with_discriminants}
+use Rattle.ctl_layout.specs.Layout.{StatementCode, all, assign_code, assign_part_code, bounds_code, copy, declaration, discriminants_code, failed_code, for, free_part_code, in_loop, leaves_code, loop, on_pool, pool_code, pool_operand, pool_type, return_held, scalar_code, store_part_code, test_code, test_held, test_length, tested_code, turns_code, valued_code, values_code, with_bounds, with_discriminants, with_pool, with_types}
 use Rattle.ctl_layout.specs.Defaults.{is_declared}
 use Rattle.ctl_layout.specs.Records.{is_plain}
 use Rattle.ctl_layout.proofs.Extensions.{both_true}
 use Rattle.ctl_gen.proofs.Place.{HasAt}
 use Rattle.ctl_gen.proofs.Place as Place
-use Rattle.ctl_gen.proofs.Formed.{both, both_at, Formed, FormedAt, has_end, leads_at, one}
+use Rattle.ctl_gen.proofs.Formed.{both, both_at, Formed, FormedAt, has_end, leads_at, none, one}
 use Rattle.ctl_gen.proofs.FormedAround.{Agrees, CanLeave, agrees_under, leave_behind, leaves_formed}
 use Rattle.ctl_gen.proofs.FormedLines.{loop_formed, test_formed, turns_formed}
 use Rattle.ctl_gen.proofs.FormedParts.{IsBegun, IsFound, located_formed, part_formed}
@@ -58,9 +60,9 @@ module _ (code : Code) where
   pub declaration_formed : (records : List RecordType) (slot at : ℕ) (ty : Ty) (s : List Kind) → is_declared records ty ≡ true → variable_at s 0 slot ≡ Some at → MayDeclare (depth s) ty → Formed code (declaration slot ty s) s (Some s)
   declaration_formed records slot at (Record t) s runs there may = one code (InstrOf.Declare slot t) s (Some s) (λ p next. (may, next))
   declaration_formed records slot at Integer s runs there may = scalar_formed slot at Integer s there tt
+  declaration_formed records slot at Count s runs there may = scalar_formed slot at Count s there tt
   declaration_formed records slot at Boolean s runs there may = scalar_formed slot at Boolean s there (omega arith)
-  declaration_formed records slot at Count s runs there may = absurd (cc)
-  declaration_formed records slot at Address s runs there may = absurd (cc)
+  declaration_formed records slot at Address s runs there may = scalar_formed slot at Address s there tt
   declaration_formed records slot at Handle s runs there may = absurd (cc)
   declaration_formed records slot at (Access a) s runs there may = scalar_formed slot at (Access a) s there tt
 
@@ -126,16 +128,49 @@ module _ (code : Code) where
       (both code h.code ((store, h.after) ∷ []) over h.after (Some s) f.formed
       (one code store h.after (Some s) (λ p next. (usable.scalar, (over, f.taken, (s, refl, next))))))
 
-  -- an object is freed whose access value is in a variable, or in a component of a part (13.11.2)
-  pub free_formed : (access out slot : ℕ) (s : List Kind) → HasCollection code (depth s) access → Formed code ((InstrOf.Free access out slot, s) ∷ []) s (Some s)
-  free_formed access out slot s seen = one code (InstrOf.Free access out slot) s (Some s) (λ p next. (seen, next))
+  -- what frees an object passes over the next instruction, which raises Program_Error, or leads to it
+  freed_formed : (i : Instr) (over s : List Kind) → IsException code program_error → ((p : ℕ) → Leads code (p + 1) s → Leads code (p + 1 + 1) s → IsFine code p i over) → Formed code ((i, over) ∷ failed_code s) over (Some s)
+  freed_formed i over s known fine p h = (h.0, (fine p h.1.0 h.1.1, (known, tt)))
 
-  pub free_part_formed : (access : ℕ) (b : Start) (steps : List Step) (t position : ℕ) (s : List Kind) → are_followed b steps ≡ true → IsBegun code (depth s) b → HasCollection code (depth s) access → Formed code (free_part_code access b steps t position s) s (Some s)
-  free_part_formed access b steps t position s followed begun seen =
+  -- an object is freed whose access value is in a variable, or in a component of a part (13.11.2)
+  pub free_formed : (access out slot : ℕ) (s : List Kind) → IsException code program_error → HasCollection code (depth s) access → Formed code ((InstrOf.Free access out slot, s) ∷ failed_code s) s (Some s)
+  free_formed access out slot s known seen = freed_formed (InstrOf.Free access out slot) s s known (λ p next behind_it. (seen, next, behind_it))
+
+  pub free_part_formed : (access : ℕ) (b : Start) (steps : List Step) (t position : ℕ) (s : List Kind) → IsException code program_error → are_followed b steps ≡ true → IsBegun code (depth s) b → HasCollection code (depth s) access → Formed code (free_part_code access b steps t position s) s (Some s)
+  free_part_formed access b steps t position s known followed begun seen =
       let over = Operand (Record t) ∷ s in
       let free = InstrOf.FreePart access t position in
-      both code (located_code b steps t s) ((free, over) ∷ []) s over (Some s) (located_formed code (depth s) b steps t s refl followed begun)
-      (one code free over (Some s) (λ p next. (seen, (s, refl, next))))
+      both code (located_code b steps t s) ((free, over) ∷ failed_code s) s over (Some s) (located_formed code (depth s) b steps t s refl followed begun)
+      (freed_formed free over s known (λ p next behind_it. (seen, (s, refl, (next, behind_it)))))
+
+  -- The library's Allocate and Deallocate (13.11) ----------------------------------------------------
+
+  abbrev pub AreUsable : ℕ → List (ValueCode × Ty) → Type 0
+  AreUsable masters [] = Unit {0}
+  AreUsable masters (x ∷ xs) = Usable code masters x.0 x.1 × AreUsable masters xs
+
+  values_formed : (masters : ℕ) (xs : List (ValueCode × Ty)) (s : List Kind) → depth s ≡ masters → AreUsable masters xs → Formed code (values_code xs s) s (Some (with_types xs s))
+  values_formed masters [] s deep usable = none code s
+  values_formed masters (x ∷ xs) s deep usable =
+      let top = Operand x.1 ∷ s in
+      both code (x.0.code (new_operand s) x.1 s) (values_code xs top) s top (Some (with_types xs top)) (usable.0.formed (new_operand s) s deep refl) (values_formed masters xs top deep usable.1)
+
+  -- an instruction on a pool and values, which it takes
+  on_pool_formed : (masters : ℕ) (p : Var) (xs : List (ValueCode × Ty)) (i : Instr) (s : List Kind) → depth s ≡ masters → AreUsable masters xs → ((place : ℕ) → Leads code (place + 1) s → IsFine code place i (with_types xs (with_pool s))) → Formed code (on_pool p xs i s) s (Some s)
+  on_pool_formed masters p xs i s deep usable fine =
+      let pool = with_pool s in
+      let top = with_types xs pool in
+      both code (pool_operand p s) (values_code xs pool ++ (i, top) ∷ []) s pool (Some s) (part_formed code masters (Variable p) pool_type s deep refl tt)
+      (both code (values_code xs pool) ((i, top) ∷ []) pool top (Some s) (values_formed masters xs pool deep usable)
+      (one code i top (Some s) fine))
+
+  pub allocate_formed : (masters : ℕ) (p : Var) (out slot : ℕ) (size alignment : ValueCode) (s : List Kind) → depth s ≡ masters → Usable code masters size Count → Usable code masters alignment Count → Formed code (on_pool p ((size, Count) ∷ (alignment, Count) ∷ []) (InstrOf.TakeBlock pool_type out slot) s) s (Some s)
+  allocate_formed masters p out slot size alignment s deep first second =
+      on_pool_formed masters p ((size, Count) ∷ (alignment, Count) ∷ []) (InstrOf.TakeBlock pool_type out slot) s deep (first, (second, tt)) (λ place next. (with_pool s, refl, (s, refl, next)))
+
+  pub deallocate_formed : (masters : ℕ) (p : Var) (address size alignment : ValueCode) (s : List Kind) → depth s ≡ masters → Usable code masters address Address → Usable code masters size Count → Usable code masters alignment Count → Formed code (on_pool p ((address, Address) ∷ (size, Count) ∷ (alignment, Count) ∷ []) (InstrOf.GiveBlock pool_type) s) s (Some s)
+  deallocate_formed masters p address size alignment s deep first second third =
+      on_pool_formed masters p ((address, Address) ∷ (size, Count) ∷ (alignment, Count) ∷ []) (InstrOf.GiveBlock pool_type) s deep (first, (second, (third, tt))) (λ place next. (with_pool s, refl, (s, refl, next)))
 
   -- a return statement with a value (6.5)
   pub returned_formed : (masters : ℕ) (x : ValueCode) (s : List Kind) → depth s ≡ masters → Usable code masters x (value_type x) → Formed code (return_held (value_type x) (held x (value_type x) s)) s (Some s)

@@ -34,9 +34,9 @@ number_of (Record t) e = absurd (cc)
 
 pub run_scalar : (t : Ty) → is_run_type t ≡ true → Valid.IsScalar t
 run_scalar Integer e = tt
+run_scalar Count e = tt
 run_scalar Boolean e = tt
-run_scalar Count e = absurd (cc)
-run_scalar Address e = absurd (cc)
+run_scalar Address e = tt
 run_scalar Handle e = absurd (cc)
 run_scalar (TyOf.Access a) e = tt
 run_scalar (Record t) e = absurd (cc)

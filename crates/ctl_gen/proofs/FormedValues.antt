@@ -1,5 +1,5 @@
 -- The code of an expression is well formed where its parts are, and puts a value of its type where it is wanted.
-use Rattle.std.proofs.Common.{◌≡◌, ℕ, ◌+◌, List, [], ◌∷◌, ◌++◌, length, Option, Some, None, true, ◌⊎◌, inl, inr, refl, sym, ap, ◌∙◌, subst}
+use Rattle.std.proofs.Common.{◌≡◌, ℕ, ◌+◌, List, [], ◌∷◌, ◌++◌, length, Option, Some, None, true, ◌⊎◌, inl, inr, refl, sym, ap, ◌∙◌, subst, arith}
 use Rattle.std.specs.Prelude.{unwrap_or}
 use Rattle.ctl_program.specs.declared.types.Ty.{Ty}
 use Rattle.ctl_program.specs.declared.types.Ty.TheVariants.{Integer, Boolean}
@@ -21,15 +21,16 @@ use Rattle.ctl_code.specs.declared.code.Instr.TheVariants as InstrOf
 use Rattle.ctl_code.specs.declared.code.Code.{Code}
 use Rattle.ctl_code.specs.Windows.{depth, height, variable_at}
 use Rattle.ctl_code.specs.Valid as Valid
-use Rattle.ctl_code.specs.Valid.{BinaryOf, IsAllocable, IsCellOf, Leads, Puts, Taken, UnaryOf}
+use Rattle.ctl_code.specs.Valid.{BinaryOf, IsAllocable, IsCellOf, IsRecord, Leads, Puts, Taken, UnaryOf, over_numbers}
+use Rattle.ctl_code.proofs.Numbered.{have_over}
 use Rattle.ctl_layout.specs.declared.right.Right.{Right}
 use Rattle.ctl_layout.specs.declared.right.Right.TheVariants as RightOf
 use Rattle.ctl_layout.specs.Around.{Line, local_at, new_operand, out_to, read_from}
 use Rattle.ctl_layout.specs.Records.{is_run_type}
 use Rattle.ctl_layout.specs.Parts.{Start, OfVariable, OfValue, Reached, Variable, Part, Object, are_followed, component_code, located_code, part_code, parts_run, taken_code}
-use Rattle.ctl_layout.specs.Values.{Held, OperatorCode, ValueCode, binary_code, chain, common_type, constant, designating, evaluated, first_type, held, held_by, in_cell, last_type, left_held, moved_to, new, new_copy, new_copy_code, next_target, operand_type, operator_by, operator_code, operator_for, operators_code, other_code, others_code, read, short, unary, value_type}
+use Rattle.ctl_layout.specs.Values.{Held, OperatorCode, ValueCode, address_numbers, binary_code, chain, common_type, constant, designating, evaluated, first_type, held, held_by, in_cell, last_type, left_held, moved_to, new, new_copy, new_copy_code, next_target, operand_type, operator_by, operator_code, operator_for, operators_code, other_code, others_code, read, short, unary, value_type}
 use Rattle.ctl_layout.proofs.Extensions.{both_true}
-use Rattle.ctl_gen.proofs.Formed.{Formed, both, has_end, none, one}
+use Rattle.ctl_gen.proofs.Formed.{Formed, both, has_end, leads_at, none, one}
 use Rattle.ctl_gen.proofs.FormedParts.{IsBegun, IsFound, located_formed, part_formed, read_fine}
 use Rattle.ctl_gen.proofs.Walked.{start_of, steps_before}
 use Rattle.ctl_gen.proofs.FormedTypes.{IsAccessType, IsLike, arithmetic_of, boolean_plain, cell_like, cell_of, equality_relates, is_relation, like_access, like_back, like_scalar, like_then, logical_of, number_of, number_scalar, of_arithmetic, of_logical, of_relation, ordering_relates, relation_of, run_scalar, same_unless, unary_plain}
@@ -322,16 +323,29 @@ module _ (code : Code) (masters : ℕ) where
         constant = λ n is. absurd (cc);
       })
 
+  -- an allocator: behind the call of an Allocate there stand numbers (13.11)
+  allocated_formed : (access t : ℕ) (ty : Ty) (s : List Kind) → Valid.IsScalar ty → depth s ≡ masters → IsAllocable code masters access t → IsRecord code t → Formed code ((InstrOf.Skip 0, s) ∷ (InstrOf.New access t ty (height s), s) ∷ (InstrOf.NewIn t ty (height s), over_numbers address_numbers s) ∷ []) s (Some (KindOf.Operand ty ∷ s))
+  allocated_formed access t ty s scalar deep allocable known p h =
+      let there : p + 1 ≡ p + 1 + 0 = omega arith in
+      let may = subst (λ n. IsAllocable code n access t) (sym deep) allocable in
+      let last = h.1.1.1 in (
+        h.0,
+        (
+          leads_at code (p + 1) (p + 1 + 0) s there h.1.0,
+          ((scalar, may, refl, h.1.1.0, last), ((scalar, known, have_over address_numbers s, refl, last), tt)),
+        ),
+      )
+
   -- the value of an allocator is a new operand, and then goes where it is wanted
-  pub new_own : (access t : ℕ) → IsAllocable code masters access t → Own (new access (TyOf.Record t) None None) (TyOf.Access access)
-  new_own access t allocable =
+  pub new_own : (access t : ℕ) → IsAllocable code masters access t → IsRecord code t → Own (new access (TyOf.Record t) None None) (TyOf.Access access)
+  new_own access t allocable known =
       own_as (new access (TyOf.Record t) None None) (TyOf.Access access) refl tt
       (λ ty scalar. record {
         scalar = scalar;
         formed = λ to s deep at.
             let top = KindOf.Operand ty ∷ s in
-            both code ((InstrOf.New access t ty (height s), s) ∷ []) (moved_to to ty s) s top (Some (with_put to.named ty s))
-            (one code (InstrOf.New access t ty (height s)) s (Some top) (λ p next. (scalar, subst (λ n. IsAllocable code n access t) (sym deep) allocable, refl, next)))
+            both code ((InstrOf.Skip 0, s) ∷ (InstrOf.New access t ty (height s), s) ∷ (InstrOf.NewIn t ty (height s), over_numbers address_numbers s) ∷ []) (moved_to to ty s) s top (Some (with_put to.named ty s))
+            (allocated_formed access t ty s scalar deep allocable known)
             (moved_formed code to ty s scalar at);
         constant = λ n is. absurd (cc);
       })

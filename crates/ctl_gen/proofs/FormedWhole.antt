@@ -21,7 +21,8 @@ use Rattle.ctl_code.specs.declared.code.Instr.{Instr}
 use Rattle.ctl_code.specs.declared.code.Entry.{Entry}
 use Rattle.ctl_code.specs.declared.code.Operations.{Operations}
 use Rattle.ctl_code.specs.declared.code.Code.{Code}
-use Rattle.ctl_code.specs.Valid.{AreInScope, IsBegun, IsDeclarable, IsEntry, IsFine, IsInScope, HasCollection, IsValid, Leads, MayBeEntry, TakesObject, outermost}
+use Rattle.ctl_meaning.specs.Outcome.{program_error}
+use Rattle.ctl_code.specs.Valid.{AreInScope, IsBegun, IsDeclarable, IsEntry, IsException, IsFine, IsInScope, IsStorageInScope, HasCollection, IsValid, Leads, MayBeEntry, TakesObject, TakesStorage, outermost, storage_formals}
 use Rattle.ctl_layout.specs.Around.{Line, Around, behind}
 use Rattle.ctl_layout.specs.Layout as Layout
 use Rattle.ctl_layout.specs.Layout.{bodies, body_code, entries_from, entry_at, HasKinds, in_body, instructions_of, IsLaidOut, kinds_of, master_code, nowhere, operations_in, operations_of, program_code}
@@ -33,7 +34,7 @@ use Rattle.ctl_gen.proofs.Place.{HasAt, has_all}
 use Rattle.ctl_gen.proofs.Place as Place
 use Rattle.ctl_gen.proofs.Formed.{AreFine, fine_both, FormedAt, Has, has_back, has_front}
 use Rattle.ctl_gen.proofs.FormedAround.{Agrees, agrees_body}
-use Rattle.ctl_gen.proofs.FormedLayouts.{alike, declarable, declarable_in, home_of, layouts_laid, not_more}
+use Rattle.ctl_gen.proofs.FormedLayouts.{EachAtHome, alike, declarable, declarable_in, home_of, layouts_laid, not_more}
 use Rattle.ctl_gen.proofs.FormedCalls.{MayCall, MayNew, kind_by, named_level}
 use Rattle.ctl_gen.proofs.FormedMasters.{master_good, slots_told}
 
@@ -64,13 +65,13 @@ entry_there place n [] f s h = absurd (cc)
 entry_there place n (x ∷ ss) zero s h = let same : x ≡ s = cc h in (place, ap (λ (y : Subprogram). Some (entry_at place y)) same)
 entry_there place n (x ∷ ss) (suc f) s h = entry_there (place + length ((body_code x).code nowhere n)) (n + length (body_code x).texts) ss f s h
 
--- the first formal has a slot
-formal_slot : (formals : List W.Formal) (first : W.Formal) (rest : List W.Formal) (others : W.Frame) → formals ≡ first ∷ rest → 1 ≤ length (map W.OfFormal formals ++ others)
-formal_slot formals first rest others e = subst (λ fs. 1 ≤ length (map W.OfFormal fs ++ others)) (sym e) (omega arith)
-
--- and each of them
+-- each formal has a slot
 formals_first : (formals : List W.Formal) (others : W.Frame) → length formals ≤ length (map W.OfFormal formals ++ others)
 formals_first formals others = let long = length-append (map W.OfFormal formals) others in let each = length-map formals W.OfFormal in omega (arith, long, each)
+
+-- so a first one and others have as many slots
+formal_slots : (formals : List W.Formal) (first : W.Formal) (rest : List W.Formal) (others : W.Frame) → formals ≡ first ∷ rest → suc (length rest) ≤ length (map W.OfFormal formals ++ others)
+formal_slots formals first rest others e = subst (λ fs. suc (length rest) ≤ length (map W.OfFormal fs ++ others)) (sym e) (formals_first (first ∷ rest) others)
 
 -- a subprogram is of the kind that its result tells
 kind_told : {k : W.Setting} {home : W.Frames} {r : Option Ty} {kind : SubprogramKind} → Results k home r kind → kind ≡ kind_by r
@@ -91,20 +92,20 @@ module _ (program : Checked) (typed : WellTyped program) where
       let s = alike W.Signature Subprogram typed.k.subprograms program.subprograms typed.fits.subprograms f is c.found in
       record { body = s.0; found = s.1; fine = typed.each_subprogram f s.0 is s.1 c.found }
 
-  -- an operation of a type: a procedure that is declared among the masters around the type, with a slot for its object
-  record Operation (f : ℕ) (home : W.Frames) : Type 0 where
+  -- an operation of a type: a procedure that is declared among the masters around the type, with slots for so many formals
+  record Operation (count f : ℕ) (home : W.Frames) : Type 0 where
     body : Subprogram
     found : slice_get program.subprograms f ≡ Some body
     kind : body.kind ≡ Procedure
     level : body.level ≤ length home
-    slots : 1 ≤ (master_code body.body).slots
+    slots : count ≤ (master_code body.body).slots
 
   -- no operation, or one such
-  abbrev MayBeOperation : W.Frames → Option ℕ → Type 0
-  MayBeOperation home None = Unit {0}
-  MayBeOperation home (Some f) = Operation f home
+  abbrev MayBeOperation : ℕ → W.Frames → Option ℕ → Type 0
+  MayBeOperation count home None = Unit {0}
+  MayBeOperation count home (Some f) = Operation count f home
 
-  overrides : (home : W.Frames) (n : ℕ) (rest : List W.Formal) (o : Option ℕ) → Overrides typed.k home n rest o → MayBeOperation home o
+  overrides : (home : W.Frames) (n : ℕ) (rest : List W.Formal) (o : Option ℕ) → Overrides typed.k home n rest o → MayBeOperation (suc (length rest)) home o
   overrides home n rest None h = tt
   overrides home n rest (Some f) (operation {is = is} c gives formals descends) =
       let s = called home f is c in
@@ -116,28 +117,45 @@ module _ (program : Checked) (typed : WellTyped program) where
         found = s.found;
         kind = kind_told s.fine.result ∙ ap kind_by gives;
         level = omega (arith, level, least);
-        slots = subst (λ m. 1 ≤ m) (sym slots) (formal_slot is.formals _ rest s.fine.others formals);
+        slots = subst (λ m. suc (length rest) ≤ m) (sym slots) (formal_slots is.formals _ rest s.fine.others formals);
       }
 
-  written : (home : W.Frames) (o : Option ℕ) → MayBeOperation home o → IsWritten program.subprograms o
-  written home None h = tt
-  written home (Some f) h = (h.body, h.found)
+  written : (count : ℕ) (home : W.Frames) (o : Option ℕ) → MayBeOperation count home o → IsWritten program.subprograms o
+  written count home None h = tt
+  written count home (Some f) h = (h.body, h.found)
 
-  initialize_written : (t : ℕ) (r : RecordType) (home : W.Frames) → slice_get program.records t ≡ Some r → slice_get typed.k.record_homes t ≡ Some home → MayBeOperation home r.operations.initialize
+  -- an operation of each type, of those that it has where it is, is one with so many formals
+  abbrev EachOperation : ℕ → (RecordType → Option ℕ) → Type 0
+  EachOperation count of = (t : ℕ) (r : RecordType) (home : W.Frames) → slice_get program.records t ≡ Some r → slice_get typed.k.record_homes t ≡ Some home → MayBeOperation count home (of r)
+
+  initialize_written : EachOperation 1 (λ r. r.operations.initialize)
   initialize_written t r home e at = overrides home t [] r.operations.initialize (typed.each_record t r home e at).operations.initialize
 
-  adjust_written : (t : ℕ) (r : RecordType) (home : W.Frames) → slice_get program.records t ≡ Some r → slice_get typed.k.record_homes t ≡ Some home → MayBeOperation home r.operations.adjust
+  adjust_written : EachOperation 1 (λ r. r.operations.adjust)
   adjust_written t r home e at = overrides home t [] r.operations.adjust (typed.each_record t r home e at).operations.adjust
 
-  finalize_written : (t : ℕ) (r : RecordType) (home : W.Frames) → slice_get program.records t ≡ Some r → slice_get typed.k.record_homes t ≡ Some home → MayBeOperation home r.operations.finalize
+  finalize_written : EachOperation 1 (λ r. r.operations.finalize)
   finalize_written t r home e at = overrides home t [] r.operations.finalize (typed.each_record t r home e at).operations.finalize
+
+  -- those of a pool (13.11)
+  allocate_written : EachOperation storage_formals (λ r. r.operations.allocate)
+  allocate_written t r home e at = overrides home t _ r.operations.allocate (typed.each_record t r home e at).operations.allocate
+
+  deallocate_written : EachOperation storage_formals (λ r. r.operations.deallocate)
+  deallocate_written t r home e at = overrides home t _ r.operations.deallocate (typed.each_record t r home e at).operations.deallocate
+
+  -- so the subprogram that it names is in the table
+  each_written : (count : ℕ) (of : RecordType → Option ℕ) → EachOperation count of → (t : ℕ) (r : RecordType) → slice_get program.records t ≡ Some r → IsWritten program.subprograms (of r)
+  each_written count of each t r e = let home = home_of program typed t r e in written count home.0 (of r) (each t r home.0 e home.1)
 
   pub linked_of : AreLinked program
   linked_of = record {
     main = let s = called [] program.main _ typed.main in (s.body, s.found);
-    initialize = λ t r e. let home = home_of program typed t r e in written home.0 r.operations.initialize (initialize_written t r home.0 e home.1);
-    adjust = λ t r e. let home = home_of program typed t r e in written home.0 r.operations.adjust (adjust_written t r home.0 e home.1);
-    finalize = λ t r e. let home = home_of program typed t r e in written home.0 r.operations.finalize (finalize_written t r home.0 e home.1);
+    initialize = each_written 1 (λ r. r.operations.initialize) initialize_written;
+    adjust = each_written 1 (λ r. r.operations.adjust) adjust_written;
+    finalize = each_written 1 (λ r. r.operations.finalize) finalize_written;
+    allocate = each_written storage_formals (λ r. r.operations.allocate) allocate_written;
+    deallocate = each_written storage_formals (λ r. r.operations.deallocate) deallocate_written;
   }
 
 -- Bodies ---------------------------------------------------------------------------------------------
@@ -221,7 +239,7 @@ module _ (program : Checked) (code : Code) (laid : IsLaidOut program code) (kind
       subst (λ (z : Operations). MayBeEntry code z.initialize × MayBeEntry code z.finalize × MayBeEntry code z.adjust) x.2
       (may_be_entry x.0.operations.initialize (linked.initialize t x.0 x.1), may_be_entry x.0.operations.finalize (linked.finalize t x.0 x.1), adjust_has (MayBeEntry code) x.0.root x.0.operations.adjust tt (may_be_entry x.0.operations.adjust (linked.adjust t x.0 x.1)))
 
-  takes_object : (home : W.Frames) (o : Option ℕ) → MayBeOperation program typed home o → TakesObject code o
+  takes_object : (home : W.Frames) (o : Option ℕ) → MayBeOperation program typed 1 home o → TakesObject code o
   takes_object home None h = tt
   takes_object home (Some f) h = let x = entry_of f h.body h.found in (entry_at x.0 h.body, x.1, h.kind, h.slots)
 
@@ -235,23 +253,44 @@ module _ (program : Checked) (code : Code) (laid : IsLaidOut program code) (kind
         adjust_has (TakesObject code) x.0.root x.0.operations.adjust tt (takes_object home.0 x.0.operations.adjust (adjust_written program typed t x.0 home.0 x.1 home.1)),
       )
 
+  takes_storage : (home : W.Frames) (o : Option ℕ) → MayBeOperation program typed storage_formals home o → TakesStorage code o
+  takes_storage home None h = tt
+  takes_storage home (Some f) h = let x = entry_of f h.body h.found in (entry_at x.0 h.body, x.1, h.kind, h.slots)
+
+  storage_of : (t : ℕ) (o : Operations) → slice_get code.records.items t ≡ Some o → TakesStorage code o.allocate × TakesStorage code o.deallocate
+  storage_of t o h =
+      let x = operations_from program.records t o (sym (ap (λ os. slice_get os t) laid.records) ∙ h) in
+      let home = home_of program typed t x.0 x.1 in
+      subst (λ (z : Operations). TakesStorage code z.allocate × TakesStorage code z.deallocate) x.2
+      (takes_storage home.0 x.0.operations.allocate (allocate_written program typed t x.0 home.0 x.1 home.1), takes_storage home.0 x.0.operations.deallocate (deallocate_written program typed t x.0 home.0 x.1 home.1))
+
   -- an operation that can be called at its type's home is in scope in as many masters as are around that
-  in_scope : (home : W.Frames) (masters : ℕ) (o : Option ℕ) → length home ≤ masters → MayBeOperation program typed home o → IsInScope code masters o
-  in_scope home masters None least h = tt
-  in_scope home masters (Some f) least h =
+  in_scope : (count : ℕ) (home : W.Frames) (masters : ℕ) (o : Option ℕ) → length home ≤ masters → MayBeOperation program typed count home o → IsInScope code masters o
+  in_scope count home masters None least h = tt
+  in_scope count home masters (Some f) least h =
       let x = entry_of f h.body h.found in
       let level = h.level in
       (entry_at x.0 h.body, x.1, omega (arith, least, level))
 
-  operations_in_scope : (t : ℕ) (r : RecordType) (home : W.Frames) → slice_get program.records t ≡ Some r → slice_get typed.k.record_homes t ≡ Some home → AreInScope code (length home) t
+  operations_in_scope : EachAtHome program typed code laid (AreInScope code)
   operations_in_scope t r home e at =
       let masters = length home in
       let least : masters ≤ masters = omega arith in (
         operations_in r,
         operations_there t r e,
-        in_scope home masters r.operations.initialize least (initialize_written program typed t r home e at),
-        in_scope home masters r.operations.finalize least (finalize_written program typed t r home e at),
-        adjust_has (IsInScope code masters) r.root r.operations.adjust tt (in_scope home masters r.operations.adjust least (adjust_written program typed t r home e at)),
+        in_scope 1 home masters r.operations.initialize least (initialize_written program typed t r home e at),
+        in_scope 1 home masters r.operations.finalize least (finalize_written program typed t r home e at),
+        adjust_has (IsInScope code masters) r.root r.operations.adjust tt (in_scope 1 home masters r.operations.adjust least (adjust_written program typed t r home e at)),
+      )
+
+  storage_in_scope : EachAtHome program typed code laid (IsStorageInScope code)
+  storage_in_scope t r home e at =
+      let masters = length home in
+      let least : masters ≤ masters = omega arith in (
+        operations_in r,
+        operations_there t r e,
+        in_scope storage_formals home masters r.operations.allocate least (allocate_written program typed t r home e at),
+        in_scope storage_formals home masters r.operations.deallocate least (deallocate_written program typed t r home e at),
       )
 
   -- a subprogram that can be called there is in scope there, and has a slot for each formal
@@ -286,7 +325,10 @@ module _ (program : Checked) (code : Code) (laid : IsLaidOut program code) (kind
       let fine = access_fine env a to in
       let level = fine.level in
       let least = not_more to.home env to.encloses in
-      (Layout.home_of to.is, collection_there env a to, named_level fine.collection, omega (arith, level, least), subst (λ n. IsDeclarable code n t) (sym level) (declarable program typed code laid to.home t (subst (W.InView typed.k to.home) designates fine.designated)))
+      let view : W.HasRecord typed.k to.home t = subst (W.InView typed.k to.home) designates fine.designated in (
+        (Layout.home_of to.is, collection_there env a to, named_level fine.collection, omega (arith, level, least), subst (λ n. IsDeclarable code n t) (sym level) (declarable program typed code laid to.home t view)),
+        (operations_in view.is, operations_there t view.is (sym (ap (λ rs. slice_get rs t) typed.fits.records) ∙ view.found)),
+      )
 
   -- the level of a type says how many masters are around it
   assignable : (t : ℕ) → is_outermost (slice_get program.records t) ≡ true → IsDeclarable code outermost t
@@ -303,6 +345,11 @@ module _ (program : Checked) (code : Code) (laid : IsLaidOut program code) (kind
   raisable : (x : ℕ) → x < typed.k.exceptions → x < length code.exceptions.items
   raisable x known = let all = ap (λ (names : List (List ℕ)). length names) laid.exceptions in omega (arith, known, typed.fits.exceptions, all)
 
+  -- Program_Error is the second exception
+  failing : IsException code program_error
+  unfolding program_error
+  failing = raisable 1 (let known = typed.fits.exceptions in let three = typed.exceptions in omega (arith, known, three))
+
   -- Instructions -------------------------------------------------------------------------------------
 
   stands : Has code 0 (program_code program) None
@@ -316,7 +363,7 @@ module _ (program : Checked) (code : Code) (laid : IsLaidOut program code) (kind
       let frame = map W.OfFormal is.formals ++ h.others in
       let slots = (master_code s.body).slots in
       let over = subst (λ m. Agrees (is.home ++ frame ∷ []) (Body s.level m ∷ [])) (sym (slots_told h.body)) (agrees_body is.home frame s.level h.level) in
-      master_good code program.records typed.k (declarable program typed code laid) may_call may_new seen assignable raisable h.body runs (Body s.level slots) [] n p over texts tt
+      master_good code program.records typed.k (declarable program typed code laid) may_call may_new seen assignable raisable failing h.body runs (Body s.level slots) [] n p over texts tt
 
   good : (f : ℕ) (s : Subprogram) → slice_get program.subprograms f ≡ Some s → GoodBody code program.records s
   good f s e =
@@ -342,5 +389,6 @@ module _ (program : Checked) (code : Code) (laid : IsLaidOut program code) (kind
     entries = λ f e h. formed.begin f e (sym (ap (λ es. slice_get es f) laid.entries) ∙ h);
     records = records_of;
     formals = formals_of;
-    layouts = layouts_laid program typed code laid operations_in_scope;
+    storage = storage_of;
+    layouts = layouts_laid program typed code laid operations_in_scope storage_in_scope;
   }

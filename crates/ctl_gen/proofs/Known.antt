@@ -12,13 +12,15 @@ use Rattle.ctl_program.specs.declared.types.RecordType.{RecordType}
 use Rattle.ctl_meaning.specs.Types.{Tables, Elementary, category_of, of_record, operation, operation_in, record_of, root_in, root_of}
 use Rattle.ctl_layout.specs.declared.forms.Form.{Form}
 use Rattle.ctl_layout.specs.declared.forms.Form.TheVariants as FormOf
-use Rattle.ctl_layout.specs.Records.{are_parts, extends_such, form_by, forms_of, have_constants, is_laid, is_laid_by, is_laid_form, is_of_library, is_part, is_plain, is_plain_by, is_plain_form, is_root_run, is_run_type, may_default}
+use Rattle.ctl_layout.specs.Records.{are_parts, extends_such, form_by, forms_of, have_constants, is_laid, is_laid_by, is_laid_form, is_part, is_plain, is_plain_by, is_plain_form, is_root_run, is_run_type, may_default, none_allocates}
 pub use Rattle.ctl_layout.proofs.Extensions.{both_true}
 use Rattle.ctl_layout.proofs.Extensions.{HasComponents, IsRow, extends_none, extends_one, row_at, rows_length, same_components}
 
 abbrev pub IsScalar : Ty → Type 0
 IsScalar Integer = Unit {0}
+IsScalar Count = Unit {0}
 IsScalar Boolean = Unit {0}
+IsScalar Address = Unit {0}
 IsScalar (Access a) = Unit {0}
 IsScalar _ = ⊥
 
@@ -26,18 +28,18 @@ IsScalar _ = ⊥
 pub scalar_elementary : (ty : Ty) → IsScalar ty → category_of ty ≡ Elementary
 unfolding category_of
 scalar_elementary Integer h = refl
+scalar_elementary Count h = refl
 scalar_elementary Boolean h = refl
-scalar_elementary Count h = absurd h
-scalar_elementary Address h = absurd h
+scalar_elementary Address h = refl
 scalar_elementary Handle h = absurd h
 scalar_elementary (Access a) h = refl
 scalar_elementary (Record t) h = absurd h
 
 pub scalar_if : (ty : Ty) → is_run_type ty ≡ true → IsScalar ty
 scalar_if Integer e = tt
+scalar_if Count e = tt
 scalar_if Boolean e = tt
-scalar_if Count e = absurd (cc)
-scalar_if Address e = absurd (cc)
+scalar_if Address e = tt
 scalar_if Handle e = absurd (cc)
 scalar_if (Access a) e = tt
 scalar_if (Record t) e = absurd (cc)
@@ -69,10 +71,9 @@ pub record IsLaid (records : List RecordType) (t : ℕ) (cs : List Component) : 
 abbrev pub IsRootRun : RecordType → Type 0
 IsRootRun r = ((r.root ≡ Controlled) ⊎ (r.root ≡ BlockPool)) ⊎ (r.root ≡ Untagged)
 
--- such a type that is laid out, with constants as defaults, and with no Allocate or Deallocate that the user wrote (13.11)
+-- such a type that is laid out, with constants as defaults
 pub record IsPlain (k : Tables) (t : ℕ) (r : RecordType) : Type 0 where
   pub kind : IsRootRun r
-  pub library : is_of_library r.operations ≡ true
   pub components : List Component
   pub laid : IsLaid k.records t components
   pub constants : have_constants components ≡ true
@@ -85,10 +86,10 @@ none_if : {A : Type 0} (o : Option A) → is_none o ≡ true → o ≡ None
 none_if None e = refl
 none_if (Some x) e = absurd (cc)
 
-root_if : (r : RecordType) (x : Root) → r.root ≡ x → is_root_run x r.operations ≡ true → IsRootRun r × (is_of_library r.operations ≡ true)
-root_if r Controlled is e = (inl (inl is), e)
-root_if r BlockPool is e = (inl (inr is), e)
-root_if r Untagged is e = (inr is, (both_true (is_of_library r.operations) (is_none r.operations.initialize && is_none r.operations.finalize) e).0)
+root_if : (r : RecordType) (x : Root) → r.root ≡ x → is_root_run x r.operations ≡ true → IsRootRun r
+root_if r Controlled is e = inl (inl is)
+root_if r BlockPool is e = inl (inr is)
+root_if r Untagged is e = inr is
 root_if r MarkPool is e = absurd (cc)
 
 -- Forms -------------------------------------------------------------------------------------------
@@ -142,7 +143,6 @@ pub record Extends (records : List RecordType) (t : ℕ) (r : RecordType) : Type
 -- and what one whose objects are declared does
 record ExtendsPlain (records : List RecordType) (t : ℕ) (r : RecordType) : Type 0 where
   kind : IsRootRun r
-  library : is_of_library r.operations ≡ true
   parts : AreParts records t r.own
   constants : have_constants r.own ≡ true
   parent : ExtendsSuch (is_plain records) t r
@@ -166,9 +166,9 @@ module _ (records : List RecordType) (t : ℕ) (r : RecordType) (here : slice_ge
 
   part_if : (c : Component) (ty : Ty) → c.ty ≡ ty → is_part made.before ty c.default ≡ true → IsPart records t c
   part_if c Integer is e = inl (subst IsScalar (sym is) tt)
+  part_if c Count is e = inl (subst IsScalar (sym is) tt)
   part_if c Boolean is e = inl (subst IsScalar (sym is) tt)
-  part_if c Count is e = absurd (cc)
-  part_if c Address is e = absurd (cc)
+  part_if c Address is e = inl (subst IsScalar (sym is) tt)
   part_if c Handle is e = absurd (cc)
   part_if c (Access a) is e = inl (subst IsScalar (sym is) tt)
   part_if c (Record u) is e =
@@ -192,8 +192,7 @@ module _ (records : List RecordType) (t : ℕ) (r : RecordType) (here : slice_ge
       let h = both_true (is_root_run r.root r.operations) (extends_such is_plain_form made.before r.parent && (are_parts made.before r.own && have_constants r.own)) e in
       let g = both_true (extends_such is_plain_form made.before r.parent) (are_parts made.before r.own && have_constants r.own) h.1 in
       let f = both_true (are_parts made.before r.own) (have_constants r.own) g.1 in
-      let x = root_if r r.root refl h.0 in
-      record { kind = x.0; library = x.1; parts = parts_if r.own f.0; constants = f.1; parent = parent_if is_plain_form plain_laid r.parent refl g.0 }
+      record { kind = root_if r r.root refl h.0; parts = parts_if r.own f.0; constants = f.1; parent = parent_if is_plain_form plain_laid r.parent refl g.0 }
 
   -- a type that is plain is laid out too
   both_made : (is_plain_by made.before r ≡ true) ⊎ (is_laid_by made.before r ≡ true) → Extends records t r
@@ -277,7 +276,7 @@ plain_if k t e =
     let laid = laid_if k.records t (plain_laid (slice_get (forms_of k.records) t) e) in
     let y = constants_within (suc t) k.records t (omega arith) e in
     let constants = subst (λ cs. have_constants cs ≡ true) (same_components k.records t y.0 laid.0 y.1 laid.1.has) y.2 in
-    (x.0, x.1, record { kind = x.2.kind; library = x.2.library; components = laid.0; laid = laid.1; constants = constants })
+    (x.0, x.1, record { kind = x.2.kind; components = laid.0; laid = laid.1; constants = constants })
 
 -- so the type of a component is one of them
 pub part_plain : (k : Tables) (t : ℕ) (c : Component) (x : IsOfPlain k.records t c) → IsPlainType k (Record x.number)
@@ -285,34 +284,23 @@ part_plain k t c x = plain_if k x.number x.plain
 
 -- Pools (13.11) -----------------------------------------------------------------------------------
 
--- an object of such a type has the library's Allocate, if it is a pool
-pub no_allocate : (k : Tables) (ty : Ty) → IsPlainType k ty → operation (λ x. x.allocate) k (record_of ty) ≡ None
-unfolding operation operation_in record_of of_record
-no_allocate k (Record t) h = ap (operation_in (λ x. x.allocate)) h.1 ∙ none_if h.0.operations.allocate (both_true _ _ h.2.library).0
-no_allocate k Integer h = absurd h
-no_allocate k Count h = absurd h
-no_allocate k Boolean h = absurd h
-no_allocate k Address h = absurd h
-no_allocate k Handle h = absurd h
-no_allocate k (Access a) h = absurd h
+none_there : (records : List RecordType) (t : ℕ) → none_allocates records ≡ true → operation_in (λ x. x.allocate) (slice_get records t) ≡ None
+unfolding operation_in
+none_there [] t e = refl
+none_there (r ∷ rs) zero e = none_if r.operations.allocate (both_true (is_none r.operations.allocate) (none_allocates rs) e).0
+none_there (r ∷ rs) (suc t) e = none_there rs t (both_true (is_none r.operations.allocate) (none_allocates rs) e).1
 
--- and the library's Deallocate
-pub no_deallocate : (k : Tables) (ty : Ty) → IsPlainType k ty → operation (λ x. x.deallocate) k (record_of ty) ≡ None
-unfolding operation operation_in record_of of_record
-no_deallocate k (Record t) h = ap (operation_in (λ x. x.deallocate)) h.1 ∙ none_if h.0.operations.deallocate (both_true _ _ h.2.library).1
-no_deallocate k Integer h = absurd h
-no_deallocate k Count h = absurd h
-no_deallocate k Boolean h = absurd h
-no_deallocate k Address h = absurd h
-no_deallocate k Handle h = absurd h
-no_deallocate k (Access a) h = absurd h
+-- where no type has an Allocate that the user wrote, no object has such a type
+pub no_allocate : (k : Tables) (t : ℕ) → none_allocates k.records ≡ true → operation (λ x. x.allocate) k t ≡ None
+unfolding operation
+no_allocate k t e = none_there k.records t e
 
 never_mark_pool : (r : RecordType) → IsRootRun r → r.root ≢ MarkPool
 never_mark_pool r (inl (inl h)) e = let bad : Controlled ≡ MarkPool = sym h ∙ e in cc
 never_mark_pool r (inl (inr h)) e = let bad : BlockPool ≡ MarkPool = sym h ∙ e in cc
 never_mark_pool r (inr h) e = let bad : Untagged ≡ MarkPool = sym h ∙ e in cc
 
--- and it is no mark pool
+-- an object of such a type is no mark pool
 pub no_mark_pool : (k : Tables) (ty : Ty) → IsPlainType k ty → root_of k (record_of ty) ≢ MarkPool
 unfolding root_of root_in record_of of_record
 no_mark_pool k (Record t) h = λ e. never_mark_pool h.0 h.2.kind (sym (ap root_in h.1) ∙ e)

@@ -325,9 +325,9 @@ module _ (k : Tables) (layouts : List Layout) (t : ℕ) (before : List Layout) (
 
 one_cell : (layouts : List Layout) (ty : Ty) → IsScalar ty → cells_by layouts ty ≡ 1
 one_cell layouts TyOf.Integer h = refl
+one_cell layouts TyOf.Count h = refl
 one_cell layouts TyOf.Boolean h = refl
-one_cell layouts TyOf.Count h = absurd h
-one_cell layouts TyOf.Address h = absurd h
+one_cell layouts TyOf.Address h = refl
 one_cell layouts TyOf.Handle h = absurd h
 one_cell layouts (TyOf.Access a) h = refl
 one_cell layouts (Record t) h = absurd h
@@ -339,9 +339,9 @@ offset_is (Some x) position = refl
 
 pub no_type : (layouts : List Layout) (ty : Ty) → IsScalar ty → by_type layouts ty ≡ None
 no_type layouts TyOf.Integer h = refl
+no_type layouts TyOf.Count h = refl
 no_type layouts TyOf.Boolean h = refl
-no_type layouts TyOf.Count h = absurd h
-no_type layouts TyOf.Address h = absurd h
+no_type layouts TyOf.Address h = refl
 no_type layouts TyOf.Handle h = absurd h
 no_type layouts (TyOf.Access a) h = refl
 no_type layouts (Record t) h = absurd h
@@ -539,9 +539,9 @@ module _ (k : Tables) (xs : List Layout) (laid : AreLayouts [] xs k.records) whe
 -- a component that is no record takes as many as the meaning says
 scalar_units : (layouts : List Layout) (ty : Ty) → IsScalar ty → units_by layouts ty ≡ scalar_size
 scalar_units layouts TyOf.Integer h = refl
+scalar_units layouts TyOf.Count h = refl
 scalar_units layouts TyOf.Boolean h = refl
-scalar_units layouts TyOf.Count h = absurd h
-scalar_units layouts TyOf.Address h = absurd h
+scalar_units layouts TyOf.Address h = refl
 scalar_units layouts TyOf.Handle h = absurd h
 scalar_units layouts (TyOf.Access a) h = refl
 scalar_units layouts (Record t) h = absurd h

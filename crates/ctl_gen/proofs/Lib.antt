@@ -52,6 +52,7 @@ pub mod PoolDeclared
 pub mod Copies
 pub mod RecordAssign
 pub mod Freeing
+pub mod LibraryCalls
 pub mod Actuals
 pub mod CopiesBack
 pub mod Calls
@@ -85,6 +86,7 @@ pub mod EmittedParts
 pub mod EmittedTexts
 pub mod EmittedStatements
 pub mod EmittedCalls
+pub mod EmittedStorage
 pub mod EmittedLoops
 pub mod EmittedArms
 pub mod EmittedHandlers

@@ -16,7 +16,7 @@ use Rattle.ctl_code.specs.declared.code.Layout.{Layout}
 use Rattle.ctl_code.specs.declared.code.Operations.{Operations}
 use Rattle.ctl_code.specs.declared.code.Code.{Code}
 use Rattle.ctl_code.specs.Table.{begun_in, begun_of, controlled_in, controlled_of, operation_in, operation_of}
-use Rattle.ctl_code.specs.Valid.{AreBegunBy, AreInScope, HasFormals, IsBegunBy, IsDeclarable, IsDeclaredIn, IsInScope, IsValid, PositionsRise, TakesObject, outermost}
+use Rattle.ctl_code.specs.Valid.{AreBegunBy, AreInScope, HasFormals, IsBegunBy, IsDeclarable, IsDeclaredIn, IsInScope, IsStorageInScope, IsValid, PositionsRise, TakesObject, TakesStorage, outermost, storage_formals}
 use Rattle.ctl_code.proofs.Declarable.{layout_of}
 use Rattle.ctl_gen.proofs.Each.{IfFound}
 use Rattle.ctl_gen.proofs.Collections.{home, belongs_home}
@@ -70,6 +70,25 @@ finalize_in code valid n t f inside op = let at = operations_in code valid n t i
 
 pub adjust_in : (code : Code) → IsValid code → (n t f : ℕ) → IsDeclarable code n t → operation_of (λ x. x.adjust) code t ≡ Some f → IsCallable code Procedure n f 1
 adjust_in code valid n t f inside op = let at = operations_in code valid n t inside in operation_callable code n t f (λ x. x.adjust) at.0 at.1 op at.4 (valid.formals t at.0 at.1).2
+
+-- Allocate and Deallocate of a type of pools that is declared in so many masters, where the user wrote them (13.11)
+pub storage_in : (code : Code) → IsValid code → (n t : ℕ) → IsDeclarable code n t → IsStorageInScope code n t
+storage_in code valid n t inside =
+    let has = layout_of code n t inside in
+    let at = (valid.layouts t has.layout has.found).storage in
+    (at.0, at.1, in_scope_later code has.layout.level n at.0.allocate has.level at.2, in_scope_later code has.layout.level n at.0.deallocate has.level at.3)
+
+-- one that is in scope, and takes a pool, an address, a size and an alignment, can be called
+storage_callable : (code : Code) (n t f : ℕ) (g : Operations → Option ℕ) (o : Operations) → slice_get code.records.items t ≡ Some o → operation_of g code t ≡ Some f → IsInScope code n (g o) → TakesStorage code (g o) → IsCallable code Procedure n f storage_formals
+storage_callable code n t f g o at op scope takes =
+    let named : g o ≡ Some f = sym (ap (operation_in g) at) ∙ op in
+    (subst (IsInScope code n) named scope, subst (TakesStorage code) named takes)
+
+pub allocate_in : (code : Code) → IsValid code → (n t f : ℕ) → IsDeclarable code n t → operation_of (λ x. x.allocate) code t ≡ Some f → IsCallable code Procedure n f storage_formals
+allocate_in code valid n t f inside op = let at = storage_in code valid n t inside in storage_callable code n t f (λ x. x.allocate) at.0 at.1 op at.2 (valid.storage t at.0 at.1).0
+
+pub deallocate_in : (code : Code) → IsValid code → (n t f : ℕ) → IsDeclarable code n t → operation_of (λ x. x.deallocate) code t ≡ Some f → IsCallable code Procedure n f storage_formals
+deallocate_in code valid n t f inside op = let at = storage_in code valid n t inside in storage_callable code n t f (λ x. x.deallocate) at.0 at.1 op at.3 (valid.storage t at.0 at.1).1
 
 -- Components ----------------------------------------------------------------------------------------
 

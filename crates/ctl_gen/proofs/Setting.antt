@@ -2,6 +2,7 @@
 use Rattle.std.proofs.Common.{◌≡◌, ℕ, ◌+◌, ◌<◌, ◌≤◌, List, [], ◌∷◌, length, Option, Some, None, true, refl, ◌∙◌, subst}
 use Rattle.std.specs.Prelude.{slice_get, option_map}
 use Rattle.ctl_program.specs.declared.program.Subprogram.{Subprogram}
+use Rattle.ctl_program.specs.declared.types.Ty.{Ty}
 use Rattle.ctl_program.specs.declared.types.Ty.TheVariants.{Record}
 use Rattle.ctl_program.specs.declared.types.Var.{Var}
 use Rattle.ctl_program.specs.declared.types.RecordType.{RecordType}
@@ -26,7 +27,7 @@ use Rattle.ctl_code.specs.Table.{Here, by_new, enter_body, new_with, offset_of, 
 use Rattle.ctl_code.specs.Steps.{moved, step}
 use Rattle.ctl_code.specs.Valid.{IsDeclarable, IsValid, kinds_at}
 use Rattle.ctl_code.specs.Windows.{depth}
-use Rattle.ctl_layout.specs.Records.{adjust_by, is_laid}
+use Rattle.ctl_layout.specs.Records.{adjust_by, is_laid, none_allocates}
 use Rattle.ctl_layout.specs.Layout.{home_of}
 use Rattle.ctl_layout.specs.Run.{IsBody}
 use Rattle.ctl_gen.proofs.Known.{IsPlainType}
@@ -54,12 +55,17 @@ pub record Setting (k : Tables) (code : Code) : Type 0 where
   pub initialize : (t : ℕ) → operation_of (λ x. x.initialize) code t ≡ operation (λ x. x.initialize) k t
   pub adjust : (t : ℕ) (r : RecordType) → slice_get k.records t ≡ Some r → operation_of (λ x. x.adjust) code t ≡ adjust_by r.root r.operations.adjust
   pub finalize : (t : ℕ) → operation_of (λ x. x.finalize) code t ≡ operation (λ x. x.finalize) k t
+  -- the Allocate and the Deallocate that the user wrote for a type of pools (13.11)
+  pub allocate : (t : ℕ) → operation_of (λ x. x.allocate) code t ≡ operation (λ x. x.allocate) k t
+  pub deallocate : (t : ℕ) → operation_of (λ x. x.deallocate) code t ≡ operation (λ x. x.deallocate) k t
   -- the collection of each access type stands in the same slot, and so does its storage pool
   pub accesses : (access : ℕ) → slice_get code.accesses.items access ≡ option_map home_of (slice_get k.accesses access)
   pub body : (f : ℕ) (e : Entry) → slice_get code.entries.items f ≡ Some e → IsBody subprograms f
   pub initialize_body : (t f : ℕ) → operation (λ x. x.initialize) k t ≡ Some f → IsBody subprograms f
   pub adjust_body : (t f : ℕ) → operation (λ x. x.adjust) k t ≡ Some f → IsBody subprograms f
   pub finalize_body : (t f : ℕ) → operation (λ x. x.finalize) k t ≡ Some f → IsBody subprograms f
+  pub allocate_body : (t f : ℕ) → operation (λ x. x.allocate) k t ≡ Some f → IsBody subprograms f
+  pub deallocate_body : (t f : ℕ) → operation (λ x. x.deallocate) k t ≡ Some f → IsBody subprograms f
 
 -- what evaluates with these executions
 abbrev pub tools_with : Ask → Tables → Call → Default → Tools
@@ -134,6 +140,27 @@ abbrev pub by_allocator : Code → ℕ → Option (List ℕ) → Option Var → 
 by_allocator code t None = by_new code t
 by_allocator code t (Some v) = new_with code t v
 
+-- the place that an allocator leads to: without a value it is behind two instructions, since the next one is for the address that a user's
+-- Allocate gave (13.11)
+abbrev pub behind_allocator : Option (List ℕ) → ℕ → ℕ
+behind_allocator None place = place + 1 + 1
+behind_allocator (Some v) place = place + 1
+
+-- that instruction stands behind it; with a value none is needed, since no type has an Allocate that the user wrote
+abbrev pub IsServed : (k : Tables) (code : Code) → ℕ → Option (List ℕ) → ℕ → Type 0
+IsServed k code t None place = (ty : Ty) × (at : ℕ) × (slice_get code.instructions.items (place + 1) ≡ Some (InstrOf.NewIn t ty at))
+IsServed k code t (Some v) place = none_allocates k.records ≡ true
+
+-- how much the step of an allocator takes from the clock: without a value another step, before it, has taken what an allocator takes
+abbrev pub allocator_takes : Option (List ℕ) → ℕ
+allocator_takes None = 0
+allocator_takes (Some v) = 1
+
+-- how many steps that no tick pays come at most before an allocator is cut or has stopped, from its own step on
+abbrev pub allocator_steps : Option (List ℕ) → ℕ
+allocator_steps None = 7
+allocator_steps (Some v) = 8
+
 -- an allocator gives one cell, and nothing but an exception leaves it
 abbrev pub Allocates : (k : Tables) (code : Code) → World → Result Returned → World → Type 0
 Allocates k code w0 (Goes r) w = ((n : ℕ) × (r.cells ≡ n ∷ [])) × Since k code w0 w
@@ -144,8 +171,8 @@ Allocates k code w0 (Leaves y) w = IsRaise y × Since k code w0 w
 -- the state whose step is theirs. The finalization of a member, with all that its operations do, leaves no more on the clock and members to
 -- be finalized together than there were
 pub record Calls (ask : Ask) (k : Tables) (code : Code) (setting : Setting k code) (bound : ℕ) (call : Call) : Type 0 where
-  pub runs : (f : ℕ) (s : Subprogram) → slice_get setting.subprograms f ≡ Some s → (w0 : World) (v : List ℕ) (actuals : List Slot) (after : After) (ks : List Frame) (c : ℕ) (l : Log) (w : World) (s0 : State) (kind : SubprogramKind) (count : ℕ) → EndsIn kind after → c ≤ bound → Since k code w0 w → IsCallable code kind (length v) f count → IsNested w v → Each IsPlainSlot actuals → step ask code s0 ≡ moved l (enter_body (slice_get code.entries.items f) [] v actuals after ks w) → Runs ask code (Told k code w0) 2 3 s0 c (returned_to after ks) (call (OfSubprogram f actuals) v c l w)
-  pub allocates : (access t : ℕ) → IsPlainType k (Record t) → (value : Option (List ℕ)) (w0 : World) (d : List ℕ) (place : ℕ) (ks : List Frame) (ops : List Word) (c0 c : ℕ) (l : Log) (w : World) (s0 : State) → c + 1 ≤ bound → c ≤ c0 → c0 ≤ c + 1 → Since k code w0 w → MayAllocate code access t d w → step ask code s0 ≡ moved l (by_allocator code t value (pool_in (slice_get code.accesses.items access)) (set_seen (slice_get code.accesses.items access) d w) ops (record { display = d; place = place; control = ks; world = w })) → RunsTo ask code (Allocates k code w0) 6 8 s0 c0 (returned_to (AfterFunction (record { display = d; place = place + 1; operands = ops })) ks) (call (OfAllocator access (Record t) None value) d c l w)
+  pub runs : (f : ℕ) (s : Subprogram) → slice_get setting.subprograms f ≡ Some s → (w0 : World) (v : List ℕ) (actuals : List Slot) (after : After) (ks : List Frame) (c : ℕ) (l : Log) (w : World) (s0 : State) (kind : SubprogramKind) (count : ℕ) → EndsIn kind after → c ≤ bound → Since k code w0 w → IsCallable code kind (length v) f count → IsNested w v → Each IsPlainSlot actuals → step ask code s0 ≡ moved l (enter_body (slice_get code.entries.items f) [] v actuals after ks w) → Runs ask code (Told k code w0) 0 3 s0 c (returned_to after ks) (call (OfSubprogram f actuals) v c l w)
+  pub allocates : (access t : ℕ) → IsPlainType k (Record t) → (value : Option (List ℕ)) (w0 : World) (d : List ℕ) (place : ℕ) (ks : List Frame) (ops : List Word) (c0 c : ℕ) (l : Log) (w : World) (s0 : State) → c + 1 ≤ bound → c ≤ c0 → c0 ≤ c + allocator_takes value → Since k code w0 w → MayAllocate code access t d w → IsServed k code t value place → step ask code s0 ≡ moved l (by_allocator code t value (pool_in (slice_get code.accesses.items access)) (set_seen (slice_get code.accesses.items access) d w) ops (record { display = d; place = place; control = ks; world = w })) → RunsTo ask code (Allocates k code w0) 6 (allocator_steps value) s0 c0 (returned_to (AfterFunction (record { display = d; place = behind_allocator value place; operands = ops })) ks) (call (OfAllocator access (Record t) None value) d c l w)
   pub counts : (default : Default) (m : Member) → UpTo k ask bound (finalize_begun (tools_with ask k call default) CauseOf.Collection m)
 
 -- what is shown when a body is entered is shown before

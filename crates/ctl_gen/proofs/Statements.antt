@@ -119,8 +119,8 @@ module _ (ask : Ask) (k : Tables) (code : Code) (setting : Setting k code) (call
       added ask code (Kept k code w0) 1 5 7 0 0 _ c (arrives (lands a place) d (place + 1) ks ops) _ (omega arith) (omega arith) (added ask code (Kept k code w0) 0 5 7 5 7 _ c (arrives (lands a place) d (place + 1) ks ops) _ (omega arith) (omega arith) (declare_runs ask k code setting call default constants t known.0 known.1 known.2 bound calls slot (lands a place) a.stack w0 d place ks ops c l w le fits sees has))
   bare_object slot Integer runs a w0 d place ks ops c l w le fits sees has = scalar_runs ask k code setting.valid bound call default slot Integer tt a w0 d place ks ops c l w le fits sees has
   bare_object slot Boolean runs a w0 d place ks ops c l w le fits sees has = scalar_runs ask k code setting.valid bound call default slot Boolean tt a w0 d place ks ops c l w le fits sees has
-  bare_object slot Count runs a w0 d place ks ops c l w le fits sees has = absurd (cc)
-  bare_object slot Address runs a w0 d place ks ops c l w le fits sees has = absurd (cc)
+  bare_object slot Count runs a w0 d place ks ops c l w le fits sees has = scalar_runs ask k code setting.valid bound call default slot Count tt a w0 d place ks ops c l w le fits sees has
+  bare_object slot Address runs a w0 d place ks ops c l w le fits sees has = scalar_runs ask k code setting.valid bound call default slot Address tt a w0 d place ks ops c l w le fits sees has
   bare_object slot Handle runs a w0 d place ks ops c l w le fits sees has = absurd (cc)
   bare_object slot (Access t) runs a w0 d place ks ops c l w le fits sees has = scalar_runs ask k code setting.valid bound call default slot (Access t) tt a w0 d place ks ops c l w le fits sees has
 

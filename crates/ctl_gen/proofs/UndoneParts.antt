@@ -194,7 +194,7 @@ module _ (ask : Ask) (k : Tables) (code : Code) (setting : Setting k code) (call
     -- a part of a type that is at hand, whose components are finalized behind its own Finalize
     module _ (n : ℕ) (parts : PartsRun n) (s : Spot) (t : ℕ) (was : object_at s.object wr ≡ Some o) (old : t ≤ n) (plain : IsPlainType k (Record t)) (inside : IsDeclarable code around t) (ks : List Frame) (known : adjusted_in ks ≡ paths) (s0 : State) (c : ℕ) (le : c ≤ bound) where
       -- once it has ended, by an exception or not
-      behind_runs : {X : Type 0} (failed : Bool) (y : Tried Handed) (u c1 : ℕ) (l : Log) (w : World) → Comes ask code 2 s0 c u c1 (gives (UndoingOwn s t ∷ ks) y l w) X → Since k code wr w → step ask code (gives (UndoingOwn s t ∷ ks) y l w) ≡ moved l (undo_components code s t ks w) → Undoes 0 0 s0 c ks (add 1 (add (0 + u + 0 + 0 + 0) (behind_own n s t failed c1 l w)))
+      behind_runs : {X : Type 0} (failed : Bool) (y : Tried Handed) (u c1 : ℕ) (l : Log) (w : World) → Comes ask code 0 s0 c u c1 (gives (UndoingOwn s t ∷ ks) y l w) X → Since k code wr w → step ask code (gives (UndoingOwn s t ∷ ks) y l w) ≡ moved l (undo_components code s t ks w) → Undoes 0 0 s0 c ks (add 1 (add (0 + u + 0 + 0 + 0) (behind_own n s t failed c1 l w)))
       behind_runs failed y u c1 l w z fits go =
           let falls = z.falls in
           added ask code (Sure k code wr) 1 4 4 0 0 s0 c (undone ks) _ (omega arith) (omega arith)
@@ -203,11 +203,11 @@ module _ (ask : Ask) (k : Tables) (code : Code) (setting : Setting k code) (call
           (all_run n parts s t was old plain inside ks known failed c1 l w (gives (UndoingOwn s t ∷ ks) y l w) (omega (arith, falls, le)) fits go))
 
       -- after its execution
-      over : (x : Out Returned) → Runs ask code (Told k code wr) 2 3 s0 c (returns (UndoingOwn s t ∷ ks)) x → Undoes 0 0 s0 c ks (after_own n s t (bind (add 0 x) (on_goes (λ _. nothing))))
+      over : (x : Out Returned) → Runs ask code (Told k code wr) 0 3 s0 c (returns (UndoingOwn s t ∷ ks)) x → Undoes 0 0 s0 c ks (after_own n s t (bind (add 0 x) (on_goes (λ _. nothing))))
       unfolding picked opened_outcome after_finalize
       over (Gives (Goes v) u c1 l w) z = behind_runs false (Fine Complete) u c1 l w z z.fits.1 refl
       over (Gives (Leaves y) u c1 l w) z =
-          by_raise (λ x. Runs ask code (Told k code wr) 2 3 s0 c (returns {A = Returned} (UndoingOwn s t ∷ ks)) (Gives (Leaves x) u c1 l w) → Undoes 0 0 s0 c ks (after_own n s t (Gives (Leaves x) (0 + u + 0) c1 l w)))
+          by_raise (λ x. Runs ask code (Told k code wr) 0 3 s0 c (returns {A = Returned} (UndoingOwn s t ∷ ks)) (Gives (Leaves x) u c1 l w) → Undoes 0 0 s0 c ks (after_own n s t (Gives (Leaves x) (0 + u + 0) c1 l w)))
           (λ e z1. behind_runs true (Raised e) u c1 l w z1 z1.fits.1 refl) y z.fits.0 z
       over (Stops why u l) z = more_quits ask code (Sure k code wr) 3 0 s0 u _ l why (omega arith) z
       over (Cut u c1 l) z = more_halts ask code (Sure k code wr) 3 0 s0 c u _ l (omega arith) z

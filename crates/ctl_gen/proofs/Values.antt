@@ -18,9 +18,9 @@ one_cell (x ∷ v) = refl
 pub scalar_cells : (k : Tables) (ty : Ty) → IsScalar ty → cells_of k ty ≡ 1
 unfolding opened_types
 scalar_cells k TyOf.Integer h = refl
+scalar_cells k TyOf.Count h = refl
 scalar_cells k TyOf.Boolean h = refl
-scalar_cells k TyOf.Count h = absurd h
-scalar_cells k TyOf.Address h = absurd h
+scalar_cells k TyOf.Address h = refl
 scalar_cells k TyOf.Handle h = absurd h
 scalar_cells k (TyOf.Access a) h = refl
 scalar_cells k (TyOf.Record t) h = absurd h

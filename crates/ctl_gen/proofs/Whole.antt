@@ -102,6 +102,16 @@ unfolding operation_in
 finalize_written subprograms None h f e = absurd (cc)
 finalize_written subprograms (Some r) h f e = subst (IsWritten subprograms) e (h r refl)
 
+allocate_written : (subprograms : List Subprogram) (o : Option RecordType) → ((r : RecordType) → o ≡ Some r → IsWritten subprograms r.operations.allocate) → (f : ℕ) → operation_in (λ x. x.allocate) o ≡ Some f → IsBody subprograms f
+unfolding operation_in
+allocate_written subprograms None h f e = absurd (cc)
+allocate_written subprograms (Some r) h f e = subst (IsWritten subprograms) e (h r refl)
+
+deallocate_written : (subprograms : List Subprogram) (o : Option RecordType) → ((r : RecordType) → o ≡ Some r → IsWritten subprograms r.operations.deallocate) → (f : ℕ) → operation_in (λ x. x.deallocate) o ≡ Some f → IsBody subprograms f
+unfolding operation_in
+deallocate_written subprograms None h f e = absurd (cc)
+deallocate_written subprograms (Some r) h f e = subst (IsWritten subprograms) e (h r refl)
+
 initialize_in : (rs : List RecordType) (t : ℕ) → Table.operation_in (λ x. x.initialize) (slice_get (operations_of rs) t) ≡ operation_in (λ x. x.initialize) (slice_get rs t)
 unfolding operation_in
 initialize_in [] t = refl
@@ -118,6 +128,18 @@ unfolding operation_in
 finalize_in [] t = refl
 finalize_in (r ∷ rs) zero = refl
 finalize_in (r ∷ rs) (suc t) = finalize_in rs t
+
+allocate_in : (rs : List RecordType) (t : ℕ) → Table.operation_in (λ x. x.allocate) (slice_get (operations_of rs) t) ≡ operation_in (λ x. x.allocate) (slice_get rs t)
+unfolding operation_in
+allocate_in [] t = refl
+allocate_in (r ∷ rs) zero = refl
+allocate_in (r ∷ rs) (suc t) = allocate_in rs t
+
+deallocate_in : (rs : List RecordType) (t : ℕ) → Table.operation_in (λ x. x.deallocate) (slice_get (operations_of rs) t) ≡ operation_in (λ x. x.deallocate) (slice_get rs t)
+unfolding operation_in
+deallocate_in [] t = refl
+deallocate_in (r ∷ rs) zero = refl
+deallocate_in (r ∷ rs) (suc t) = deallocate_in rs t
 
 -- Ends ------------------------------------------------------------------------------------------
 
@@ -183,10 +205,14 @@ module _ (program : Checked) (code : Code) (laid : IsLaidOut program code) (kind
     initialize = λ t. ap (λ xs. Table.operation_in (λ x. x.initialize) (slice_get xs t)) laid.records ∙ initialize_in program.records t;
     adjust = λ t r e. ap (λ xs. Table.operation_in (λ x. x.adjust) (slice_get xs t)) laid.records ∙ adjust_in program.records t r e;
     finalize = λ t. ap (λ xs. Table.operation_in (λ x. x.finalize) (slice_get xs t)) laid.records ∙ finalize_in program.records t;
+    allocate = λ t. ap (λ xs. Table.operation_in (λ x. x.allocate) (slice_get xs t)) laid.records ∙ allocate_in program.records t;
+    deallocate = λ t. ap (λ xs. Table.operation_in (λ x. x.deallocate) (slice_get xs t)) laid.records ∙ deallocate_in program.records t;
     body = λ f e h. entry_body 1 0 program.subprograms f e (sym (ap (λ es. slice_get es f) laid.entries) ∙ h);
     initialize_body = λ t f e. initialize_written program.subprograms (slice_get program.records t) (linked.initialize t) f e;
     adjust_body = λ t f e. adjust_written program.subprograms (slice_get program.records t) (linked.adjust t) f e;
     finalize_body = λ t f e. finalize_written program.subprograms (slice_get program.records t) (linked.finalize t) f e;
+    allocate_body = λ t f e. allocate_written program.subprograms (slice_get program.records t) (linked.allocate t) f e;
+    deallocate_body = λ t f e. deallocate_written program.subprograms (slice_get program.records t) (linked.deallocate t) f e;
   }
 
   stands : (f : ℕ) (s : Subprogram) → slice_get program.subprograms f ≡ Some s → Stands (tables_of program) code f s

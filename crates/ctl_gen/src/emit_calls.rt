@@ -133,17 +133,24 @@ impl Emitter {
         }
     }
 
-    /// Takes actuals off.
-    fn leave_actuals(&mut self, actuals: &[Actual])
-        ensures { self.new ≡ standing (drop (length actuals.now) self.old.notes.standing) self.old }
+    /// Takes so many operands off.
+    pub fn leave_operands(&mut self, count: usize)
+        ensures { self.new ≡ standing (drop count self.old.notes.standing) self.old }
     {
-        for _actual in actuals {
+        for _ in 0..count {
             self.leave();
         }
     }
 
+    /// Takes actuals off.
+    fn leave_actuals(&mut self, actuals: &[Actual])
+        ensures { self.new ≡ standing (drop (length actuals.now) self.old.notes.standing) self.old }
+    {
+        self.leave_operands(actuals.len())
+    }
+
     /// Enters so many numbers, which stand on top from now on.
-    fn enter_numbers(&mut self, count: usize) -> Result<(), AllocError>
+    pub fn enter_numbers(&mut self, count: usize) -> Result<(), AllocError>
         ensures { OnOk result (self.new ≡ standing (over_numbers count self.old.notes.standing) self.old) }
     {
         for _ in 0..count {

@@ -34,7 +34,7 @@ impl Emitter {
     }
 
     /// Emits what finds the object in a variable, of this record type.
-    fn locate(&mut self, of: Var, record: usize) -> Result<(), AllocError>
+    pub fn locate(&mut self, of: Var, record: usize) -> Result<(), AllocError>
         ensures { OnOk result (self.new ≡ lined (spec.located_code (OfVariable of) [] «record») self.old) }
     {
         let (out, slot, at) = (self.out_to(of), of.slot, self.height());

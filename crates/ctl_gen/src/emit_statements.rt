@@ -255,11 +255,13 @@ impl Emitter {
             }
             Stmt::Block(master) => self.block(master.get(), landing),
             Stmt::Free(access, name) => self.free(*access, name),
-            Stmt::Nothing(_)
-            | Stmt::Dispatch(..)
-            | Stmt::LibraryAllocate(..)
-            | Stmt::LibraryDeallocate(..)
-            | Stmt::Release(_) => self.put(Instr::Missing),
+            Stmt::LibraryAllocate(pool, address, size, alignment) => {
+                self.library_allocate(pool, address, size, alignment)
+            }
+            Stmt::LibraryDeallocate(pool, address, size, alignment) => {
+                self.library_deallocate(pool, address, size, alignment)
+            }
+            Stmt::Nothing(_) | Stmt::Dispatch(..) | Stmt::Release(_) => self.put(Instr::Missing),
         }
     }
 
@@ -361,7 +363,8 @@ impl Emitter {
         ensures { OnOk result (self.new ≡ stated (spec.free access (Some (parts.Variable variable))) None self.old) }
     {
         let (out, slot) = (self.out_to(variable), variable.slot);
-        self.put(Instr::Free { access, out, slot })
+        self.put(Instr::Free { access, out, slot })?;
+        self.fail_behind()
     }
 
     /// Emits such a call for the value of a component: the part that has it is found first.
@@ -383,7 +386,8 @@ impl Emitter {
                 record,
                 position,
             },
-        )
+        )?;
+        self.fail_behind()
     }
 
     /// Emits the assignment of a record to what a name denotes (RM 5.2).

@@ -129,6 +129,8 @@ fn records_of(alloc: Global, records: &[RecordType]) -> Result<Vec<Operations>, 
             initialize: record.operations.initialize,
             adjust: adjust_by(record.root, record.operations.adjust),
             finalize: record.operations.finalize,
+            allocate: record.operations.allocate,
+            deallocate: record.operations.deallocate,
         })?;
     }
     Ok(all)

@@ -7,4 +7,5 @@ mod emit_expressions;
 mod emit_handlers;
 mod emit_parts;
 mod emit_statements;
+mod emit_storage;
 pub mod generate;

@@ -10,7 +10,7 @@ use Rattle.ctl_program.specs.declared.statement.Stmt.{Stmt}
 use Rattle.ctl_program.specs.declared.statement.Stmt.TheVariants as s
 use Rattle.ctl_program.specs.declared.statement.Stmt.TheVariants.{rolls-Dispatch, rolls-Free, rolls-LibraryAllocate, rolls-LibraryDeallocate, rolls-Nothing, rolls-Release}
 use Rattle.ctl_layout.specs.Values.{value_code, reached_by}
-use Rattle.ctl_layout.specs.Layout.{all, all_items, free, handled, inside, item_code, missing_statement, statement_code, arm_code, handler_code, master_code}
+use Rattle.ctl_layout.specs.Layout.{all, all_items, free, handled, inside, item_code, library_allocate, library_deallocate, missing_statement, statement_code, arm_code, handler_code, master_code}
 use Rattle.ctl_layout.proofs.TreeLayers.{layer_of}
 
 -- a statement that no instructions exist for
@@ -18,20 +18,23 @@ abbrev pub IsMissing : Stmt → Type 0
 IsMissing y =
     ((x : Name) × (y ≡ s.Nothing x))
     ⊎ (((op : Operation) × (x : Name) × (y ≡ s.Dispatch op x))
-    ⊎ (((p : Name) × (x : Name) × (size : Expr) × (alignment : Expr) × (y ≡ s.LibraryAllocate p x size alignment))
-    ⊎ (((p : Name) × (x : Expr) × (size : Expr) × (alignment : Expr) × (y ≡ s.LibraryDeallocate p x size alignment))
-    ⊎ ((x : Name) × (y ≡ s.Release x)))))
+    ⊎ ((x : Name) × (y ≡ s.Release x)))
 
 pub missing_is : (y : Stmt) → IsMissing y → statement_code y ≡ missing_statement
 missing_is y (inl (x, is)) = layer_of _ (is ∙ sym (rolls-Nothing x))
 missing_is y (inr (inl (op, x, is))) = layer_of _ (is ∙ sym (rolls-Dispatch op x))
-missing_is y (inr (inr (inl (p, x, size, alignment, is)))) = layer_of _ (is ∙ sym (rolls-LibraryAllocate p x size alignment))
-missing_is y (inr (inr (inr (inl (p, x, size, alignment, is))))) = layer_of _ (is ∙ sym (rolls-LibraryDeallocate p x size alignment))
-missing_is y (inr (inr (inr (inr (x, is))))) = layer_of _ (is ∙ sym (rolls-Release x))
+missing_is y (inr (inr (x, is))) = layer_of _ (is ∙ sym (rolls-Release x))
 
 -- Unchecked_Deallocation (13.11.2)
 pub free_is : (access : ℕ) (x : Name) → statement_code (s.Free access x) ≡ free access (reached_by x)
 free_is access x = layer_of _ (sym (rolls-Free access x))
+
+-- the library's Allocate and Deallocate (13.11)
+pub library_allocate_is : (p x : Name) (size alignment : Expr) → statement_code (s.LibraryAllocate p x size alignment) ≡ library_allocate (reached_by p) (reached_by x) (value_code size) (value_code alignment)
+library_allocate_is p x size alignment = layer_of _ (sym (rolls-LibraryAllocate p x size alignment))
+
+pub library_deallocate_is : (p : Name) (x size alignment : Expr) → statement_code (s.LibraryDeallocate p x size alignment) ≡ library_deallocate (reached_by p) (value_code x) (value_code size) (value_code alignment)
+library_deallocate_is p x size alignment = layer_of _ (sym (rolls-LibraryDeallocate p x size alignment))
 
 -- Arms and masters --------------------------------------------------------------------------------
 

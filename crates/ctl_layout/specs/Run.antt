@@ -1,8 +1,8 @@
 -- The programs that this version runs: blocks; objects of types that extend Controlled, Limited_Controlled or Block_Pool and of records that
--- are not tagged, whose components are scalar, access values or of such types again, with their Initialize, Adjust and Finalize, but none
--- with an Allocate or a Deallocate of its own; access types whose objects lie in the standard pool or in a block pool, their collections,
+-- are not tagged, whose components are scalar, access values, addresses or of such types again, with their Initialize, Adjust, Finalize,
+-- Allocate and Deallocate; access types whose objects lie in the standard pool or in a block pool, their collections,
 -- allocators of such objects, without a value or with that of a part of a variable, access attributes, and instances of
--- Unchecked_Deallocation; expressions over constants, variables, components and calls of functions, of scalar and access types;
+-- Unchecked_Deallocation; calls of the library's Allocate and Deallocate; expressions over constants, variables, components and calls of functions, of scalar and access types;
 -- assignments to variables and components, also of what access values designate, and calls give these too; calls of procedures, whose
 -- actuals are values, copies of variables and parts of objects; return statements, texts with images, handlers of exceptions, and control.
 -- Also objects that take the value of a part of their type, which may be any whose objects are declared, and assignments of records to one
@@ -35,3 +35,5 @@ pub record AreLinked (program : Checked) : Type 0 where
   pub initialize : (t : ℕ) (r : RecordType) → slice_get program.records t ≡ Some r → IsWritten program.subprograms r.operations.initialize
   pub adjust : (t : ℕ) (r : RecordType) → slice_get program.records t ≡ Some r → IsWritten program.subprograms r.operations.adjust
   pub finalize : (t : ℕ) (r : RecordType) → slice_get program.records t ≡ Some r → IsWritten program.subprograms r.operations.finalize
+  pub allocate : (t : ℕ) (r : RecordType) → slice_get program.records t ≡ Some r → IsWritten program.subprograms r.operations.allocate
+  pub deallocate : (t : ℕ) (r : RecordType) → slice_get program.records t ≡ Some r → IsWritten program.subprograms r.operations.deallocate

@@ -6,7 +6,7 @@ ghost use Rattle.ctl_layout.specs.Records as types;
 
 use crate::right::constant;
 use ctl_program::expression::Expr;
-use ctl_program::types::{Component, Operations, RecordType, Root, Ty};
+use ctl_program::types::{Component, RecordType, Root, Ty};
 use std::alloc::{AllocError, Global};
 
 /// What a record type consists of.
@@ -31,7 +31,10 @@ pub struct Table<'a> {
 pub(crate) fn is_run_type(ty: Ty) -> bool
     ensures { result ≡ types.is_run_type ty }
 {
-    matches!(ty, Ty::Integer | Ty::Boolean | Ty::Access(_))
+    matches!(
+        ty,
+        Ty::Integer | Ty::Count | Ty::Boolean | Ty::Address | Ty::Access(_)
+    )
 }
 
 /// Tells whether a component has no default, or a constant (RM 3.8).
@@ -56,23 +59,14 @@ fn have_constants(components: &[Component]) -> bool
     true
 }
 
-/// Tells whether the user wrote no Allocate or Deallocate among these operations (RM 13.11).
-fn is_of_library(operations: &Operations) -> bool
-    ensures { result ≡ types.is_of_library operations.now }
-{
-    operations.allocate.is_none() && operations.deallocate.is_none()
-}
-
 /// Tells whether a type descends from Controlled or Limited_Controlled (RM 7.6), or is not tagged and has none of their operations.
 fn is_root_run(entry: &RecordType) -> bool
     ensures { result ≡ types.is_root_run entry.now.root entry.now.operations }
 {
     match entry.root {
-        Root::Controlled | Root::BlockPool => is_of_library(&entry.operations),
+        Root::Controlled | Root::BlockPool => true,
         Root::Untagged => {
-            is_of_library(&entry.operations)
-                && entry.operations.initialize.is_none()
-                && entry.operations.finalize.is_none()
+            entry.operations.initialize.is_none() && entry.operations.finalize.is_none()
         }
         Root::MarkPool => false,
     }
@@ -193,6 +187,18 @@ impl<'a> Table<'a> {
         ensures { result ≡ types.is_plain self.now.records.now number }
     {
         is_plain_form(self.forms.as_slice(), number)
+    }
+
+    /// Tells whether no type has an Allocate that the user wrote (RM 13.11).
+    pub fn none_allocates(&self) -> bool
+        ensures { result ≡ types.none_allocates self.now.records.now }
+    {
+        for entry in self.records {
+            if entry.operations.allocate.is_some() {
+                return false;
+            }
+        }
+        true
     }
 
     /// Tells whether objects of the record type of this number are declared as block pools (RM 13.11).

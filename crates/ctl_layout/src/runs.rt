@@ -142,11 +142,14 @@ fn is_copied(table: &Table, number: usize, expression: &Expr) -> bool
     table.is_plain(number) && may_be_part(copied(number, expression), table)
 }
 
-/// Tells whether one that is allocated may take this value: that of a part of the type, whose name begins with a variable (RM 4.8).
+/// Tells whether one that is allocated may take this value: that of a part of the type, whose name begins with a variable (RM 4.8); no pool
+/// has an Allocate of its own (RM 13.11).
 fn is_copied_anew(table: &Table, number: usize, expression: &Expr) -> bool
     ensures { (access : ℕ) → result ≡ (values.new_copy access number (parts.in_variable (values.copied number (values.value_code expression.now)))).runs table.now.records.now }
 {
-    table.is_plain(number) && is_variable_part(copied(number, expression), table)
+    table.is_plain(number)
+        && table.none_allocates()
+        && is_variable_part(copied(number, expression), table)
 }
 
 /// Tells whether an allocator is run: of an object of a record type, without a handle; its value, if it has one, is that of a part of the type
@@ -413,6 +416,30 @@ fn is_freed(name: &Name, table: &Table) -> bool
     }
 }
 
+/// Tells whether a call of the library's Allocate is run: of a pool in a variable, whose address a variable takes (RM 13.11).
+fn is_taken(pool: &Name, address: &Name, size: &Expr, alignment: &Expr, table: &Table) -> bool
+    ensures { result ≡ (spec.library_allocate (values.reached_by pool.now) (values.reached_by address.now) (values.value_code size.now) (values.value_code alignment.now)).runs table.now.records.now }
+{
+    match (reached_by(pool), reached_by(address)) {
+        (Some(Reached::Variable(_)), Some(Reached::Variable(_))) => {
+            value(size, table) && value(alignment, table)
+        }
+        _ => false,
+    }
+}
+
+/// Tells whether a call of the library's Deallocate is run: of a pool in a variable (RM 13.11).
+fn is_given_back(pool: &Name, address: &Expr, size: &Expr, alignment: &Expr, table: &Table) -> bool
+    ensures { result ≡ (spec.library_deallocate (values.reached_by pool.now) (values.value_code address.now) (values.value_code size.now) (values.value_code alignment.now)).runs table.now.records.now }
+{
+    match reached_by(pool) {
+        Some(Reached::Variable(_)) => {
+            value(address, table) && value(size, table) && value(alignment, table)
+        }
+        _ => false,
+    }
+}
+
 /// Tells whether the condition of an exit is run, if there is one.
 fn is_exit(condition: &Option<Expr>, table: &Table) -> bool
     ensures { result ≡ (spec.exit (option_map values.value_code condition.now)).runs table.now.records.now }
@@ -459,11 +486,13 @@ fn statement(statement: &Stmt, table: &Table) -> bool
         }
         Stmt::Block(inside) => master(inside.get(), table),
         Stmt::Free(_, name) => is_freed(name, table),
-        Stmt::Nothing(_)
-        | Stmt::Dispatch(..)
-        | Stmt::LibraryAllocate(..)
-        | Stmt::LibraryDeallocate(..)
-        | Stmt::Release(_) => false,
+        Stmt::LibraryAllocate(pool, address, size, alignment) => {
+            is_taken(pool, address, size, alignment, table)
+        }
+        Stmt::LibraryDeallocate(pool, address, size, alignment) => {
+            is_given_back(pool, address, size, alignment, table)
+        }
+        Stmt::Nothing(_) | Stmt::Dispatch(..) | Stmt::Release(_) => false,
     }
 }
 

@@ -19,7 +19,7 @@ use Rattle.ctl_code.specs.declared.code.Parts.{Parts}
 use Rattle.ctl_code.specs.declared.code.Parts.TheVariants as PartsOf
 use Rattle.ctl_code.specs.States as T
 use Rattle.ctl_code.specs.States.{State, Word}
-use Rattle.ctl_code.specs.Table.{Grant, Granted, Here, adjust_new, by_creating, by_instr, copy_at, new_from, new_with, newborn, parts_of, pool_in, set_seen, size_of, with_member}
+use Rattle.ctl_code.specs.Table.{Grant, Granted, Here, adjust_new, by_creating, by_instr, copy_at, new_from, new_with, newborn, parts_of, pool_in, set_seen, size_of, units_of, with_member}
 use Rattle.ctl_machine.specs.declared.engine.Engine.{Engine}
 use Rattle.ctl_machine.specs.declared.frame.Frame.{Frame}
 use Rattle.ctl_machine.specs.declared.frame.Frame.TheVariants as FrameOf
@@ -40,7 +40,8 @@ use Rattle.ctl_machine.proofs.CopyDeclared.{value_taken}
 use Rattle.ctl_machine.proofs.Following.{makes_later}
 use Rattle.ctl_machine.proofs.Foreign.{owns_no_next}
 use Rattle.ctl_machine.proofs.Located.{located_move, part_on_top}
-use Rattle.ctl_machine.proofs.NewMember.{IsBeside, member_added, member_heads, member_next, member_number, not_allocated, refused_makes}
+use Rattle.ctl_machine.proofs.Granted.{IsBeside}
+use Rattle.ctl_machine.proofs.NewMember.{member_added, member_heads, member_next, member_number, not_allocated, refused_makes}
 use Rattle.ctl_machine.proofs.Operands.{HasPart}
 use Rattle.ctl_machine.proofs.Owned.{cells_keep, holds_changed, new_found, object_shown, some_there}
 use Rattle.ctl_machine.proofs.Stages.{Copies, allocator_begins}
@@ -242,12 +243,12 @@ copy_refused code old new access place t at ty mode o s b there refuses goes =
 
 -- it takes it, where there is storage
 takes_with : (code : Code) (access place t set : ℕ) (o : W.Object) (s : State) (c : Option Collection) → Takes code t c set
-    → new_with code t (cells_at (first_spot s.operands).offset (size_of code t) o) (pool_of code access) c (drop 1 s.operands) (here_of place s) ≡ member_copied code place set t o s (storage_seen code access t s)
+    → new_with code t (cells_at (first_spot s.operands).offset (size_of code t) o) (pool_of code access) c (drop 1 s.operands) (here_of place s) ≡ member_copied code place set t o s (storage_seen code access s (units_of code t))
 takes_with code access place t set o s c u =
     ap (λ (z : Option Collection). new_with code t (cells_at (first_spot s.operands).offset (size_of code t) o) (pool_of code access) z (drop 1 s.operands) (here_of place s)) u.is
-    ∙ rw (u.takes) (ap (λ n. member_copied code place n t o s (storage_seen code access t s)) u.number)
+    ∙ rw (u.takes) (ap (λ n. member_copied code place n t o s (storage_seen code access s (units_of code t))) u.number)
 
 pub copy_takes : (code : Code) (old new : Engine) (access place set t at : ℕ) (ty : Ty) (o : W.Object) (s : State) → Before code old place (NewCopy access t ty at) s → object_at (first_spot s.operands).object s.world ≡ Some o
-    → Takes code t (seen_in code access s) set → Makes code old new (member_copied code place set t o s (storage_seen code access t s)) → Makes code old new (by_instr code (Some (NewCopy access t ty at)) s.operands (here_of place s))
+    → Takes code t (seen_in code access s) set → Makes code old new (member_copied code place set t o s (storage_seen code access s (units_of code t))) → Makes code old new (by_instr code (Some (NewCopy access t ty at)) s.operands (here_of place s))
 copy_takes code old new access place set t at ty o s b there u makes =
     subst (λ (m : T.Move). Makes code old new m) (sym (source_there code old access place t at ty o s b there ∙ takes_with code access place t set o s (seen_in code access s) u)) makes

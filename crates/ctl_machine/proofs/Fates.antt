@@ -30,12 +30,12 @@ use Rattle.ctl_code.specs.declared.code.Parts.{Parts}
 use Rattle.ctl_code.specs.declared.code.Parts.TheVariants as PartsOf
 use Rattle.ctl_code.specs.States as T
 use Rattle.ctl_code.specs.States.{State, Word}
-use Rattle.ctl_code.specs.Table.{behind_declaration, finalize_freed, finalize_object, free_member, free_object, gives, has_part, parts_of, stopped, storage_of}
+use Rattle.ctl_code.specs.Table.{behind_declaration, finalize_freed, finalize_object, free_member, free_object, gives, has_part, parts_of, stopped, storage_of, units_for}
 use Rattle.ctl_machine.specs.declared.engine.Engine.{Engine}
 use Rattle.ctl_machine.specs.declared.frame.Owned.{Owned}
 use Rattle.ctl_machine.specs.declared.freeing.Fate.TheVariants as FateOf
 use Rattle.ctl_machine.specs.Allocating.{OwnsNone}
-use Rattle.ctl_machine.specs.Freeing.{IsFate, MayBe, by_fate, fate_by_life, fate_by_origin, fate_of, fate_of_member, if_unfinished, storage_at}
+use Rattle.ctl_machine.specs.Freeing.{IsFate, MayBe, by_fate, fate_by_life, fate_by_origin, fate_of, fate_of_member, if_unfinished, storage_at, units_at}
 use Rattle.ctl_machine.specs.Masters.{first_display, heads_of}
 use Rattle.ctl_machine.specs.Moves.{here_of}
 use Rattle.ctl_machine.specs.Shows.{Holds, kept}
@@ -46,10 +46,10 @@ use Rattle.ctl_machine.proofs.Owned.{object_shown}
 -- The table's move -------------------------------------------------------------------------------------
 
 -- an object of which this is known
-abbrev known_object : ℕ → Existing → List ℕ → Object
+abbrev pub known_object : ℕ → Existing → List ℕ → Object
 known_object n x cells = record (known n x) { cells = cells }
 
-is_known_object : (n : ℕ) (x : Existing) (o : Object) → bare o ≡ known n x → o ≡ known_object n x o.cells
+pub is_known_object : (n : ℕ) (x : Existing) (o : Object) → bare o ≡ known n x → o ≡ known_object n x o.cells
 is_known_object n x o e = ap (λ (z : Object). record z { cells = o.cells }) e
 
 same_either : {A : Type 0} (b : Bool) (x : A) → (if b then x else x) ≡ x
@@ -89,12 +89,12 @@ member_moves code n x cells f k w = by x.stage.life (unfinished_moves code n x c
     by LifeOf.Finalized e = e
 
 -- and from whichever collection
-freed_moves : (code : Code) (set n : ℕ) (x : Existing) (cells : List ℕ) (nulled : T.Nulled) (p : T.Point) (k : List T.Frame) (w : World) → free_member code nulled set (known_object n x cells) p k w ≡ by_fate code (fate_of code set x) n (T.Freeing nulled n (storage_of (origin_of x.origin)) p) k w
+freed_moves : (code : Code) (set n : ℕ) (x : Existing) (cells : List ℕ) (nulled : T.Nulled) (p : T.Point) (k : List T.Frame) (w : World) → free_member code nulled set (known_object n x cells) p k w ≡ by_fate code (fate_of code set x) n (T.Freeing nulled n (storage_of (origin_of x.origin)) (units_for code x.ty) p) k w
 unfolding opened_objects
 freed_moves code set n x cells nulled p k w = by x.origin (member_moves code n x cells f k w)
   where
     f : T.Frame
-    f = T.Freeing nulled n (storage_of (origin_of x.origin)) p
+    f = T.Freeing nulled n (storage_of (origin_of x.origin)) (units_for code x.ty) p
 
     by_set : (b : Bool) → (if is_finalizing (state_of x.stage.life) then stopped StopOf.FreeWhileFinalizing k w else finalize_freed code (known_object n x cells) (f ∷ k) w) ≡ by_fate code (fate_of_member code x) n f k w
         → (if not b then stopped StopOf.ForeignFree k w else if is_finalizing (state_of x.stage.life) then stopped StopOf.FreeWhileFinalizing k w else finalize_freed code (known_object n x cells) (f ∷ k) w)
@@ -179,6 +179,12 @@ found_so code e n x s h knows =
       same = is_known_object n x o there.2;
     }
 
+-- how many storage units it has
+pub units_known : (code : Code) (e : Engine) (n : ℕ) (x : Existing) (s : State) → Holds code (kept e) s.control s.operands s.world → IsKnown n (Some x) e.stock.objects → units_at code (object_at n s.world) ≡ units_for code x.ty
+units_known code e n x s h knows =
+    let f = found_so code e n x s h knows in
+    ap (units_at code) f.found ∙ ap (λ (o : Object). units_for code o.ty) f.same
+
 -- where its storage lies
 pub storage_known : (code : Code) (e : Engine) (n : ℕ) (x : Existing) (s : State) → Holds code (kept e) s.control s.operands s.world → IsKnown n (Some x) e.stock.objects → storage_at (object_at n s.world) ≡ storage_of (origin_of x.origin)
 storage_known code e n x s h knows =
@@ -201,7 +207,9 @@ fate_known code e v n set x s h knows is =
           found_moves code nulled (record { collection = v; pool = pool }) ops place s (object_at n w) o f.found
           ∙ (ap (λ m. free_member code nulled m o p k w) (sym is)
           ∙ (ap (λ (z : Object). free_member code nulled set z p k w) f.same
-          ∙ (freed_moves code set n x o.cells nulled p k w ∙ ap (λ (z : W.Place). by_fate code (fate_of code set x) n (T.Freeing nulled n z p) k w) (sym (storage_known code e n x s h knows)))));
+          ∙ (freed_moves code set n x o.cells nulled p k w
+          ∙ (ap (λ (z : W.Place). by_fate code (fate_of code set x) n (T.Freeing nulled n z (units_for code x.ty) p) k w) (sym (storage_known code e n x s h knows))
+          ∙ ap (λ u. by_fate code (fate_of code set x) n (T.Freeing nulled n (storage_at (object_at n w)) u p) k w) (sym (units_known code e n x s h knows))))));
     }
 
 none_moves : (code : Code) (nulled : T.Nulled) (a : AccessHome) (ops : List Word) (place : ℕ) (s : State) (y : Option Object) → y ≡ None → free_object code nulled (Some a) y ops (here_of place s) ≡ stopped StopOf.UseAfterFree s.control s.world
@@ -210,6 +218,9 @@ none_moves code nulled a ops place s y is = rw is refl
 -- it is gone
 none_found : (code : Code) (e : Engine) (n : ℕ) (s : State) → Holds code (kept e) s.control s.operands s.world → IsKnown n None e.stock.objects → object_at n s.world ≡ None
 none_found code e n s h knows = object_shown code (kept e) s.control s.operands s.world n h ∙ none_known n e.stock.objects knows
+
+pub units_unknown : (code : Code) (e : Engine) (n : ℕ) (s : State) → Holds code (kept e) s.control s.operands s.world → IsKnown n None e.stock.objects → units_at code (object_at n s.world) ≡ 0
+units_unknown code e n s h knows = ap (units_at code) (none_found code e n s h knows)
 
 pub storage_unknown : (code : Code) (e : Engine) (n : ℕ) (s : State) → Holds code (kept e) s.control s.operands s.world → IsKnown n None e.stock.objects → storage_at (object_at n s.world) ≡ place_of PlaceOf.Standard
 storage_unknown code e n s h knows = ap storage_at (none_found code e n s h knows)

@@ -1,15 +1,19 @@
 -- An object is freed by a component, which becomes null.
-use Rattle.std.proofs.Common.{◌≡◌, ℕ, zero, suc, ◌+◌, List, [], ◌∷◌, ◌++◌, Option, Some, None, Bool, drop, refl, sym, ap, ◌∙◌, subst, reverse}
-use Rattle.std.specs.Prelude.{slice_get}
-use Rattle.ctl_tree.specs.declared.ending.Stop.{Stop}
+use Rattle.std.proofs.Common.{◌≡◌, ℕ, zero, suc, ◌+◌, List, [], ◌∷◌, ◌++◌, Option, Some, None, Bool, true, false, cond, drop, refl, sym, ap, ◌∙◌, subst, reverse, arith}
+use Rattle.std.specs.Prelude.{nat_eq, slice_get}
+use Rattle.std.specs.Option.{option_map}
 use Rattle.ctl_tree.specs.declared.ending.Stop.TheVariants.{UseAfterFree}
 use Rattle.ctl_meaning.specs.Changes.{object_at, opened_changes, write_cells}
 use Rattle.ctl_meaning.specs.Finalization.{Spot}
-use Rattle.ctl_meaning.specs.Objects.{change_in, object_in}
+use Rattle.ctl_meaning.specs.Objects.{change_in, object_in, opened_objects}
 use Rattle.ctl_meaning.specs.Objects as O
 use Rattle.ctl_meaning.specs.World as W
 use Rattle.ctl_meaning.specs.World.{World}
+use Rattle.ctl_storage.proofs.Rising.{KeepsNumbers, in_change}
 use Rattle.ctl_storage.specs.declared.existing.Place.{Place}
+use Rattle.ctl_storage.specs.declared.existing.Place.TheVariants as PlaceOf
+use Rattle.ctl_objects.specs.Pools.{KeepsShown}
+use Rattle.ctl_objects.specs.Stock.{Stock}
 use Rattle.ctl_storage.specs.Allocated.{place_of}
 use Rattle.ctl_code.specs.declared.kinds.Kind.{Kind}
 use Rattle.ctl_code.specs.declared.code.AccessHome.{AccessHome}
@@ -17,7 +21,7 @@ use Rattle.ctl_code.specs.declared.code.Code.{Code}
 use Rattle.ctl_code.specs.declared.code.Instr.TheVariants.{Free, FreePart}
 use Rattle.ctl_code.specs.States as T
 use Rattle.ctl_code.specs.States.{Giving, Move, State, Word}
-use Rattle.ctl_code.specs.Table.{Here, act, by_free, by_free_part, by_instr, cell_at, component_of, freed_part, free_object, gone, offset_of, on, says_failed}
+use Rattle.ctl_code.specs.Table.{Here, act, ahead, by_free, by_free_part, by_instr, cell_at, component_of, freed_by, freed_part, free_object, gone, offset_of, return_to, says_failed}
 use Rattle.ctl_machine.specs.declared.engine.Engine.{Engine}
 use Rattle.ctl_machine.specs.declared.frame.Ended.{Ended}
 use Rattle.ctl_machine.specs.declared.frame.Frame.{Frame}
@@ -25,8 +29,9 @@ use Rattle.ctl_machine.specs.declared.frame.Frame.TheVariants as FrameOf
 use Rattle.ctl_machine.specs.declared.frame.Mode.TheVariants as ModeOf
 use Rattle.ctl_machine.specs.declared.frame.Nulled.{Nulled}
 use Rattle.ctl_machine.specs.declared.frame.Nulled.TheVariants as NulledOf
+use Rattle.ctl_machine.specs.declared.frame.Storage.{Storage}
 use Rattle.ctl_machine.specs.Finishing.{DropsFrame, with_objects}
-use Rattle.ctl_machine.specs.Freeing.{Freed, Frees, mode_given_back}
+use Rattle.ctl_machine.specs.Freeing.{Freed, Frees, IsGone, calls_back, gone_of, has_deallocate}
 use Rattle.ctl_machine.specs.Masters.{first_display, heads_of}
 use Rattle.ctl_machine.specs.Moves.{Before, BeforeResuming, GoesOn, Inside, Makes, here_of}
 use Rattle.ctl_machine.specs.Parts.{part_in}
@@ -34,7 +39,9 @@ use Rattle.ctl_machine.specs.Shows.{Holds, Kept, kept, nulled_of, tried_of, with
 use Rattle.ctl_machine.specs.Spots.{first_spot, spots_in, standing}
 use Rattle.ctl_machine.proofs.Assignments.{stops_makes}
 use Rattle.ctl_machine.proofs.Bodies.{more_cells}
-use Rattle.ctl_machine.proofs.Freed.{GoesBack, IsFreeingIn, behind_frame, freed_makes, stands_behind}
+use Rattle.ctl_machine.proofs.Following.{makes_later}
+use Rattle.ctl_machine.proofs.Foreign.{forgotten}
+use Rattle.ctl_machine.proofs.Freed.{IsFreeingIn, behind_frame, goes_forgotten, stands_behind}
 use Rattle.ctl_machine.proofs.Located.{goes_keeping, part_on_top, read_is}
 use Rattle.ctl_machine.proofs.Operands.{other_spots}
 use Rattle.ctl_machine.proofs.Owned.{cells_keep, holds_changed, object_shown}
@@ -46,15 +53,15 @@ use Rattle.ctl_machine.proofs.Stocked.{with_stock}
 -- The frame goes ---------------------------------------------------------------------------------------
 
 -- the component that becomes null stands above the operands
-pub record IsNulled (e : Engine) (object : ℕ) (storage : Place) (p : T.Point) (k : List T.Frame) (s : State) : Type 0 where
+pub record IsNulled (e : Engine) (object : ℕ) (storage : Storage) (p : T.Point) (k : List T.Frame) (s : State) : Type 0 where
   pub part : Spot
-  pub is : s.control ≡ T.Freeing (T.NullPart part) object (place_of storage) p ∷ k
+  pub is : s.control ≡ T.Freeing (T.NullPart part) object (place_of storage.place) storage.units p ∷ k
   pub spots : e.spots.items ≡ standing k p.operands ++ part ∷ []
 
-pub nulled_part : (code : Code) (e : Engine) (object : ℕ) (storage : Place) (place : ℕ) (fs : List Frame) (s : State) → BeforeResuming code e s → (u : IsFreeingIn e object NulledOf.Part storage place fs s) → IsNulled e object storage u.point u.waiting s
+pub nulled_part : (code : Code) (e : Engine) (object : ℕ) (storage : Storage) (place : ℕ) (fs : List Frame) (s : State) → BeforeResuming code e s → (u : IsFreeingIn e object NulledOf.Part storage place fs s) → IsNulled e object storage u.point u.waiting s
 nulled_part code e object storage place fs s b u = by u.nulled_too u.is u.nulled_is
   where
-    by : (x : T.Nulled) → s.control ≡ T.Freeing x object (place_of storage) u.point ∷ u.waiting → NulledOf.Part ≡ nulled_of x → IsNulled e object storage u.point u.waiting s
+    by : (x : T.Nulled) → s.control ≡ T.Freeing x object (place_of storage.place) storage.units u.point ∷ u.waiting → NulledOf.Part ≡ nulled_of x → IsNulled e object storage u.point u.waiting s
     by (T.NullVariable out slot) is same = absurd (cc)
     by (T.NullPart part) is same = record { part = part; is = is; spots = b.spots ∙ ap (λ (k : List T.Frame). spots_in k) is }
 
@@ -72,11 +79,11 @@ dropped_so old new f fs parts part dropped d top spots =
       same = front.1;
     }
 
-gone_so : (part : Spot) (object : ℕ) (lies : W.Place) (failed : Bool) (y : Option W.Object) (p : T.Point) (k : List T.Frame) (w : World) → y ≡ None → freed_part part object lies failed y p k w ≡ freed_part part object lies failed None p k w
-gone_so part object lies failed y p k w is = ap (λ z. freed_part part object lies failed z p k w) is
+gone_so : (code : Code) (part : Spot) (object : ℕ) (lies : W.Place) (units : ℕ) (failed : Bool) (y : Option W.Object) (p : T.Point) (k : List T.Frame) (w : World) → y ≡ None → freed_part code part object lies units failed y p k w ≡ freed_part code part object lies units failed None p k w
+gone_so code part object lies units failed y p k w is = ap (λ z. freed_part code part object lies units failed z p k w) is
 
 -- the object of the component is gone
-pub part_stops : (code : Code) (old new : Engine) (ended : Ended) (object : ℕ) (storage : Place) (place : ℕ) (fs : List Frame) (s : State) → BeforeResuming code old s → reverse old.control.items ≡ FrameOf.Freeing object NulledOf.Part storage place ∷ fs
+pub part_stops : (code : Code) (old new : Engine) (ended : Ended) (object : ℕ) (storage : Storage) (place : ℕ) (fs : List Frame) (s : State) → BeforeResuming code old s → reverse old.control.items ≡ FrameOf.Freeing object NulledOf.Part storage place ∷ fs
     → (u : IsFreeingIn old object NulledOf.Part storage place fs s) → (x : IsNulled old object storage u.point u.waiting s) → object_in x.part.object old.stock.objects ≡ None
     → new.mode ≡ ModeOf.Stopped UseAfterFree → kept new ≡ behind_frame fs (standing u.waiting u.point.operands) (kept old) → new.events.items ≡ old.events.items → new.picks.items ≡ old.picks.items
     → Makes code old new (act code (Giving (tried_of ended)) s.control s.operands s.world 0)
@@ -88,7 +95,7 @@ part_stops code old new ended object storage place fs s b top u x none mode are 
     let missing = object_shown code (kept old) s.control s.operands s.world x.part.object b.holds ∙ none in
     let made = stops_makes code old new k p.operands s.world mode (subst (λ (e : Kept). Holds code e k p.operands s.world) (sym are) v.inside.holds) events picks in
     subst (λ (l : List T.Frame). Makes code old new (act code (Giving (tried_of ended)) l s.operands s.world 0)) (sym x.is)
-    (subst (λ (m : Move). Makes code old new m) (sym (gone_so x.part object (place_of storage) failed (object_at x.part.object s.world) p k s.world missing)) made)
+    (subst (λ (m : Move). Makes code old new m) (sym (gone_so code x.part object (place_of storage.place) storage.units failed (object_at x.part.object s.world) p k s.world missing)) made)
 
 -- with null in a component
 abbrev pub with_null : Spot → Kept → Kept
@@ -110,35 +117,59 @@ null_inside code e stack k ops w part i = record {
   spots = i.spots;
 }
 
+-- the same is called
+mapped_called : (code : Code) (offset : ℕ) (v : List ℕ) (y : Option W.Object) → has_deallocate code (option_map (O.with_cells offset v) y) ≡ has_deallocate code y
+unfolding opened_objects
+mapped_called code offset v None = refl
+mapped_called code offset v (Some o) = refl
+
+keeps_number : (offset : ℕ) (v : List ℕ) → KeepsNumbers (O.with_cells offset v)
+unfolding opened_objects
+keeps_number offset v o = refl
+
+pub null_called : (code : Code) (place : Place) (number offset : ℕ) (v : List ℕ) (objects : List W.Object) → calls_back code place (change_in number (O.with_cells offset v) objects) ≡ calls_back code place objects
+null_called code PlaceOf.Standard number offset v objects = refl
+null_called code (PlaceOf.InBlock block) number offset v objects =
+    ap (has_deallocate code) (in_change number (O.with_cells offset v) (keeps_number offset v) block.pool objects) ∙ by (nat_eq block.pool number)
+  where
+    by : (b : Bool) → has_deallocate code (cond b (option_map (O.with_cells offset v) (object_in block.pool objects)) (object_in block.pool objects)) ≡ has_deallocate code (object_in block.pool objects)
+    by true = mapped_called code offset v (object_in block.pool objects)
+    by false = refl
+
 same_display : (part : Spot) (w : World) (P : List W.Activation → Type 0) → P w.activations → P (write_cells part.object part.offset (0 ∷ []) w).activations
 unfolding opened_changes
 same_display part w P x = x
 
-there_so : (part : Spot) (object : ℕ) (lies : W.Place) (failed : Bool) (y : Option W.Object) (o : W.Object) (p : T.Point) (k : List T.Frame) (w : World) → y ≡ Some o → freed_part part object lies failed y p k w ≡ freed_part part object lies failed (Some o) p k w
-there_so part object lies failed y o p k w is = ap (λ z. freed_part part object lies failed z p k w) is
+there_so : (code : Code) (part : Spot) (object : ℕ) (lies : W.Place) (units : ℕ) (failed : Bool) (y : Option W.Object) (o : W.Object) (p : T.Point) (k : List T.Frame) (w : World) → y ≡ Some o → freed_part code part object lies units failed y p k w ≡ freed_part code part object lies units failed (Some o) p k w
+there_so code part object lies units failed y o p k w is = ap (λ z. freed_part code part object lies units failed z p k w) is
 
--- with null in it, and the object gone, whose storage was given back
-pub record PartEnds (old new : Engine) (object : ℕ) (storage : Place) (answer : Option Stop) (part : Spot) (fs : List Frame) (parts : List Spot) : Type 0 where
-  pub is : (let e = with_null part (behind_frame fs parts (kept old)) in kept new ≡ with_stock new.stock e)
-  pub back : (let e = with_null part (behind_frame fs parts (kept old)) in GoesBack (stock_of e) object storage new.stock answer)
-
-pub part_ends : (code : Code) (old new : Engine) (ended : Ended) (object : ℕ) (storage : Place) (place : ℕ) (answer : Option Stop) (fs : List Frame) (s : State) (o : W.Object) → BeforeResuming code old s
-    → reverse old.control.items ≡ FrameOf.Freeing object NulledOf.Part storage place ∷ fs → (u : IsFreeingIn old object NulledOf.Part storage place fs s) → (x : IsNulled old object storage u.point u.waiting s)
-    → object_in x.part.object old.stock.objects ≡ Some o → new.mode ≡ mode_given_back answer ended place → PartEnds old new object storage answer x.part fs (standing u.waiting u.point.operands)
-    → new.events.items ≡ old.events.items → new.picks.items ≡ old.picks.items → Makes code old new (act code (Giving (tried_of ended)) s.control s.operands s.world 0)
-part_ends code old new ended object storage place answer fs s o b top u x found mode are events picks =
+-- where it goes on, once the component is null and the object is gone
+pub part_gone : (code : Code) (old new : Engine) (object : ℕ) (storage : Storage) (place : ℕ) (fs : List Frame) (s : State) (z : Kept) (nulled : Stock) → BeforeResuming code old s → reverse old.control.items ≡ FrameOf.Freeing object NulledOf.Part storage place ∷ fs
+    → (u : IsFreeingIn old object NulledOf.Part storage place fs s) → (x : IsNulled old object storage u.point u.waiting s) → with_stock nulled z ≡ with_null x.part (behind_frame fs (standing u.waiting u.point.operands) (kept old)) → kept new ≡ with_stock new.stock z
+    → new.stock.objects ≡ forgotten object nulled.objects → new.stock ≡ record nulled { objects = new.stock.objects; blocks = new.stock.blocks } → KeepsShown nulled new.stock → IsGone code new place (gone_of s.control s.world)
+part_gone code old new object storage place fs s z nulled b top u x nulls are objects same still =
     let v = stands_behind code old object NulledOf.Part storage place fs s b top u in
     let k = u.waiting in
     let p = u.point in
-    let failed = says_failed (tried_of ended) in
-    let there = object_shown code (kept old) s.control s.operands s.world x.part.object b.holds ∙ found in
     let e = with_null x.part (behind_frame fs (standing k p.operands) (kept old)) in
     let w = write_cells x.part.object x.part.offset (0 ∷ []) s.world in
     let i = null_inside code (behind_frame fs (standing k p.operands) (kept old)) v.stack k p.operands s.world x.part v.inside in
     let seen : p.display ≡ first_display (heads_of w.activations) = same_display x.part s.world (λ acts. p.display ≡ first_display (heads_of acts)) u.seen in
-    let made = freed_makes code old new e ended object storage place answer v.stack p k w v.leads i u.foreign u.place_is seen mode are.is are.back events picks in
+    let gone = goes_forgotten code new e object place v.stack p k w v.leads v.next i u.foreign u.place_is seen (are ∙ ap (λ (y : Kept). with_stock new.stock y) nulls) (subst (λ (y : Kept). new.stock.objects ≡ forgotten object y.objects) nulls objects)
+    (subst (λ (y : Kept). new.stock ≡ record (stock_of y) { objects = new.stock.objects; blocks = new.stock.blocks }) nulls same) (subst (λ (y : Kept). KeepsShown (stock_of y) new.stock) nulls still) in
+    subst (λ (l : List T.Frame). IsGone code new place (gone_of l s.world)) (sym x.is) gone
+
+-- and what the table makes of it
+pub part_ends : (code : Code) (old mid new : Engine) (ended : Ended) (object : ℕ) (storage : Storage) (p : T.Point) (k : List T.Frame) (s : State) (o : W.Object) → BeforeResuming code old s → (x : IsNulled old object storage p k s) → object_in x.part.object old.stock.objects ≡ Some o
+    → mid.events.items ≡ old.events.items → mid.picks.items ≡ old.picks.items → (let t = gone_of s.control s.world in Makes code mid new (freed_by code storage.units (says_failed (tried_of ended)) (return_to code (place_of storage.place) t.world) t.point t.control t.world))
+    → Makes code old new (act code (Giving (tried_of ended)) s.control s.operands s.world 0)
+part_ends code old mid new ended object storage p k s o b x found events picks made =
+    let failed = says_failed (tried_of ended) in
+    let there = object_shown code (kept old) s.control s.operands s.world x.part.object b.holds ∙ found in
+    let later = makes_later code old mid new _ events picks made in
     subst (λ (l : List T.Frame). Makes code old new (act code (Giving (tried_of ended)) l s.operands s.world 0)) (sym x.is)
-    (subst (λ (m : Move). Makes code old new m) (sym (there_so x.part object (place_of storage) failed (object_at x.part.object s.world) o p k s.world there)) made)
+    (subst (λ (m : Move). Makes code old new m) (sym (there_so code x.part object (place_of storage.place) storage.units failed (object_at x.part.object s.world) o p k s.world there))
+    (subst (λ (l : List T.Frame). (let t = gone_of l s.world in Makes code old new (freed_by code storage.units failed (return_to code (place_of storage.place) t.world) t.point t.control t.world))) x.is later))
 
 -- By an instruction ------------------------------------------------------------------------------------
 
@@ -195,7 +226,7 @@ component_frees code old new access place t position part s b is =
     record {
       nulled_is = refl;
       stack = b.fine.1.0;
-      leads = b.fine.1.2;
+      leads = b.fine.1.2.0;
       before = subst (λ (e : Kept). Holds code e k s.operands s.world) (sym is) (other_spots code (kept old) spots k s.operands s.world b.inside.holds);
       inside = record {
         stands = p.left.stands;
@@ -206,19 +237,22 @@ component_frees code old new access place t position part s b is =
       spots = λ n. ap (λ (e : Kept). e.spots) is;
     }
 
+two_behind : (place : ℕ) → place + 2 ≡ place + 1 + 1
+two_behind place = omega arith
+
 -- null designates no object
-by_none : (code : Code) (nulled : T.Nulled) (v : Option AccessHome) (n : ℕ) (ops : List Word) (h : Here) → n ≡ 0 → by_free code nulled v n ops h ≡ on ops h.world h
+by_none : (code : Code) (nulled : T.Nulled) (v : Option AccessHome) (n : ℕ) (ops : List Word) (h : Here) → n ≡ 0 → by_free code nulled v n ops h ≡ ahead 1 ops h.world h
 by_none code nulled v n ops h is = ap (λ m. by_free code nulled v m ops h) is
 
 by_some : (code : Code) (nulled : T.Nulled) (v : Option AccessHome) (n : ℕ) (ops : List Word) (h : Here) → (n ≡ 0 → ⊥) → by_free code nulled v n ops h ≡ free_object code nulled v (object_at n h.world) ops h
 by_some code nulled v zero ops h some = absurd (some refl)
 by_some code nulled v (suc n) ops h some = refl
 
-pub variable_null : (code : Code) (old new : Engine) (access out slot place n : ℕ) (s : State) → Before code old place (Free access out slot) s → n ≡ cell_at (first_display (heads_of s.world.activations)) out slot s.world → n ≡ 0 → GoesOn old new (ModeOf.At (place + 1)) old.cells.items
+pub variable_null : (code : Code) (old new : Engine) (access out slot place n : ℕ) (s : State) → Before code old place (Free access out slot) s → n ≡ cell_at (first_display (heads_of s.world.activations)) out slot s.world → n ≡ 0 → GoesOn old new (ModeOf.At (place + 2)) old.cells.items
     → Makes code old new (by_instr code (Some (Free access out slot)) s.operands (here_of place s))
 variable_null code old new access out slot place n s b read none goes =
     subst (λ (m : Move). Makes code old new m) (sym (by_none code (T.NullVariable out slot) (slice_get code.accesses.items access) (cell_at (first_display (heads_of s.world.activations)) out slot s.world) s.operands (here_of place s) (sym read ∙ none)))
-    (goes_makes code old new (place + 1) b.stack s.control s.operands s.world old.cells.items b.fine.1 b.inside goes)
+    (goes_makes code old new (place + 1 + 1) b.stack s.control s.operands s.world old.cells.items b.fine.2 b.inside (subst (λ n. GoesOn old new (ModeOf.At n) old.cells.items) (two_behind place) goes))
 
 pub variable_some : (code : Code) (old new : Engine) (access out slot place n : ℕ) (s : State) → n ≡ cell_at (first_display (heads_of s.world.activations)) out slot s.world → (n ≡ 0 → ⊥)
     → Makes code old new (free_object code (T.NullVariable out slot) (slice_get code.accesses.items access) (object_at n s.world) s.operands (here_of place s)) → Makes code old new (by_instr code (Some (Free access out slot)) s.operands (here_of place s))
@@ -262,7 +296,7 @@ component_gone code old new access place t position s b none goes =
     subst (λ (m : Move). Makes code old new m) (sym (part_move code old access place t position s None b none)) (gone_makes code old new s.control s.operands s.world b.inside.holds goes)
 
 pub component_null : (code : Code) (old new : Engine) (access place t position n : ℕ) (s : State) → Before code old place (FreePart access t position) s → (let x = component code t position s in Some n ≡ part_in x.offset (object_at x.object s.world)) → n ≡ 0
-    → new.mode ≡ ModeOf.At (place + 1) → kept new ≡ with_spots (kept old) (standing s.control (drop 1 s.operands)) → new.events.items ≡ old.events.items → new.picks.items ≡ old.picks.items
+    → new.mode ≡ ModeOf.At (place + 2) → kept new ≡ with_spots (kept old) (standing s.control (drop 1 s.operands)) → new.events.items ≡ old.events.items → new.picks.items ≡ old.picks.items
     → Makes code old new (by_instr code (Some (FreePart access t position)) s.operands (here_of place s))
 component_null code old new access place t position n s b read none mode are events picks =
     let p = part_on_top code old t b.stack b.fine.1.0 s b.inside b.fine.1.1 in
@@ -270,7 +304,7 @@ component_null code old new access place t position n s b read none mode are eve
     let x = component code t position s in
     let rest = drop 1 s.operands in
     subst (λ (m : Move). Makes code old new m) (sym (part_move code old access place t position s (Some n) b read ∙ by_none code (T.NullPart x) (slice_get code.accesses.items access) n rest h none))
-    (goes_keeping code old new (with_spots (kept old) (standing s.control rest)) (place + 1) b.fine.1.0 s.control rest s.world b.fine.1.2 p.left mode are events picks)
+    (goes_keeping code old new (with_spots (kept old) (standing s.control rest)) (place + 1 + 1) b.fine.1.0 s.control rest s.world b.fine.1.2.1 p.left (mode ∙ ap (λ n. ModeOf.At n) (two_behind place)) are events picks)
 
 pub component_some : (code : Code) (old new : Engine) (access place t position n : ℕ) (s : State) → Before code old place (FreePart access t position) s → (let x = component code t position s in Some n ≡ part_in x.offset (object_at x.object s.world) → (n ≡ 0 → ⊥)
     → Makes code old new (free_object code (T.NullPart x) (slice_get code.accesses.items access) (object_at n s.world) (drop 1 s.operands) (here_of place s)) → Makes code old new (by_instr code (Some (FreePart access t position)) s.operands (here_of place s)))

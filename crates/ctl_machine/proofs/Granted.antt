@@ -2,6 +2,7 @@
 use Rattle.std.proofs.Common.{◌≡◌, ℕ, ◌+◌, ◌-◌, ◌*◌, ◌<◌, ◌≤◌, List, [], ◌∷◌, ◌++◌, Option, Some, None, Bool, true, false, length, refl, sym, ap, ◌∙◌, subst, arith, drop, take, replicate}
 use Rattle.std.specs.Prelude.{◌||◌, is_some, nat_eq, nat_lt, not, slice_get, slice_index_or, if◌then◌else◌}
 use Rattle.std.specs.Option.{option_map, option_map_or}
+use Rattle.ctl_program.specs.declared.types.Ty.{Ty}
 use Rattle.ctl_program.specs.declared.types.Ty.TheVariants.{Record}
 use Rattle.ctl_program.specs.declared.types.Var.{Var}
 use Rattle.ctl_meaning.specs.World as W
@@ -12,19 +13,18 @@ use Rattle.ctl_meaning.specs.Finalization.{Spot}
 use Rattle.ctl_meaning.specs.Lists.{item_or}
 use Rattle.ctl_meaning.specs.Objects.{object_in}
 use Rattle.ctl_meaning.specs.Pools.{block_pool_at, hold_block, take_block}
-use Rattle.ctl_storage.specs.Calls.{is_exhausted_at, pool_of, state_of, taken_at, with_taken}
-use Rattle.ctl_storage.specs.declared.pools.Pool.{Pool}
-use Rattle.ctl_storage.specs.declared.pools.PoolState.{PoolState}
-use Rattle.ctl_storage.specs.declared.pools.PoolState.TheVariants.{Open}
+use Rattle.ctl_storage.specs.Calls.{IsOpen, is_exhausted_at, taken_at, with_taken}
+use Rattle.ctl_objects.specs.declared.existing.Existing.{Existing}
+use Rattle.ctl_objects.specs.Existing.{IsKnown}
 use Rattle.ctl_objects.specs.Pools.{ShowsPools}
-use Rattle.ctl_objects.specs.Stock.{Stock}
+use Rattle.ctl_objects.specs.Stock.{Stock, storage_of}
 use Rattle.ctl_code.specs.declared.code.AccessHome.{AccessHome}
 use Rattle.ctl_code.specs.declared.code.Code.{Code}
 use Rattle.ctl_code.specs.declared.code.Layout.{Layout}
 use Rattle.ctl_code.specs.declared.code.Way.TheVariants as WayOf
 use Rattle.ctl_code.specs.States as T
 use Rattle.ctl_code.specs.States.{State, Word}
-use Rattle.ctl_code.specs.Table.{Grant, Granted, Exhausted, UnknownPool, grant, holder_grant, object_grant, pool_grant, pool_in, size_in, size_of, spot_of, units_in, units_of, with_member}
+use Rattle.ctl_code.specs.Table.{Grant, Granted, Exhausted, UnknownPool, AllocateOf, grant, holder_grant, object_grant, operation_for, own_grant, pool_grant, pool_in, size_in, size_of, spot_of, units_in, units_of, with_member}
 use Rattle.ctl_code.specs.Valid.{IsValid}
 use Rattle.ctl_machine.specs.declared.engine.Engine.{Engine}
 use Rattle.ctl_machine.specs.declared.frame.Formal.{Formal}
@@ -34,7 +34,10 @@ use Rattle.ctl_machine.specs.declared.frame.Mode.{Mode}
 use Rattle.ctl_machine.specs.declared.frame.Mode.TheVariants as ModeOf
 use Rattle.ctl_machine.specs.declared.frame.Owned.{Owned}
 use Rattle.ctl_machine.specs.Gathering.{with_new_member}
-use Rattle.ctl_machine.specs.Granting.{Adds, IsNewMember, Lacks, Serves, block_unless, pool_grants, storage_seen}
+use Rattle.ctl_machine.specs.Granting.{Adds, AsksNoUser, Grants, IsNewMember, Lacks, Serves, block_unless, pool_grants, storage_seen}
+use Rattle.ctl_machine.specs.PoolBlocks.{is_open_at}
+use Rattle.ctl_machine.specs.declared.granting.Grantor.{Grantor}
+use Rattle.ctl_machine.specs.declared.granting.Grantor.TheVariants as GrantorOf
 use Rattle.ctl_machine.specs.Holders.{formal_in, found_in, holder_in, own_end, own_formals}
 use Rattle.ctl_machine.specs.Masters.{display_from, first_display, heads_of}
 use Rattle.ctl_machine.specs.Moves.{GoesOn}
@@ -42,6 +45,7 @@ use Rattle.ctl_machine.specs.Shows.{Holds, Kept, kept, stock_of}
 use Rattle.ctl_machine.proofs.HeldThere.{content_is}
 use Rattle.ctl_machine.proofs.Links.{got}
 use Rattle.ctl_machine.proofs.Lists.{same_at}
+use Rattle.ctl_machine.proofs.MayJoin.{known_there, none_known}
 use Rattle.ctl_machine.proofs.Owned.{object_shown}
 use Rattle.ctl_machine.proofs.Reached.{linked_in}
 use Rattle.ctl_machine.proofs.SetSeen.{level_is, no_level}
@@ -92,33 +96,119 @@ part_held code e k ops w n slot i end x owned formals r h found number less all 
 -- The pool -------------------------------------------------------------------------------------------------
 
 -- a pool that is open grants a block, unless it is exhausted
-from_block : (n : ℕ) (w : World) (stands full : Bool) → state_of stands ≡ Open → (if not stands then UnknownPool else if full then Exhausted else Granted (InBlock n w.pools.next_address) (in_pools (take_block n) w)) ≡ block_unless full n w
-from_block n w false full is = absurd (cc)
-from_block n w true true is = refl
-from_block n w true false is = refl
+from_open : (n : ℕ) (w : World) (stands full : Bool) → stands ≡ true → (if not stands then UnknownPool else if full then Exhausted else Granted (InBlock n w.pools.next_address) (in_pools (take_block n) w)) ≡ block_unless full n w
+from_open n w false full is = absurd (cc)
+from_open n w true true is = refl
+from_open n w true false is = refl
 
-from_pool : (n size : ℕ) (q : Pool) (w : World) (p : Option BlockPool) → Some q ≡ option_map pool_of p → q.state ≡ Open → pool_grant n size p w ≡ block_unless (option_map_or (λ x. nat_eq x.free 0 || nat_lt x.block_size size) p false) n w
-from_pool n size q w None is stands = absurd (cc)
-from_pool n size q w (Some p) is stands =
-    from_block n w p.is_open (nat_eq p.free 0 || nat_lt p.block_size size) (ap (λ (o : Option Pool). state_in o) (sym is) ∙ stands)
-  where
-    state_in : Option Pool → PoolState
-    state_in None = Open
-    state_in (Some x) = x.state
+open_grants : (n size : ℕ) (w : World) (p : Option BlockPool) → option_map_or (λ x. x.is_open) p false ≡ true → pool_grant n size p w ≡ block_unless (option_map_or (λ x. nat_eq x.free 0 || nat_lt x.block_size size) p false) n w
+open_grants n size w None is = absurd (cc)
+open_grants n size w (Some p) is = from_open n w p.is_open (nat_eq p.free 0 || nat_lt p.block_size size) is
 
-from_object : (n size : ℕ) (q : Pool) (w : World) (o : Option Object) → is_some o ≡ true → Some q ≡ option_map pool_of (block_pool_at n w.pools) → q.state ≡ Open → object_grant n size o w ≡ pool_grants n size w
-from_object n size q w None there is stands = absurd (cc)
-from_object n size q w (Some o) there is stands = from_pool n size q w (block_pool_at n w.pools) is stands
+-- any other one grants none
+from_shut : (n : ℕ) (w : World) (stands full : Bool) → stands ≡ false → (if not stands then UnknownPool else if full then Exhausted else Granted (InBlock n w.pools.next_address) (in_pools (take_block n) w)) ≡ UnknownPool
+from_shut n w false full is = refl
+from_shut n w true full is = absurd (cc)
 
-from_holder : (n size : ℕ) (q : Pool) (w : World) (y : Option Spot) → Some n ≡ number_in y → is_some (object_at n w) ≡ true → Some q ≡ option_map pool_of (block_pool_at n w.pools) → q.state ≡ Open → holder_grant y size w ≡ pool_grants n size w
-from_holder n size q w None held there is stands = absurd (cc)
-from_holder n size q w (Some s) held there is stands =
-    let same : n ≡ s.object = same_at n s.object (Some n) refl held in
-    subst (λ i. object_grant i size (object_at i w) w ≡ pool_grants n size w) same (from_object n size q w (object_at n w) there is stands)
+shut_grants : (n size : ℕ) (w : World) (p : Option BlockPool) → option_map_or (λ x. x.is_open) p false ≡ false → pool_grant n size p w ≡ UnknownPool
+shut_grants n size w None is = refl
+shut_grants n size w (Some p) is = from_shut n w p.is_open (nat_eq p.free 0 || nat_lt p.block_size size) is
 
-pub open_grants : (code : Code) (e : Kept) (k : List T.Frame) (ops : List Word) (w : World) (y : Option Spot) (n size : ℕ) (q : Pool) → Holds code e k ops w → Some n ≡ number_in y → is_some (object_in n e.objects) ≡ true → Some q ≡ option_map pool_of (block_pool_at n w.pools) → q.state ≡ Open
-    → holder_grant y size w ≡ pool_grants n size w
-open_grants code e k ops w y n size q h held there is stands = from_holder n size q w y held (ap (λ o. is_some o) (object_shown code e k ops w n h) ∙ there) is stands
+-- the object of a pool is there, of this type
+record IsHere (e : Kept) (n : ℕ) (ty : Ty) (w : World) : Type 0 where
+  pub object : Object
+  pub found : object_in n e.objects ≡ Some object
+  pub seen : object_at n w ≡ Some object
+  pub number : object.number ≡ n
+  pub type : object.ty ≡ ty
+
+is_here : (code : Code) (e : Kept) (k : List T.Frame) (ops : List Word) (w : World) (n : ℕ) (x : Existing) → Holds code e k ops w → IsKnown n (Some x) e.objects → IsHere e n x.ty w
+is_here code e k ops w n x h knows =
+    let there = known_there n x e.objects knows in
+    record { object = there.0; found = there.1; seen = object_shown code e k ops w n h ∙ there.1; number = ap (λ (o : Object). o.number) there.2; type = ap (λ (o : Object). o.ty) there.2 }
+
+-- then its type decides
+here_grants : (code : Code) (e : Kept) (n size : ℕ) (ty : Ty) (w : World) (f : Option ℕ) → f ≡ operation_for (λ x. x.allocate) code ty → (i : IsHere e n ty w) → object_grant code size (object_at n w) w ≡ own_grant f size i.object w
+here_grants code e n size ty w f is i =
+    ap (λ (o : Option Object). object_grant code size o w) i.seen
+    ∙ (ap (λ (y : Ty). own_grant (operation_for (λ x. x.allocate) code y) size i.object w) i.type
+    ∙ ap (λ o. own_grant o size i.object w) (sym is))
+
+own_pool : (n size : ℕ) (o : Object) (w : World) → o.number ≡ n → own_grant None size o w ≡ pool_grant n size (block_pool_at n w.pools) w
+own_pool n size o w same = ap (λ j. pool_grant j size (block_pool_at j w.pools) w) same
+
+-- none is there
+pub gone_grants : (code : Code) (e : Engine) (k : List T.Frame) (ops : List Word) (w : World) (n : ℕ) → Holds code (kept e) k ops w → IsKnown n None e.stock.objects → Grants code e w (λ size. object_grant code size (object_at n w) w) GrantorOf.Gone
+gone_grants code e k ops w n h unknown = λ size. ap (λ (o : Option Object). object_grant code size o w) (object_shown code (kept e) k ops w n h ∙ none_known n e.stock.objects unknown)
+
+-- the user wrote the Allocate
+pub user_grants : (code : Code) (e : Engine) (k : List T.Frame) (ops : List Word) (w : World) (n f : ℕ) (x : Existing) → Holds code (kept e) k ops w → IsKnown n (Some x) e.stock.objects → Some f ≡ operation_for (λ x. x.allocate) code x.ty
+    → Grants code e w (λ size. object_grant code size (object_at n w) w) (GrantorOf.User n f)
+user_grants code e k ops w n f x h knows is =
+    let i = is_here code (kept e) k ops w n x h knows in
+    record { object = i.object; found = i.found; operation = ap (λ (y : Ty). operation_for (λ x. x.allocate) code y) i.type ∙ sym is; asks = λ size. here_grants code (kept e) n size x.ty w (Some f) is i }
+
+-- the library's grants a block, where the pool is open
+pub library_grants : (code : Code) (e : Engine) (k : List T.Frame) (ops : List Word) (w : World) (n : ℕ) (x : Existing) → Holds code (kept e) k ops w → IsKnown n (Some x) e.stock.objects → None ≡ operation_for (λ x. x.allocate) code x.ty
+    → IsOpen n (storage_of e.stock) → is_some (object_in n e.stock.objects) ≡ true → true ≡ is_open_at n w.pools → Grants code e w (λ size. object_grant code size (object_at n w) w) (GrantorOf.Library n)
+library_grants code e k ops w n x h knows is stands there opened =
+    let i = is_here code (kept e) k ops w n x h knows in
+    (stands, there, λ size. here_grants code (kept e) n size x.ty w None is i ∙ (own_pool n size i.object w i.number ∙ open_grants n size w (block_pool_at n w.pools) (sym opened)))
+
+pub library_gone : (code : Code) (e : Engine) (k : List T.Frame) (ops : List Word) (w : World) (n : ℕ) (x : Existing) → Holds code (kept e) k ops w → IsKnown n (Some x) e.stock.objects → None ≡ operation_for (λ x. x.allocate) code x.ty
+    → false ≡ is_open_at n w.pools → Grants code e w (λ size. object_grant code size (object_at n w) w) GrantorOf.Gone
+library_gone code e k ops w n x h knows is shut =
+    let i = is_here code (kept e) k ops w n x h knows in
+    λ size. here_grants code (kept e) n size x.ty w None is i ∙ (own_pool n size i.object w i.number ∙ shut_grants n size w (block_pool_at n w.pools) (sym shut))
+
+-- the object of the part that a variable holds is the pool
+pub held_grants : (code : Code) (e : Engine) (w : World) (y : Option Spot) (n : ℕ) (r : Grantor) → Some n ≡ number_in y → Grants code e w (λ size. object_grant code size (object_at n w) w) r → Grants code e w (λ size. holder_grant code y size w) r
+held_grants code e w None n r held g = absurd (cc)
+held_grants code e w (Some s) n r held g = subst (λ i. Grants code e w (λ size. object_grant code size (object_at i w) w) r) (same_at n s.object (Some n) refl held) g
+
+pub none_grants : (code : Code) (e : Engine) (w : World) (y : Option Spot) → None ≡ number_in y → Grants code e w (λ size. holder_grant code y size w) GrantorOf.Gone
+none_grants code e w None held = λ size. refl
+none_grants code e w (Some s) held = absurd (cc)
+
+-- the access type has this pool
+pub seen_grants : (code : Code) (e : Engine) (access : ℕ) (a : AccessHome) (s : State) (r : Grantor) → slice_get code.accesses.items access ≡ Some a → Grants code e s.world (λ size. grant code a.pool (first_display (heads_of s.world.activations)) size s.world) r
+    → Grants code e s.world (storage_seen code access s) r
+seen_grants code e access a s r found g = subst (λ (o : Option AccessHome). Grants code e s.world (λ size. grant code (pool_in o) (first_display (heads_of s.world.activations)) size s.world) r) (sym found) g
+
+-- What comes of it -------------------------------------------------------------------------------------------
+
+-- another world differs from this one in its pools alone
+abbrev pub IsBeside : World → World → Type 0
+IsBeside w v = v ≡ record w { pools = v.pools }
+
+taken_beside : (full : Bool) (n : ℕ) (w v : World) (place : Place) → block_unless full n w ≡ Granted place v → IsBeside w v
+unfolding opened_changes
+taken_beside true n w v place is = absurd (cc)
+taken_beside false n w v place is = let same : in_pools (take_block n) w ≡ v = cc in subst (λ (u : World). IsBeside w u) same refl
+
+-- where storage was granted, the world is that, but for its pools
+pub grants_beside : (code : Code) (e : Engine) (w v : World) (g : ℕ → Grant) (r : Grantor) (size : ℕ) (place : Place) → Grants code e w g r → g size ≡ Granted place v → IsBeside w v
+grants_beside code e w v g GrantorOf.Standard size place grants is = let both = sym (grants size) ∙ is in let same : w ≡ v = cc in subst (λ (u : World). IsBeside w u) same refl
+grants_beside code e w v g (GrantorOf.Library n) size place grants is = taken_beside (is_exhausted_at n size w.pools) n w v place (sym (grants.2 size) ∙ is)
+grants_beside code e w v g (GrantorOf.User n f) size place grants is = let both = sym (grants.asks size) ∙ is in absurd (cc)
+grants_beside code e w v g GrantorOf.Gone size place grants is = let both = sym (grants size) ∙ is in absurd (cc)
+
+-- none of the user's is asked
+pub no_user : (r : Grantor) → ((n f : ℕ) → r ≡ GrantorOf.User n f → ⊥) → AsksNoUser r
+no_user GrantorOf.Standard none = tt
+no_user (GrantorOf.Library n) none = tt
+no_user (GrantorOf.User n f) none = none n f refl
+no_user GrantorOf.Gone none = tt
+
+unless_asks : (full : Bool) (n : ℕ) (w : World) (o : Object) (f : ℕ) → block_unless full n w ≡ AllocateOf o f → ⊥
+unless_asks true n w o f is = cc
+unless_asks false n w o f is = cc
+
+pub asks_none : (code : Code) (e : Engine) (w : World) (g : ℕ → Grant) (r : Grantor) (size : ℕ) (o : Object) (f : ℕ) → Grants code e w g r → AsksNoUser r → g size ≡ AllocateOf o f → ⊥
+asks_none code e w g GrantorOf.Standard size o f grants none is = let both = sym (grants size) ∙ is in cc
+asks_none code e w g (GrantorOf.Library n) size o f grants none is = unless_asks (is_exhausted_at n size w.pools) n w o f (sym (grants.2 size) ∙ is)
+asks_none code e w g (GrantorOf.User n h) size o f grants none is = absurd none
+asks_none code e w g GrantorOf.Gone size o f grants none is = let both = sym (grants size) ∙ is in cc
 
 -- An object is put there -------------------------------------------------------------------------------------
 
@@ -147,7 +237,7 @@ unfolding opened_changes
 standard_shown code set t next w x h = h
 
 -- in a block
-block_shown : (code : Code) (set t n a next : ℕ) (v : World) (x : Stock) → ShowsPools next (hold_block n a v.ledger.next_object v.pools) x → ShowsPools next (with_member code set t (InBlock n a) v).pools x
+pub block_shown : (code : Code) (set t n a next : ℕ) (v : World) (x : Stock) → ShowsPools next (hold_block n a v.ledger.next_object v.pools) x → ShowsPools next (with_member code set t (InBlock n a) v).pools x
 unfolding opened_changes
 block_shown code set t n a next v x h = h
 
@@ -180,12 +270,6 @@ lacks_block n size w taken = by (is_exhausted_at n size w.pools) taken
     by : (full : Bool) → None ≡ (if full then None else Some w.pools.next_address) → Lacks (block_unless full n w) (ModeOf.Transfers (WayOf.Raise 2))
     by true e = refl
     by false e = absurd (cc)
-
--- By an access type ------------------------------------------------------------------------------------------
-
--- the pool of an access type, as it is read
-pub pool_read : (code : Code) (access t : ℕ) (a : AccessHome) (s : State) → slice_get code.accesses.items access ≡ Some a → storage_seen code access t s ≡ grant a.pool (first_display (heads_of s.world.activations)) (units_of code t) s.world
-pool_read code access t a s found = ap (λ (o : Option AccessHome). grant (pool_in o) (first_display (heads_of s.world.activations)) (units_of code t) s.world) found
 
 -- two changes, of which the first keeps all
 pub goes_both : (old mid new : Engine) (mode : Mode) → GoesOn old mid old.mode old.cells.items → GoesOn mid new mode mid.cells.items → GoesOn old new mode old.cells.items

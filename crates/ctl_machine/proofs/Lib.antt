@@ -130,3 +130,10 @@ pub mod Stocked
 pub mod PoolsDropped
 pub mod PoolsClosed
 pub mod PoolDeclared
+pub mod PoolBlocks
+pub mod BlockCalls
+pub mod StorageCalled
+pub mod Placed
+pub mod PlacedMember
+pub mod UserAllocates
+pub mod Deallocated

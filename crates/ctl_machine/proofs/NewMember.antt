@@ -15,27 +15,28 @@ use Rattle.ctl_meaning.specs.Pools.{hold_block}
 use Rattle.ctl_objects.specs.Pools.{ShowsPools}
 use Rattle.ctl_objects.specs.Stock.{Stock}
 use Rattle.ctl_code.specs.declared.kinds.Kind.{Kind}
+use Rattle.ctl_code.specs.declared.kinds.Kind.TheVariants.{Operand}
 use Rattle.ctl_code.specs.declared.code.Code.{Code}
 use Rattle.ctl_code.specs.declared.code.Instr.TheVariants.{New}
 use Rattle.ctl_code.specs.declared.code.Way.TheVariants as WayOf
 use Rattle.ctl_code.specs.States as T
 use Rattle.ctl_code.specs.States.{State, Word}
-use Rattle.ctl_code.specs.Table.{Exhausted, Grant, Granted, Here, UnknownPool, behind_declaration, by_instr, by_new, gone, grant, new_at, pool_in, set_seen, size_of, transfers, units_of, with_member}
-use Rattle.ctl_code.proofs.Storage.{OnGrant, granted_keeps}
+use Rattle.ctl_code.specs.Table.{AllocateOf, Exhausted, Grant, Granted, Here, UnknownPool, by_instr, by_new, gone, new_at, pool_in, set_seen, size_of, transfers, units_of, with_member}
+use Rattle.ctl_code.specs.Valid.{IsScalar, Leads}
 use Rattle.ctl_machine.specs.declared.engine.Engine.{Engine}
 use Rattle.ctl_machine.specs.declared.frame.Frame.TheVariants as FrameOf
 use Rattle.ctl_machine.specs.declared.frame.Mode.{Mode}
 use Rattle.ctl_machine.specs.declared.frame.Owned.{Owned}
 use Rattle.ctl_machine.specs.Allocating.{OwnsNone}
 use Rattle.ctl_machine.specs.Copying.{Refuses, Takes}
-use Rattle.ctl_machine.specs.Gathering.{member_at, with_new_member}
-use Rattle.ctl_machine.specs.Granting.{IsNewMember, Lacks, storage_seen}
+use Rattle.ctl_machine.specs.Gathering.{Member, member_at, with_new_member}
+use Rattle.ctl_machine.specs.Granting.{IsAdded, IsNewMember, Lacks, storage_seen}
 use Rattle.ctl_machine.specs.Initializing.{Awaits}
 use Rattle.ctl_machine.specs.Masters.{Head, heads_of, first_display}
 use Rattle.ctl_machine.specs.Moves.{Before, GoesOn, Inside, Makes, here_of}
 use Rattle.ctl_machine.specs.Shows.{Kept, Holds, Sized, kept, stock_of}
 use Rattle.ctl_machine.proofs.Foreign.{owns_no_next}
-use Rattle.ctl_machine.proofs.Granted.{goes_both}
+use Rattle.ctl_machine.proofs.Granted.{IsBeside, goes_both}
 use Rattle.ctl_machine.proofs.Owned.{owns_member}
 use Rattle.ctl_machine.proofs.Plain.{transfers_makes}
 use Rattle.ctl_machine.proofs.Stages.{Creates, allocator_begins, with_frame}
@@ -48,20 +49,9 @@ set_of_owner (OwnerOf.Master m) = 0
 
 -- Where storage was granted ------------------------------------------------------------------------------
 
--- another world differs from this one in its pools alone
-abbrev pub IsBeside : World → World → Type 0
-IsBeside w v = v ≡ record w { pools = v.pools }
-
 pools_beside : (w : World) (f : W.Pools → W.Pools) (v : World) → IsBeside w v → IsBeside w (in_pools f v)
 unfolding opened_changes
 pools_beside w f v b = ap (λ (u : World). record u { pools = f v.pools }) b
-
-granted_beside : (pool : Option Var) (d : List ℕ) (size : ℕ) (w v : World) (place : Place) → grant pool d size w ≡ Granted place v → IsBeside w v
-granted_beside pool d size w v place is = subst (λ (g : Grant). OnGrant (IsBeside w) g) is (granted_keeps (IsBeside w) (pools_beside w) pool d size w refl)
-
--- so does the one where it was granted as it is seen
-pub seen_beside : (code : Code) (access t : ℕ) (s : State) (v : World) (place : Place) → storage_seen code access t s ≡ Granted place v → IsBeside s.world v
-seen_beside code access t s v place is = granted_beside (pool_in (slice_get code.accesses.items access)) (first_display (heads_of s.world.activations)) (units_of code t) s.world v place is
 
 put_beside : (place : Place) (n : ℕ) (w v : World) → IsBeside w v → IsBeside w (put_into place n v)
 unfolding opened_changes
@@ -127,40 +117,55 @@ member_number code old new set t place v i = let next = ap (λ (e : Kept). e.nex
 pub member_next : (code : Code) (old new : Engine) (set t : ℕ) (place : Place) (w v : World) → w.ledger.next_object ≡ old.numbered.objects + 1 → IsBeside w v → IsNewMember code (kept old) (kept new) set t place v → v.ledger.next_object ≡ new.numbered.objects
 member_next code old new set t place w v next beside i = ap (λ (u : World). u.ledger.next_object) beside ∙ (next ∙ sym (member_number code old new set t place v i))
 
--- The frame of the allocator waits for it --------------------------------------------------------------
+-- It is to begin -------------------------------------------------------------------------------------
 
-pub member_awaits : (code : Code) (old added mid : Engine) (access at set t cell : ℕ) (ty : Ty) (place : Place) (v : World) (s : State) → Before code old at (New access t ty cell) s → IsBeside s.world v → IsNewMember code (kept old) (kept added) set t place v
-    → kept mid ≡ with_frame (FrameOf.Allocating added.numbered.objects (at + 1)) (kept added) → Awaits code mid (member_at code at set t place v s).control (member_at code at set t place v s).world
-member_awaits code old added mid access at set t cell ty place v s b beside i is =
-    let p : T.Point = behind_declaration s.operands (here_of at s) in
-    let g = member_at code at set t place v s in
-    let n = added.numbered.objects in
-    let h = b.inside.holds in
-    let holds = member_added code (kept old) (kept added) set t place s.control s.operands s.world v h beside i in
-    let heads = member_heads code set t place s.world v beside in
-    let seen : p.display ≡ first_display (heads_of g.world.activations) = ap first_display (sym heads) in
-    let number : n ≡ old.numbered.objects + 1 = member_number code old added set t place v i in
-    let next = member_next code old added set t place s.world v h.next_object beside i in
+pub is_added : (code : Code) (old added : Engine) (set t at : ℕ) (ty : Ty) (stack : List Kind) (place : Place) (k : List T.Frame) (p : T.Point) (w v : World) → Inside code (kept old) stack k p.operands w → p.place ≡ at → p.display ≡ first_display (heads_of w.activations) → IsScalar ty → Leads code p.place (Operand ty ∷ stack)
+    → IsBeside w v → IsNewMember code (kept old) (kept added) set t place v → IsAdded code added set t at (record { place = place; control = k; point = p; granted = v })
+is_added code old added set t at ty stack place k p w v inside there seen scalar leads beside i =
+    let h = inside.holds in
+    let heads = member_heads code set t place w v beside in
+    let number : added.numbered.objects ≡ old.numbered.objects + 1 = member_number code old added set t place v i in
     let owned : added.owned.items ≡ old.owned.items = ap (λ (e : Kept). e.owned) i.kept in
-    let foreign : OwnsNone n added.owned.items = subst (λ (l : List Owned). OwnsNone n l) (sym owned) (subst (λ c. OwnsNone c old.owned.items) (sym number) (owns_no_next old.owned.items (old.numbered.objects + 1) old.stock.objects h.owns)) in
-    let waits = allocator_begins Creates code (kept added) n t (at + 1) p s.control g.world tt holds foreign refl seen in
     record {
-      holds = subst (λ (x : Kept). Holds code x g.control [] g.world) (sym is) (subst (λ c. Holds code (with_frame (FrameOf.Allocating n (at + 1)) (kept added)) (T.Creating T.ByAllocator c t p ∷ s.control) [] g.world) (sym next) waits);
-      spots = ap (λ (e : Kept). e.spots) (is ∙ ap (λ (e : Kept). with_frame (FrameOf.Allocating n (at + 1)) e) i.kept) ∙ b.inside.spots;
-      sized = (b.stack, (ty, b.fine.0, b.fine.3), subst (λ (hs : List Head). Sized code b.stack s.control hs) (sym heads) b.inside.sized);
+      holds = member_added code (kept old) (kept added) set t place k p.operands w v h beside i;
+      spots = ap (λ (e : Kept). e.spots) i.kept ∙ inside.spots;
+      number = member_next code old added set t place w v h.next_object beside i;
+      foreign = subst (λ (l : List Owned). OwnsNone added.numbered.objects l) (sym owned) (subst (λ c. OwnsNone c old.owned.items) (sym number) (owns_no_next old.owned.items (old.numbered.objects + 1) old.stock.objects h.owns));
+      goes_on = there;
+      seen = seen ∙ ap first_display (sym heads);
+      stack = stack;
+      type = ty;
+      scalar = scalar;
+      leads = leads;
+      sized = subst (λ (hs : List Head). Sized code stack k hs) (sym heads) inside.sized;
+    }
+
+-- the frame of its allocator waits for it
+pub added_awaits : (code : Code) (added mid : Engine) (set t at : ℕ) (m : Member) → IsAdded code added set t at m → kept mid ≡ with_frame (FrameOf.Allocating added.numbered.objects at) (kept added) → Awaits code mid (member_at code set t m).control (member_at code set t m).world
+added_awaits code added mid set t at m a is =
+    let p = m.point in
+    let g = member_at code set t m in
+    let n = added.numbered.objects in
+    let waits = allocator_begins Creates code (kept added) n t at p m.control g.world tt a.holds a.foreign a.goes_on a.seen in
+    record {
+      holds = subst (λ (x : Kept). Holds code x g.control [] g.world) (sym is) (subst (λ c. Holds code (with_frame (FrameOf.Allocating n at) (kept added)) (T.Creating T.ByAllocator c t p ∷ m.control) [] g.world) (sym a.number) waits);
+      spots = ap (λ (e : Kept). e.spots) is ∙ a.spots;
+      sized = (a.stack, (a.type, a.scalar, a.leads), a.sized);
     }
 
 -- No storage ---------------------------------------------------------------------------------------------
 
 -- the machine makes what the table makes of it, whatever it makes where there is some
-pub lacking_makes : (code : Code) (old mid new : Engine) (mode : Mode) (stack : List Kind) (ops : List Word) (h : Here) (move : Grant → T.Move) (g : Grant) → move Exhausted ≡ transfers (ByRaise storage_error) h.control h.world → move UnknownPool ≡ gone h.control h.world
+pub lacking_makes : (code : Code) (old mid new : Engine) (mode : Mode) (stack : List Kind) (ops : List Word) (h : Here) (move : Grant → T.Move) (g : Grant) → ((o : W.Object) (f : ℕ) → g ≡ AllocateOf o f → move (AllocateOf o f) ≡ gone h.control h.world) → move Exhausted ≡ transfers (ByRaise storage_error) h.control h.world → move UnknownPool ≡ gone h.control h.world
     → Inside code (kept old) stack h.control ops h.world → Lacks g mode → GoesOn old mid old.mode old.cells.items → GoesOn mid new mode mid.cells.items → Makes code old new (move g)
 unfolding storage_error
-lacking_makes code old mid new mode stack ops h move (Granted place v) raises stops i lacks before goes = absurd lacks
-lacking_makes code old mid new mode stack ops h move Exhausted raises stops i lacks before goes =
+lacking_makes code old mid new mode stack ops h move (Granted place v) asks raises stops i lacks before goes = absurd lacks
+lacking_makes code old mid new mode stack ops h move Exhausted asks raises stops i lacks before goes =
     subst (λ (m : T.Move). Makes code old new m) (sym raises) (transfers_makes code old new (WayOf.Raise 2) stack h.control ops h.world i (subst (λ (m : Mode). GoesOn old new m old.cells.items) lacks (goes_both old mid new mode before goes)))
-lacking_makes code old mid new mode stack ops h move UnknownPool raises stops i lacks before goes =
+lacking_makes code old mid new mode stack ops h move UnknownPool asks raises stops i lacks before goes =
     subst (λ (m : T.Move). Makes code old new m) (sym stops) (gone_makes code old new h.control ops h.world i.holds (subst (λ (m : Mode). GoesOn old new m old.cells.items) lacks (goes_both old mid new mode before goes)))
+lacking_makes code old mid new mode stack ops h move (AllocateOf o f) asks raises stops i lacks before goes =
+    subst (λ (m : T.Move). Makes code old new m) (sym (asks o f refl)) (gone_makes code old new h.control ops h.world i.holds (subst (λ (m : Mode). GoesOn old new m old.cells.items) lacks (goes_both old mid new mode before goes)))
 
 -- Collections that do not take objects -----------------------------------------------------------------
 
@@ -190,8 +195,8 @@ set_refuses code old new access place t at ty mode s b refuses goes =
 
 -- it takes the object, where there is storage
 pub set_takes : (code : Code) (old new : Engine) (access place set t at : ℕ) (ty : Ty) (s : State) → Takes code t (set_seen (slice_get code.accesses.items access) (first_display (heads_of s.world.activations)) s.world) set
-    → Makes code old new (new_at code t set (storage_seen code access t s) s.operands (here_of place s)) → Makes code old new (by_instr code (Some (New access t ty at)) s.operands (here_of place s))
+    → Makes code old new (new_at code t set (storage_seen code access s (units_of code t)) s.operands (here_of place s)) → Makes code old new (by_instr code (Some (New access t ty at)) s.operands (here_of place s))
 set_takes code old new access place set t at ty s u makes =
     let a = slice_get code.accesses.items access in
     subst (λ (o : Option Collection). Makes code old new (by_new code t (pool_in a) o s.operands (here_of place s))) (sym u.is)
-    (rw (u.takes) (subst (λ n. Makes code old new (new_at code t n (storage_seen code access t s) s.operands (here_of place s))) (sym u.number) makes))
+    (rw (u.takes) (subst (λ n. Makes code old new (new_at code t n (storage_seen code access s (units_of code t)) s.operands (here_of place s))) (sym u.number) makes))

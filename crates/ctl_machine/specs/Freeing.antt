@@ -1,13 +1,12 @@
 -- Objects that are freed: what the table frees, and what stands there before.
-use Rattle.std.specs.Prelude.{◌≡◌, ◌≢◌, ℕ, ◌+◌, List, ◌∷◌, Option, Some, None, ◌&&◌, if◌then◌else◌, nat_eq}
+use Rattle.std.specs.Prelude.{◌≡◌, ◌≢◌, ℕ, ◌+◌, ◌^◌, ◌<◌, List, [], ◌∷◌, Option, Some, None, Bool, true, false, is_some, ◌&&◌, if◌then◌else◌, nat_eq, reverse}
 use Rattle.ctl_program.specs.declared.types.Ty.{Ty}
 use Rattle.ctl_program.specs.declared.types.Ty.TheVariants.{Record}
 use Rattle.ctl_program.specs.declared.types.Var.{Var}
 use Rattle.ctl_tree.specs.declared.event.Cause.TheVariants as CauseOf
-use Rattle.ctl_tree.specs.declared.ending.Stop.{Stop}
 use Rattle.ctl_tree.specs.declared.ending.Stop.TheVariants as StopOf
-use Rattle.ctl_meaning.specs.Changes.{object_at}
-use Rattle.ctl_meaning.specs.Objects.{is_untouched}
+use Rattle.ctl_meaning.specs.Changes.{forget, object_at, write_cells}
+use Rattle.ctl_meaning.specs.Objects.{is_untouched, object_in}
 use Rattle.ctl_meaning.specs.Outcome.{Fine}
 use Rattle.ctl_meaning.specs.World as W
 use Rattle.ctl_meaning.specs.World.{Object, World}
@@ -18,26 +17,35 @@ use Rattle.ctl_objects.specs.declared.existing.Origin.{Origin}
 use Rattle.ctl_objects.specs.declared.existing.Origin.TheVariants as OriginOf
 use Rattle.ctl_objects.specs.Pools.{ShowsPools}
 use Rattle.ctl_objects.specs.Stock.{Stock}
+use Rattle.ctl_storage.specs.declared.existing.Place.{Place}
+use Rattle.ctl_storage.specs.declared.existing.Place.TheVariants as PlaceOf
 use Rattle.ctl_storage.specs.declared.existing.Stage.{Stage}
 use Rattle.ctl_storage.specs.Stages.{state_of}
 use Rattle.ctl_code.specs.declared.kinds.Kind.{Kind}
 use Rattle.ctl_code.specs.declared.code.Code.{Code}
 use Rattle.ctl_code.specs.declared.code.Parts.TheVariants as PartsOf
-use Rattle.ctl_code.specs.declared.code.Way.TheVariants as WayOf
 use Rattle.ctl_code.specs.States as T
 use Rattle.ctl_code.specs.States.{Move, State, Word}
-use Rattle.ctl_code.specs.Table.{GivenBack, Returned, NotReturned, behind_declaration, finalize_object, free_object, gives, has_part, parts_of, stopped, storage_of}
+use Rattle.ctl_code.specs.Kinds.{stack_at}
+use Rattle.ctl_code.specs.Table as Table
+use Rattle.ctl_code.specs.Table.{Returned, NotReturned, DeallocateOf, behind_declaration, finalize_object, free_object, gives, has_part, operation_for, parts_of, stopped, storage_of, units_for, with_cell}
 use Rattle.ctl_code.specs.Valid.{Leads}
+use Rattle.ctl_code.specs.Windows.{height}
 use Rattle.ctl_machine.specs.declared.engine.Engine.{Engine}
 use Rattle.ctl_machine.specs.declared.frame.Ended.{Ended}
 use Rattle.ctl_machine.specs.declared.frame.Ended.TheVariants as EndedOf
-use Rattle.ctl_machine.specs.declared.frame.Mode.{Mode}
-use Rattle.ctl_machine.specs.declared.frame.Mode.TheVariants as ModeOf
 use Rattle.ctl_machine.specs.declared.frame.Nulled.{Nulled}
 use Rattle.ctl_machine.specs.declared.frame.Owned.{Owned}
 use Rattle.ctl_machine.specs.declared.freeing.Fate.{Fate}
 use Rattle.ctl_machine.specs.declared.freeing.Fate.TheVariants as FateOf
+use Rattle.ctl_machine.specs.declared.freeing.Deallocation.{Deallocation}
+use Rattle.ctl_machine.specs.declared.freeing.Ending.{Ending}
+use Rattle.ctl_machine.specs.declared.freeing.GivenBack.{GivenBack}
+use Rattle.ctl_machine.specs.declared.freeing.GivenBack.TheVariants as BackOf
 use Rattle.ctl_machine.specs.Allocating.{OwnsNone}
+use Rattle.ctl_machine.specs.Assigning.{HasRoom}
+use Rattle.ctl_machine.specs.Masters.{first_display, first_window, heads_of}
+use Rattle.ctl_machine.specs.StorageCalling.{StorageCall}
 use Rattle.ctl_machine.specs.Moves.{Inside, here_of}
 use Rattle.ctl_machine.specs.Shows.{Holds, kept, nulled_of, with_spots}
 use Rattle.ctl_machine.specs.Spots.{spots_in, standing}
@@ -58,9 +66,14 @@ abbrev pub storage_at : Option Object → W.Place
 storage_at None = W.Standard
 storage_at (Some o) = storage_of o.origin
 
+-- and how many storage units it has
+abbrev pub units_at : Code → Option Object → ℕ
+units_at code None = 0
+units_at code (Some o) = units_for code o.ty
+
 -- the frame of the object of a number comes over what waits
-abbrev pub freeing_of : ℕ → Freed → List T.Frame
-freeing_of n t = T.Freeing t.nulled n (storage_at (object_at n t.state.world)) (point_of t) ∷ t.state.control
+abbrev pub freeing_of : Code → ℕ → Freed → List T.Frame
+freeing_of code n t = let o = object_at n t.state.world in T.Freeing t.nulled n (storage_at o) (units_at code o) (point_of t) ∷ t.state.control
 
 -- before an object is freed
 pub record Frees (code : Code) (e : Engine) (nulled : Nulled) (t : Freed) : Type 0 where
@@ -69,7 +82,7 @@ pub record Frees (code : Code) (e : Engine) (nulled : Nulled) (t : Freed) : Type
   pub leads : Leads code (t.place + 1) stack
   pub before : Holds code (kept e) t.state.control t.state.operands t.state.world
   pub inside : Inside code (with_spots (kept e) (standing t.state.control t.operands)) stack t.state.control t.operands t.state.world
-  pub spots : (n : ℕ) → e.spots.items ≡ spots_in (freeing_of n t)
+  pub spots : (n : ℕ) → e.spots.items ≡ spots_in (freeing_of code n t)
 
 -- What becomes of an object ----------------------------------------------------------------------------
 
@@ -108,21 +121,77 @@ MayBe code (FateOf.Finalizes type) n owned = OwnsNone n owned × (parts_of code 
 -- this becomes of the object that a value designates, by the collection of an access type
 pub record IsFate (code : Code) (v : Var) (n : ℕ) (owned : List Owned) (s : State) (fate : Fate) : Type 0 where
   pub may : MayBe code fate n owned
-  pub moves : (place : ℕ) (nulled : T.Nulled) (pool : Option Var) (ops : List Word) → free_object code nulled (Some (record { collection = v; pool = pool })) (object_at n s.world) ops (here_of place s) ≡ by_fate code fate n (T.Freeing nulled n (storage_at (object_at n s.world)) (behind_declaration ops (here_of place s))) s.control s.world
+  pub moves : (place : ℕ) (nulled : T.Nulled) (pool : Option Var) (ops : List Word) → free_object code nulled (Some (record { collection = v; pool = pool })) (object_at n s.world) ops (here_of place s) ≡ by_fate code fate n (T.Freeing nulled n (storage_at (object_at n s.world)) (units_at code (object_at n s.world)) (behind_declaration ops (here_of place s))) s.control s.world
 
 -- The end ----------------------------------------------------------------------------------------------
 
--- how it goes on at a place where the finalization has ended so
-abbrev pub mode_freed : Ended → ℕ → Mode
-mode_freed EndedOf.Complete place = ModeOf.At place
-mode_freed _ place = ModeOf.Transfers (WayOf.Raise 1)
+-- the place where it goes on: this one, if a Finalize failed, or else the next one
+abbrev pub place_behind : Ended → ℕ → ℕ
+place_behind EndedOf.Complete place = place + 1
+place_behind _ place = place
+
+-- the user wrote this body as the Deallocate of the type of the pool that is this object, and it is called for the block of an address
+pub record IsDeallocation (code : Code) (objects : List Object) (call : Deallocation) (o : Object) (address body : ℕ) : Type 0 where
+  pub object : object_in call.pool objects ≡ Some o
+  pub number : o.number ≡ call.pool
+  pub address_is : call.address ≡ address
+  pub operation : operation_for (λ x. x.deallocate) code o.ty ≡ Some body
+  pub body_is : call.body ≡ body
 
 -- what a call answers by which storage was given back, where this comes of it in a world: the pools are shown then (13.11)
-abbrev pub IsGivenBack : ℕ → World → Stock → GivenBack → Option Stop → Type 0
-IsGivenBack next w stock (Returned v) answer = (answer ≡ None) × (x : W.Pools) × (v ≡ record w { pools = x }) × ShowsPools next x stock
-IsGivenBack next w stock (NotReturned stop) answer = (answer ≡ Some stop) × ShowsPools next w.pools stock
+abbrev pub IsGivenBack : Code → ℕ → World → Stock → Table.GivenBack → GivenBack → Type 0
+IsGivenBack code next w stock (Returned v) answer = (answer ≡ BackOf.Accepted) × (x : W.Pools) × (v ≡ record w { pools = x }) × ShowsPools next x stock
+IsGivenBack code next w stock (NotReturned stop) answer = (answer ≡ BackOf.Stops stop) × ShowsPools next w.pools stock
+IsGivenBack code next w stock (DeallocateOf o a f) answer = (call : Deallocation) × (answer ≡ BackOf.Calls call) × IsDeallocation code w.objects call o a f × ShowsPools next w.pools stock
 
--- and behind that
-abbrev pub mode_given_back : Option Stop → Ended → ℕ → Mode
-mode_given_back None ended place = mode_freed ended place
-mode_given_back (Some stop) ended place = ModeOf.Stopped stop
+-- an object that is gone: where its freeing goes on, what waits, and the world
+pub record Gone : Type 0 where
+  pub point : T.Point
+  pub control : List T.Frame
+  pub world : World
+
+-- where a frame frees an object: what designated it has become null, and it is gone
+abbrev pub gone_of : List T.Frame → World → Gone
+gone_of (T.Freeing (T.NullVariable out slot) n storage units p ∷ k) w = record { point = p; control = k; world = forget n (with_cell p.display out slot 0 w) }
+gone_of (T.Freeing (T.NullPart s) n storage units p ∷ k) w = record { point = p; control = k; world = forget n (write_cells s.object s.offset (0 ∷ []) w) }
+gone_of k w = record { point = record { display = []; place = 0; operands = [] }; control = k; world = w }
+
+-- it goes on at a place
+pub record GoesOnAt (code : Code) (e : Engine) (place : ℕ) (t : Gone) : Type 0 where
+  pub stack : List Kind
+  pub leads : Leads code place stack
+  pub inside : Inside code (kept e) stack t.control t.point.operands t.world
+  pub there : t.point.place ≡ place
+  pub seen : t.point.display ≡ first_display (heads_of t.world.activations)
+
+-- at a place, or at the next one
+pub record IsGone (code : Code) (e : Engine) (place : ℕ) (t : Gone) : Type 0 where
+  pub first : GoesOnAt code e place t
+  pub next : Leads code (place + 1) first.stack
+
+-- the Deallocate of a pool object is called, and goes on at a place, where an object is gone
+pub record Deallocates (code : Code) (e : Engine) (call : Deallocation) (units place : ℕ) (t : StorageCall) : Type 0 where
+  pub goes_on : GoesOnAt code e place (record { point = t.point; control = t.control; world = t.world })
+  pub is : IsDeallocation code e.stock.objects call t.object t.address t.body
+  pub units_are : units ≡ t.units
+  pub copies_none : t.copies ≡ 0
+
+-- the user wrote the Deallocate of the type of an object that exists
+abbrev pub has_deallocate : Code → Option Object → Bool
+has_deallocate code None = false
+has_deallocate code (Some o) = is_some (operation_for (λ x. x.deallocate) code o.ty)
+
+-- storage is given back by such a Deallocate: that of the pool in which the block lies
+abbrev pub calls_back : Code → Place → List Object → Bool
+calls_back code (PlaceOf.InBlock block) objects = has_deallocate code (object_in block.pool objects)
+calls_back code _ objects = false
+
+-- there is room for the call of it, whose window begins there
+abbrev pub HasReturnRoom : Code → Engine → Place → ℕ → Type 0
+HasReturnRoom code e place base = calls_back code place e.stock.objects ≡ true → HasRoom code e base
+
+-- how the freeing of an object goes on once it is gone: the window of a Deallocate begins behind the operands that stay, and there is room
+pub record IsEnding (code : Code) (e : Engine) (ending : Ending) : Type 0 where
+  pub base : ending.base ≡ first_window (reverse e.masters.items) + height (stack_at code.kinds ending.place)
+  pub place : ending.place + 1 < 2 ^ 64
+  pub room : HasReturnRoom code e ending.storage.place ending.base

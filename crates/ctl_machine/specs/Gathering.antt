@@ -6,15 +6,13 @@ use Rattle.ctl_meaning.specs.Changes.{new_object}
 use Rattle.ctl_meaning.specs.World.{Allocated, Place, World}
 use Rattle.ctl_code.specs.declared.code.Code.{Code}
 use Rattle.ctl_code.specs.States as T
-use Rattle.ctl_code.specs.States.{State}
-use Rattle.ctl_code.specs.Table.{behind_declaration, newborn, with_member}
+use Rattle.ctl_code.specs.Table.{newborn, with_member}
 use Rattle.ctl_objects.specs.Stock.{Stock}
 use Rattle.ctl_machine.specs.declared.frame.Master.{Master}
 use Rattle.ctl_machine.specs.declared.frame.Owned.{Owned}
 use Rattle.ctl_machine.specs.declared.frame.Role.TheVariants as RoleOf
 use Rattle.ctl_machine.specs.Declaring.{slot_cleared}
 use Rattle.ctl_machine.specs.Initializing.{Grown}
-use Rattle.ctl_machine.specs.Moves.{here_of}
 use Rattle.ctl_machine.specs.Shows.{Kept}
 
 -- the next collection, of a master, in its slot: a layer, with so many up to it, if there are any
@@ -31,13 +29,19 @@ with_set m slot count e = record e {
 
 -- Objects of collections ---------------------------------------------------------------------
 
--- an object that is allocated for a collection at a place, where the world had granted this, as a part that is created behind the frame of
--- its allocator
-abbrev pub member_at : Code → ℕ → ℕ → ℕ → Place → World → State → Grown
-member_at code at set t place granted s = record {
-  new = newborn granted.ledger.next_object t (OwnerOf.Collection set);
-  control = T.Creating T.ByAllocator granted.ledger.next_object t (behind_declaration s.operands (here_of at s)) ∷ s.control;
-  world = with_member code set t place granted;
+-- an object that is allocated: its place, what waits, where its allocator goes on, and the world in which storage was granted
+pub record Member : Type 0 where
+  pub place : Place
+  pub control : List T.Frame
+  pub point : T.Point
+  pub granted : World
+
+-- as a part that is created behind the frame of its allocator, for a collection
+abbrev pub member_at : Code → ℕ → ℕ → Member → Grown
+member_at code set t m = record {
+  new = newborn m.granted.ledger.next_object t (OwnerOf.Collection set);
+  control = T.Creating T.ByAllocator m.granted.ledger.next_object t m.point ∷ m.control;
+  world = with_member code set t m.place m.granted;
 }
 
 -- with it, which has these cells, and all pools as this stock has them

@@ -37,3 +37,5 @@ pub mod Copying
 pub mod Needs
 pub mod LeftPools
 pub mod Closing
+pub mod StorageCalling
+pub mod PoolBlocks

@@ -5,7 +5,8 @@ ghost use Rattle.std.specs.Option.{option_map};
 ghost use Rattle.ctl_meaning.specs.Activations.{master_of};
 ghost use Rattle.ctl_meaning.specs.Allocation.{set_in};
 ghost use Rattle.ctl_meaning.specs.Changes.{slot_at};
-ghost use Rattle.ctl_meaning.specs.Objects.{is_untouched};
+ghost use Rattle.ctl_meaning.specs.Objects.{is_untouched, object_in};
+ghost use Rattle.ctl_meaning.specs.World.{Object};
 ghost use Rattle.ctl_storage.specs.Stages.{state_of};
 ghost use Rattle.ctl_program.specs.declared.types.Ty.{Ty};
 ghost use Rattle.ctl_program.specs.declared.types.Var.{Var};
@@ -19,8 +20,8 @@ ghost use Rattle.ctl_machine.specs.Allocating.{MayJoin};
 ghost use Rattle.ctl_machine.specs.Copying.{IsMember, Refuses, Takes, point_at};
 ghost use Rattle.ctl_machine.specs.declared.frame.Frame.{Frame};
 ghost use Rattle.ctl_machine.specs.declared.frame.Frame.TheVariants as FrameOf;
-ghost use Rattle.ctl_machine.specs.Gathering.{with_set};
-ghost use Rattle.ctl_machine.specs.Granting.{storage_seen};
+ghost use Rattle.ctl_machine.specs.Gathering.{Member, with_set};
+ghost use Rattle.ctl_machine.specs.Granting.{IsAdded, storage_seen, with_numbers};
 ghost use Rattle.ctl_machine.specs.Moves.{Before, BeforeResuming, GoesOn, Makes, here_of};
 ghost use Rattle.ctl_machine.specs.Shows as Shows;
 ghost use Rattle.ctl_machine.specs.Masters.{first_display, heads_of};
@@ -28,17 +29,26 @@ ghost use Rattle.ctl_machine.specs.Owned.{collection_of};
 ghost use Rattle.ctl_machine.specs.Shows.{Holds, kept};
 
 use crate::engine::Engine;
-use crate::frame::{Ended, Frame, Master, Mode, Owned, Role};
+use crate::frame::{After, Ended, Frame, Master, Mode, Owned, Role};
+use crate::granting::{Grantor, units_of};
 use crate::holders::{find_set, held_set};
 use crate::layers::PROGRAM_ERROR;
 use crate::parts::parts_of;
+use crate::pool_blocks::is_open;
 use crate::spots::Spot;
+use crate::storage_calls::StorageActuals;
 use ctl_code::code::{Code, Parts, Way};
-use ctl_objects::{Life, Origin, Stage};
+use ctl_objects::{Life, Origin, Placing, Spot as BlockSpot, Stage};
 use ctl_program::types::Var;
 use ctl_tree::ending::Stop;
-use ctl_tree::event::Owner;
+use ctl_tree::event::{Event, Owner};
 use std::alloc::AllocError;
+
+/// The number of Constraint_Error in each table of exceptions (RM 11.1).
+const CONSTRAINT_ERROR: usize = 0;
+
+/// Storage_Count'Last (RM 13.7.1).
+const STORAGE_COUNT_LAST: u64 = 2147483647;
 
 /// Tells whether an object at this stage is a new one: its finalization has not begun, and it has not joined its collection (RM 4.8).
 fn is_new(stage: Stage) -> bool
@@ -170,9 +180,97 @@ impl Engine {
         Ok(set.number)
     }
 
+    /// Lets the object of a record type that was allocated last, for the collection of this number, begin, for which there is room: its
+    /// components are to begin (RM 4.8, 7.6). Its allocator goes on at this place.
+    fn begin_member(&mut self, code: &Code, set: u64, record: usize, place: usize)
+        ghost t: { Member }
+        requires added { IsAdded code.now self.old set «record» place t }
+        requires control { vec_len self.old.control + 2 ≤ vec_capacity self.old.control }
+        requires spots { vec_len self.old.spots < vec_capacity self.old.spots }
+        ensures makes { Makes code.now self.old self.new (Table.member_begins code.now «record» set t.place t.point t.control t.granted) }
+    {
+        let object = self.numbered.objects;
+        self.control
+            .push_reserved(Frame::Allocating { object, place });
+        let whole = Spot::whole(self.alloc, object);
+        self.begin_part(code, whole, record, Owner::Collection(set));
+    }
+
+    /// Puts the numbers of a collection and of a pool into two cells, the lower one first.
+    fn put_numbers(&mut self, cell: usize, set: u64, pool: u64)
+        requires { cell + 1 < length self.old.cells.items }
+        ensures goes { GoesOn self.old self.new self.old.mode (with_numbers cell set pool self.old.cells.items) }
+        ensures given { self.new.given_masters ≡ self.old.given_masters }
+        ensures masters { self.new.masters ≡ self.old.masters }
+        ensures control { self.new.control ≡ self.old.control }
+        ensures events { self.new.events ≡ self.old.events }
+        ensures formals { self.new.formals ≡ self.old.formals }
+    {
+        self.cells[cell] = set;
+        self.cells[cell + 1] = pool;
+    }
+
+    /// Calls the Allocate that the user wrote for the type of the pool of this number, for an object of a record type (RM 13.11): it leads to
+    /// the next instruction, over the numbers of the collection and of the pool. A size beyond Storage_Count'Last is Constraint_Error in
+    /// place of the call. Unchanged where memory is refused.
+    fn call_allocate(
+        &mut self,
+        code: &Code,
+        set: u64,
+        record: usize,
+        pool: u64,
+        allocate: usize,
+        place: usize,
+    ) -> Result<(), AllocError>
+        ghost s: { State × Object × ℕ }
+        requires valid { IsValid code.now }
+        requires before { (access : ℕ) × (ty : Ty) × (at : ℕ) × Before code.now self.old place (InstrOf.New access «record» ty at) s.0 }
+        requires set { s.2 ≡ set }
+        requires pool { object_in pool self.old.stock.objects ≡ Some s.1 }
+        requires operation { Table.operation_for (λ x. x.allocate) code.now s.1.ty ≡ Some allocate }
+        requires place { place + 1 < 2 ^ 64 }
+        requires masters { self.old.given_masters + 1 < 2 ^ 64 }
+        ensures ok { OnOk result (Makes code.now self.old self.new (Table.call_allocate code.now (Table.units_of code.now «record») set s.1 allocate s.0.operands (here_of place s.0))) }
+        ensures err { OnErr result (GoesOn self.old self.new self.old.mode self.old.cells.items) }
+    {
+        let units = units_of(code, record) as u64;
+        if units > STORAGE_COUNT_LAST {
+            self.go_on(Mode::Transfers(Way::Raise(CONSTRAINT_ERROR)));
+            return Ok(());
+        }
+        let Some(master) = self.master_of(pool) else {
+            self.go_on(Mode::Stopped(Stop::UseAfterFree));
+            return Ok(());
+        };
+        let first = self.window() + code.kinds.height_at(place, 0);
+        let base = first + 2;
+        self.prepare(base, code.room, 1)?;
+        self.put_numbers(first, set, pool);
+        let actuals = StorageActuals {
+            pool,
+            address: 0,
+            units,
+        };
+        let after = After::Procedure {
+            place: place + 1,
+            copies: 2,
+        };
+        let event = Event::Allocate(pool, units);
+        self.call_storage(
+            code,
+            &code.entries[allocate],
+            master,
+            base,
+            event,
+            actuals,
+            after,
+        );
+        Ok(())
+    }
+
     /// Allocates an object of a record type for the collection of this number, with storage of the pool of an access type (RM 4.8, 13.11): it
-    /// is created, and its components are to begin (RM 7.6). Where there is no storage, Storage_Error is raised, or the program is erroneous
-    /// (RM 13.11.2). Unchanged where memory is refused.
+    /// is created, and its components are to begin (RM 7.6); or the Allocate is called that the user wrote for the type of the pool. Where
+    /// there is no storage, Storage_Error is raised, or the program is erroneous (RM 13.11.2). Unchanged where memory is refused.
     fn create_member(
         &mut self,
         code: &Code,
@@ -181,33 +279,33 @@ impl Engine {
         record: usize,
         place: usize,
     ) -> Result<(), AllocError>
-        ghost s: { State × Grant }
+        ghost s: { State × (ℕ → Grant) }
         requires valid { IsValid code.now }
         requires before { (ty : Ty) × (at : ℕ) × Before code.now self.old place (InstrOf.New access «record» ty at) s.0 }
-        requires storage { s.1 ≡ storage_seen code.now access «record» s.0 }
-        requires place { place + 1 < 2 ^ 64 }
+        requires storage { s.1 ≡ storage_seen code.now access s.0 }
+        requires place { place + 1 + 1 < 2 ^ 64 }
         requires objects { self.old.numbered.objects + 1 < 2 ^ 64 }
-        ensures ok { OnOk result (Makes code.now self.old self.new (Table.new_at code.now «record» set s.1 s.0.operands (here_of place s.0))) }
+        requires masters { self.old.given_masters + 1 < 2 ^ 64 }
+        ensures ok { OnOk result (Makes code.now self.old self.new (Table.new_at code.now «record» set (s.1 (Table.units_of code.now «record»)) s.0.operands (here_of place s.0))) }
         ensures err { OnErr result (GoesOn self.old self.new self.old.mode self.old.cells.items) }
     {
-        if let Some(refused) = self.add_member(code, access, set, record)? {
+        let grantor = self.grantor(code, access);
+        if let Grantor::User { pool, allocate } = grantor {
+            return self.call_allocate(code, set, record, pool, allocate, place);
+        }
+        if let Some(refused) = self.add_member(code, grantor, set, record)? {
             self.go_on(refused);
             return Ok(());
         }
-        let object = self.numbered.objects;
-        self.control.push_reserved(Frame::Allocating {
-            object,
-            place: place + 1,
-        });
-        let whole = Spot::whole(self.alloc, object);
-        self.begin_part(code, whole, record, Owner::Collection(set));
+        self.begin_member(code, set, record, place + 2);
         Ok(())
     }
 
     /// Allocates an object of a record type without a value for the collection of an access type (RM 4.8): it is created, and its components
-    /// are to begin (RM 7.6). Where the finalization of the collection has started, an object with a controlled part is not: Program_Error
-    /// is raised; and Storage_Error where the storage pool of the access type is exhausted (RM 13.11). Where the collection or the pool is
-    /// gone, the program is erroneous (RM 13.11.2). Unchanged where memory is refused.
+    /// are to begin (RM 7.6); or the Allocate is called that the user wrote for the type of its storage pool (RM 13.11). Where the
+    /// finalization of the collection has started, an object with a controlled part is not: Program_Error is raised; and Storage_Error where
+    /// the storage pool of the access type is exhausted (RM 13.11). Where the collection or the pool is gone, the program is erroneous
+    /// (RM 13.11.2). Unchanged where memory is refused.
     pub(crate) fn allocate(
         &mut self,
         code: &Code,
@@ -218,8 +316,9 @@ impl Engine {
         ghost s: { State × Ty × ℕ }
         requires valid { IsValid code.now }
         requires before { Before code.now self.old place (InstrOf.New access «record» s.1 s.2) s.0 }
-        requires place { place + 1 < 2 ^ 64 }
+        requires place { place + 1 + 1 < 2 ^ 64 }
         requires objects { self.old.numbered.objects + 1 < 2 ^ 64 }
+        requires masters { self.old.given_masters + 1 < 2 ^ 64 }
         ensures ok { OnOk result (Makes code.now self.old self.new (Table.by_instr code.now (Some (InstrOf.New access «record» s.1 s.2)) s.0.operands (here_of place s.0))) }
         ensures err { OnErr result (GoesOn self.old self.new self.old.mode self.old.cells.items) }
     {
@@ -230,6 +329,39 @@ impl Engine {
                 Ok(())
             }
         }
+    }
+
+    /// Allocates an object of a record type without a value for the collection of this number at an address of a pool, if a block of it is out
+    /// there that holds no object and is large enough (RM 13.11); else the program is erroneous (RM 13.11.2). Unchanged where memory is
+    /// refused.
+    pub(crate) fn allocate_at_address(
+        &mut self,
+        code: &Code,
+        record: usize,
+        place: usize,
+    ) -> Result<(), AllocError>
+        ghost s: { State × Ty × ℕ }
+        requires valid { IsValid code.now }
+        requires before { Before code.now self.old place (InstrOf.NewIn «record» s.1 s.2) s.0 }
+        requires place { place + 1 < 2 ^ 64 }
+        requires objects { self.old.numbered.objects + 1 < 2 ^ 64 }
+        ensures ok { OnOk result (Makes code.now self.old self.new (Table.by_instr code.now (Some (InstrOf.NewIn «record» s.1 s.2)) s.0.operands (here_of place s.0))) }
+        ensures err { OnErr result (GoesOn self.old self.new self.old.mode self.old.cells.items) }
+    {
+        let first = self.window() + code.kinds.height_at(place, 4);
+        let set = self.cells[first];
+        let pool = self.cells[first + 1];
+        let address = self.cells[first + 3];
+        if !is_open(&self.stock, pool) {
+            self.go_on(Mode::Stopped(Stop::UseAfterFree));
+            return Ok(());
+        }
+        let block = BlockSpot { pool, address };
+        match self.add_at_address(code, set, record, block)? {
+            Placing::Placed => self.begin_member(code, set, record, place + 1),
+            Placing::Refused => self.go_on(Mode::Stopped(Stop::BadAddress)),
+        }
+        Ok(())
     }
 
     /// Tells whether the object of this number may join its collection: it exists and is a new one, and the collection still stands

@@ -55,8 +55,8 @@ impl Engine {
 
     /// Allocates an object of a record type for the collection of this number, with storage of the pool of an access type and the value of the
     /// part that is the newest operand, of an object that is there (RM 4.8, 13.11): it is created and takes the value, and is to be adjusted
-    /// (RM 7.6). Where there is no storage, Storage_Error is raised, or the program is erroneous (RM 13.11.2). Unchanged where memory is
-    /// refused.
+    /// (RM 7.6). Where there is no storage, Storage_Error is raised, or the program is erroneous (RM 13.11.2); no program that is run comes here with
+    /// an Allocate of the user's. Unchanged where memory is refused.
     fn copy_member(
         &mut self,
         code: &Code,
@@ -65,21 +65,22 @@ impl Engine {
         record: usize,
         place: usize,
     ) -> Result<(), AllocError>
-        ghost s: { State × Object × Grant }
+        ghost s: { State × Object × (ℕ → Grant) }
         requires valid { IsValid code.now }
         requires before { (ty : Ty) × (at : ℕ) × Before code.now self.old place (InstrOf.NewCopy access «record» ty at) s.0 }
         requires source { object_at (first_spot s.0.operands).object s.0.world ≡ Some s.1 }
-        requires storage { s.2 ≡ storage_seen code.now access «record» s.0 }
+        requires storage { s.2 ≡ storage_seen code.now access s.0 }
         requires place { place + 1 < 2 ^ 64 }
         requires objects { self.old.numbered.objects + 1 < 2 ^ 64 }
-        ensures ok { OnOk result (Makes code.now self.old self.new (Table.copy_at code.now «record» (cells_at (first_spot s.0.operands).offset (Table.size_of code.now «record») s.1) set s.2 (drop 1 s.0.operands) (here_of place s.0))) }
+        ensures ok { OnOk result (Makes code.now self.old self.new (Table.copy_at code.now «record» (cells_at (first_spot s.0.operands).offset (Table.size_of code.now «record») s.1) set (s.2 (Table.units_of code.now «record»)) (drop 1 s.0.operands) (here_of place s.0))) }
         ensures err { OnErr result (GoesOn self.old self.new self.old.mode self.old.cells.items) }
     {
         let newest = self.count_spots() - 1;
         let spot = &self.spots[newest];
         let start = spot.offset();
         let source = spot.object();
-        if let Some(refused) = self.add_member(code, access, set, record)? {
+        let grantor = self.grantor(code, access);
+        if let Some(refused) = self.add_member(code, grantor, set, record)? {
             self.go_on(refused);
             return Ok(());
         }

@@ -73,6 +73,13 @@ pub enum Nulled {
     Part,
 }
 
+/// Where the storage of an object lies, and how many storage units it has (RM 13.11).
+#[derive(Clone, Copy)]
+pub struct Storage {
+    pub place: Place,
+    pub units: usize,
+}
+
 /// What a declaration declares: an object, or a block pool, which closes where its creation fails (RM 3.3.1, 13.11).
 #[derive(Clone, Copy)]
 pub enum Declared {
@@ -180,12 +187,12 @@ pub enum Frame {
         last: u64,
         failed: bool,
     },
-    /// the finalization of the object of this number, which is freed, what becomes null, where its storage lies, and the place where that
-    /// goes on (RM 13.11.2)
+    /// the finalization of the object of this number, which is freed, what becomes null, its storage, and the place where that goes on, if a
+    /// Finalize failed, or else the next one (RM 13.11.2)
     Freeing {
         object: u64,
         nulled: Nulled,
-        storage: Place,
+        storage: Storage,
         place: usize,
     },
     /// the finalization of the object of this number, for this cause

@@ -1,19 +1,23 @@
 //! Objects are freed (RM 13.11.2): one that is still to be finalized is finalized, what designated it becomes null, it is gone, and its storage
 //! is given back.
 
-ghost use Rattle.std.specs.Prelude.{◌≡◌, ◌+◌, ◌-◌, ◌^◌, ◌<◌, ◌≤◌, ◌∷◌, ◌&&◌, List, ℕ, IfOk, OnErr, OnOk, Some, drop, length, reverse, slice_get, vec_capacity, vec_len};
-ghost use Rattle.ctl_meaning.specs.Changes.{object_at};
+ghost use Rattle.std.specs.Prelude.{◌≡◌, ◌+◌, ◌-◌, ◌^◌, ◌<◌, ◌≤◌, ◌∷◌, ◌++◌, ◌&&◌, [], List, ℕ, IfOk, OnErr, OnOk, Some, drop, is_some, length, reverse, slice_get, true, vec_capacity, vec_len};
+ghost use Rattle.ctl_tree.specs.declared.event.Event.TheVariants as EventOf;
+ghost use Rattle.ctl_meaning.specs.Changes.{home_of, object_at};
 ghost use Rattle.ctl_meaning.specs.Finalization as S;
-ghost use Rattle.ctl_meaning.specs.Objects.{is_untouched};
+ghost use Rattle.ctl_meaning.specs.Objects.{is_untouched, object_in};
+ghost use Rattle.ctl_meaning.specs.Pools.{block_pool_at};
+ghost use Rattle.ctl_meaning.specs.Storage.{storage_actuals};
 ghost use Rattle.ctl_meaning.specs.World.{World};
 ghost use Rattle.ctl_objects.specs.Existing.{origin_of};
 ghost use Rattle.ctl_objects.specs.Pools.{ShowsPools};
 ghost use Rattle.ctl_storage.specs.Allocated.{place_of};
 ghost use Rattle.ctl_storage.specs.Stages.{state_of};
 ghost use Rattle.ctl_code.specs.declared.code.AccessHome.{AccessHome};
+ghost use Rattle.ctl_code.specs.declared.code.Code as CodeOf;
 ghost use Rattle.ctl_code.specs.declared.code.Instr.TheVariants as InstrOf;
 ghost use Rattle.ctl_code.specs.Table as Table;
-ghost use Rattle.ctl_code.specs.States.{Giving, NullPart, State, whole_spot};
+ghost use Rattle.ctl_code.specs.States.{AfterProcedure, Giving, NullPart, State, whole_spot};
 ghost use Rattle.ctl_code.specs.Valid.{IsValid};
 ghost use Rattle.ctl_machine.specs.declared.frame.Frame.{Frame};
 ghost use Rattle.ctl_machine.specs.declared.frame.Frame.TheVariants as FrameOf;
@@ -21,25 +25,27 @@ ghost use Rattle.ctl_machine.specs.declared.frame.Nulled.TheVariants as NulledOf
 ghost use Rattle.ctl_machine.specs.Assigning.{HasRoom};
 ghost use Rattle.ctl_machine.specs.Finishing.{AreDoubles};
 ghost use Rattle.ctl_machine.specs.Freeing as Freeing;
-ghost use Rattle.ctl_machine.specs.Freeing.{Freed, Frees, IsFate, IsGivenBack, storage_at};
+ghost use Rattle.ctl_machine.specs.Freeing.{Freed, Frees, Deallocates, Gone, HasReturnRoom, IsEnding, IsFate, IsGivenBack, IsGone, storage_at, units_at};
 ghost use Rattle.ctl_machine.specs.Masters.{heads_of};
 ghost use Rattle.ctl_machine.specs.Moves.{Before, BeforeResuming, GoesOn, Makes, here_of};
 ghost use Rattle.ctl_machine.specs.Shows as Shows;
-ghost use Rattle.ctl_machine.specs.Shows.{Holds, kept};
+ghost use Rattle.ctl_machine.specs.Shows.{Holds, IsStored, kept};
 ghost use Rattle.ctl_machine.specs.Spots.{first_spot};
+ghost use Rattle.ctl_machine.specs.StorageCalling.{StorageCall};
 ghost use Rattle.ctl_machine.specs.Under.{tall};
 
 use crate::engine::Engine;
 use crate::finalizing::{Doubles, Finalization, doubled};
-use crate::frame::{Ended, Frame, Mode, Nulled};
-use crate::layers::PROGRAM_ERROR;
+use crate::frame::{After, Ended, Frame, Mode, Nulled, Storage};
+use crate::granting::units_of;
 use crate::parts::{offset_of, parts_of};
 use crate::spots::Spot;
-use ctl_code::code::{Code, Parts, Way};
+use crate::storage_calls::StorageActuals;
+use ctl_code::code::{Code, Parts};
 use ctl_objects::{BlockReturn, Existing, Life, Objects, Origin, Place, PoolState};
 use ctl_program::types::{Ty, Var};
 use ctl_tree::ending::Stop;
-use ctl_tree::event::Cause;
+use ctl_tree::event::{Cause, Event};
 use std::alloc::AllocError;
 
 /// What becomes of an object that is to be freed.
@@ -53,11 +59,11 @@ pub enum Fate {
     Finalizes(usize),
 }
 
-/// What was found of an object that is to be freed: what becomes of it, and where its storage lies (RM 13.11).
+/// What was found of an object that is to be freed: what becomes of it, and its storage (RM 13.11).
 #[derive(Clone, Copy)]
 pub struct Found {
     pub fate: Fate,
-    pub storage: Place,
+    pub storage: Storage,
 }
 
 /// An object that is freed: its number, what becomes null, the place of the instruction, and the cell where the window of a body begins that
@@ -69,6 +75,39 @@ pub struct Release {
     pub place: usize,
     pub base: usize,
 }
+
+/// How the freeing of an object goes on once it is gone: how its finalization ended, its storage, the place where that goes on if a Finalize
+/// failed, or else the next one, and the cell where the window of a Deallocate begins (RM 13.11.2).
+#[derive(Clone, Copy)]
+pub struct Ending {
+    pub ended: Ended,
+    pub storage: Storage,
+    pub place: usize,
+    pub base: usize,
+}
+
+/// The Deallocate that the user wrote for the type of a pool: the number of the pool object, the address of the block that is given back, and
+/// the number of the body (RM 13.11).
+#[derive(Clone, Copy)]
+pub struct Deallocation {
+    pub pool: u64,
+    pub address: u64,
+    pub body: usize,
+}
+
+/// What comes of storage that is given back (RM 13.11.2).
+#[derive(Clone, Copy)]
+pub enum GivenBack {
+    /// it is taken back, or it is the host's
+    Accepted,
+    /// it stays, and the program is erroneous
+    Stops(Stop),
+    /// the Deallocate of its pool is called
+    Calls(Deallocation),
+}
+
+/// How many storage units an object of an elementary type takes (RM 13.3).
+const SCALAR_UNITS: usize = 8;
 
 /// Tells whether an object of a record type is still to be finalized: it has joined its collection, its finalization has not begun, and some
 /// part of it is controlled (RM 7.6.1).
@@ -120,71 +159,118 @@ fn storage_of(origin: Origin) -> Place
     }
 }
 
-/// Gives back the storage of an object that is gone (RM 13.11.2): a block goes back to its pool. Where the pool is gone or has closed, or the
-/// block is not out, or holds an object, the program is erroneous, and nothing changes.
-fn give_back(stock: &mut Objects, storage: Place) -> Option<Stop>
-    ensures objects { stock.new.objects ≡ stock.old.objects }
-    ensures needs { stock.new.needs ≡ stock.old.needs }
-    ensures back { (next : ℕ) (w : World) → w.objects ≡ stock.old.objects → ShowsPools next w.pools stock.old → IsGivenBack next w stock.new (Table.return_to (place_of storage) w) result }
+/// Answers how many storage units an object of a type takes (RM 13.3).
+fn units_for(code: &Code, ty: Ty) -> usize
+    ensures { result ≡ Table.units_for code.now ty }
 {
-    let Place::InBlock(block) = storage else {
+    match ty {
+        Ty::Record(record) => units_of(code, record),
+        _ => SCALAR_UNITS,
+    }
+}
+
+/// Answers the number of the body that the user wrote for the Deallocate of a type, if there is one (RM 13.11).
+fn deallocate_of(code: &Code, ty: Ty) -> Option<usize>
+    ensures { result ≡ Table.operation_for (λ x. x.deallocate) code.now ty }
+{
+    let Ty::Record(record) = ty else {
         return None;
     };
-    if !stock.exists(block.pool) {
-        return Some(Stop::UseAfterFree);
-    }
-    let Some(pool) = stock.pool(block.pool) else {
-        return Some(Stop::UseAfterFree);
+    code.records.as_slice().get(record)?.deallocate
+}
+
+/// Gives a block back to its pool by the library's Deallocate (RM 13.11); the object of the pool exists. Where the pool has closed, or the
+/// block is not out, or holds an object, the program is erroneous, and nothing changes (RM 13.11.2).
+fn give_to_pool(stock: &mut Objects, number: u64, address: u64) -> GivenBack
+    requires exists { is_some (object_in number stock.old.objects) ≡ true }
+    ensures objects { stock.new.objects ≡ stock.old.objects }
+    ensures needs { stock.new.needs ≡ stock.old.needs }
+    ensures back { (code : CodeOf.Code) (next : ℕ) (w : World) → w.objects ≡ stock.old.objects → ShowsPools next w.pools stock.old → IsGivenBack code next w stock.new (Table.pool_return number address (block_pool_at number w.pools) w) result }
+{
+    let Some(pool) = stock.pool(number) else {
+        return GivenBack::Stops(Stop::UseAfterFree);
     };
     if let PoolState::Closed = pool.state {
-        return Some(Stop::UseAfterFree);
+        return GivenBack::Stops(Stop::UseAfterFree);
     }
-    match stock.give_block(block.pool, block.address) {
-        BlockReturn::Accepted => None,
-        BlockReturn::Refused => Some(Stop::BadAddress),
+    match stock.give_block(number, address) {
+        BlockReturn::Accepted => GivenBack::Accepted,
+        BlockReturn::Refused => GivenBack::Stops(Stop::BadAddress),
     }
 }
 
-/// Answers how it goes on at a place where an object is freed whose finalization has ended so, once its storage was given back: it stops where
-/// the program is erroneous.
-fn mode_given_back(given: Option<Stop>, ended: Ended, place: usize) -> Mode
-    ensures { result ≡ Freeing.mode_given_back given ended place }
+/// Gives back the storage of an object that is gone (RM 13.11.2): a block goes back to its pool, by the Deallocate that the user wrote for
+/// its type, which is still to be called, or by the library's. Where the pool is gone, the program is erroneous, and nothing changes.
+fn give_back(code: &Code, stock: &mut Objects, storage: Place) -> GivenBack
+    ensures objects { stock.new.objects ≡ stock.old.objects }
+    ensures needs { stock.new.needs ≡ stock.old.needs }
+    ensures back { (next : ℕ) (w : World) → w.objects ≡ stock.old.objects → ShowsPools next w.pools stock.old → IsGivenBack code.now next w stock.new (Table.return_to code.now (place_of storage) w) result }
 {
-    match given {
-        Some(stop) => Mode::Stopped(stop),
-        None => mode_freed(ended, place),
+    let Place::InBlock(block) = storage else {
+        return GivenBack::Accepted;
+    };
+    let Some(pool) = stock.find(block.pool) else {
+        return GivenBack::Stops(Stop::UseAfterFree);
+    };
+    match deallocate_of(code, pool.ty) {
+        Some(body) => GivenBack::Calls(Deallocation {
+            pool: block.pool,
+            address: block.address,
+            body,
+        }),
+        None => give_to_pool(stock, block.pool, block.address),
     }
 }
 
-/// Answers how it goes on at a place where an object is freed whose finalization has ended so: where a Finalize failed, by Program_Error
-/// (RM 13.11.2).
-fn mode_freed(ended: Ended, place: usize) -> Mode
-    ensures { result ≡ Freeing.mode_freed ended place }
+/// Tells whether storage is given back by a Deallocate that the user wrote: that of the pool in which the block lies (RM 13.11).
+fn calls_back(code: &Code, stock: &Objects, storage: Place) -> bool
+    ensures { result ≡ Freeing.calls_back code.now storage stock.now.objects }
+{
+    let Place::InBlock(block) = storage else {
+        return false;
+    };
+    match stock.find(block.pool) {
+        Some(pool) => deallocate_of(code, pool.ty).is_some(),
+        None => false,
+    }
+}
+
+/// Answers the place where it goes on behind the freeing of an object whose finalization has ended so: at this place, where Program_Error is
+/// raised, if a Finalize failed, or else at the next one (RM 13.11.2).
+fn place_behind(ended: Ended, place: usize) -> usize
+    requires { place + 1 < 2 ^ 64 }
+    ensures { result ≡ Freeing.place_behind ended place }
 {
     match ended {
-        Ended::Complete => Mode::At(place),
-        _ => Mode::Transfers(Way::Raise(PROGRAM_ERROR)),
+        Ended::Complete => place + 1,
+        _ => place,
     }
 }
 
 impl Engine {
-    /// Answers what becomes of the object of this number, by the access type from whose collection it is to be freed (RM 13.11.2), and where
-    /// its storage lies.
+    /// Answers what becomes of the object of this number, by the access type from whose collection it is to be freed (RM 13.11.2), and its
+    /// storage.
     fn fate(&self, code: &Code, access: &Var, object: u64) -> Found
         ghost s: { State }
         requires holds { Holds code.now (kept self.now) s.control s.operands s.world }
         requires level { 1 ≤ access.now.level }
         ensures fate { IsFate code.now access.now object self.now.owned.items s result.fate }
-        ensures storage { storage_at (object_at object s.world) ≡ place_of result.storage }
+        ensures storage { IsStored result.storage (storage_at (object_at object s.world)) (units_at code.now (object_at object s.world)) }
     {
         match self.stock.find(object) {
             Some(existing) => Found {
                 fate: fate_of(code, self.set_held(code, access), &existing),
-                storage: storage_of(existing.origin),
+                storage: Storage {
+                    place: storage_of(existing.origin),
+                    units: units_for(code, existing.ty),
+                },
             },
             None => Found {
                 fate: Fate::Stops(Stop::UseAfterFree),
-                storage: Place::Standard,
+                storage: Storage {
+                    place: Place::Standard,
+                    units: 0,
+                },
             },
         }
     }
@@ -247,7 +333,7 @@ impl Engine {
     {
         let object = self.read_variable(code, out, slot);
         if object == 0 {
-            self.go_on(Mode::At(place + 1));
+            self.go_on(Mode::At(place + 2));
             return Ok(());
         }
         let base = self.window() + code.kinds.height_at(place + 1, 0);
@@ -338,45 +424,97 @@ impl Engine {
         };
         if object == 0 {
             let _ = self.spots.take_last();
-            self.mode = Mode::At(place + 1);
+            self.mode = Mode::At(place + 2);
             return Ok(());
         }
         self.free_designated(code, access, object, offset, position, place)
     }
 
-    /// Ends the freeing of an object by a variable, behind its finalization, which has ended so: the variable becomes null, the object is
-    /// gone, and its storage is given back (RM 13.11.2).
-    fn end_in_variable(
-        &mut self,
-        code: &Code,
-        ended: Ended,
-        object: u64,
-        out: usize,
-        slot: usize,
-        storage: Place,
-        place: usize,
-    )
-        ghost s: { State }
-        requires before { BeforeResuming code.now self.old s }
-        requires top { (fs : List Frame) × (reverse self.old.control.items ≡ FrameOf.Freeing object (NulledOf.Variable out slot) storage place ∷ fs) }
-        ensures { Makes code.now self.old self.new (Table.act code.now (Giving (Shows.tried_of ended)) s.control s.operands s.world 0) }
+    /// Makes room for the call of the Deallocate that the user wrote for the pool in which storage lies, if there is one, whose window begins
+    /// with this cell (RM 13.11); nothing else changes.
+    fn prepare_return(&mut self, code: &Code, storage: Place, base: usize) -> Result<(), AllocError>
+        requires number { self.old.given_masters + 1 < 2 ^ 64 }
+        ensures ok { OnOk result ((more : List ℕ) × GoesOn self.old self.new self.old.mode (self.old.cells.items ++ more)) }
+        ensures err { OnErr result (GoesOn self.old self.new self.old.mode self.old.cells.items) }
+        ensures room { OnOk result (HasReturnRoom code.now self.new storage base) }
     {
-        self.give(code, out, slot, 0, place);
-        let _ = self.control.take_last();
-        self.stock.forget(object);
-        let given = give_back(&mut self.stock, storage);
-        self.mode = mode_given_back(given, ended, place);
+        if !calls_back(code, &self.stock, storage) {
+            return Ok(());
+        }
+        self.prepare(base, code.room, 1)
     }
 
-    /// Ends the freeing of an object by a component, behind its finalization, which has ended so: the component becomes null, the object is
-    /// gone, and its storage is given back. Where the object of the component is gone, the program is erroneous (RM 13.11.2).
-    fn end_in_part(&mut self, code: &Code, ended: Ended, object: u64, storage: Place, place: usize)
-        ghost s: { State }
-        requires before { BeforeResuming code.now self.old s }
-        requires top { (fs : List Frame) × (reverse self.old.control.items ≡ FrameOf.Freeing object NulledOf.Part storage place ∷ fs) }
-        ensures { Makes code.now self.old self.new (Table.act code.now (Giving (Shows.tried_of ended)) s.control s.operands s.world 0) }
+    /// Calls the Deallocate that the user wrote for the type of a pool, for a block of so many storage units (RM 13.11); the call goes on at
+    /// this place, and the window of the body begins with this cell. There is room.
+    fn deallocate(&mut self, code: &Code, call: Deallocation, units: u64, place: usize, base: usize)
+        ghost t: { StorageCall }
+        requires valid { IsValid code.now }
+        requires deallocates { Deallocates code.now self.old call units place t }
+        requires base { base ≡ tall t.control (heads_of t.world.activations) + length t.point.operands }
+        requires room { HasRoom code.now self.old base }
+        ensures { Makes code.now self.old self.new (Table.enter_body (slice_get code.now.entries.items t.body) (EventOf.Deallocate t.object.number t.units ∷ []) (home_of t.object.origin t.world) (storage_actuals t.object.number t.address t.units) (AfterProcedure 0 t.point) t.control t.world) }
     {
-        let _ = code;
+        let Some(master) = self.master_of(call.pool) else {
+            unreachable!();
+        };
+        let event = Event::Deallocate(call.pool, units);
+        let actuals = StorageActuals {
+            pool: call.pool,
+            address: call.address,
+            units,
+        };
+        let after = After::Procedure { place, copies: 0 };
+        let entry = code.entries[call.body];
+        self.call_storage(code, &entry, master, base, event, actuals, after);
+    }
+
+    /// Gives back the storage of an object that is gone, and goes on behind its freeing (RM 13.11.2); there is room for the call of a
+    /// Deallocate.
+    fn return_storage(&mut self, code: &Code, ending: Ending)
+        ghost t: { Gone }
+        requires valid { IsValid code.now }
+        requires gone { IsGone code.now self.old ending.place t }
+        requires ends { IsEnding code.now self.old ending }
+        ensures { Makes code.now self.old self.new (Table.freed_by code.now ending.storage.units (Table.says_failed (Shows.tried_of ending.ended)) (Table.return_to code.now (place_of ending.storage.place) t.world) t.point t.control t.world) }
+    {
+        let next = place_behind(ending.ended, ending.place);
+        match give_back(code, &mut self.stock, ending.storage.place) {
+            GivenBack::Accepted => self.mode = Mode::At(next),
+            GivenBack::Stops(stop) => self.mode = Mode::Stopped(stop),
+            GivenBack::Calls(call) => {
+                let units = ending.storage.units as u64;
+                self.deallocate(code, call, units, next, ending.base);
+            }
+        }
+    }
+
+    /// Ends the freeing of an object by a variable, behind its finalization: the variable becomes null, the object is gone, and its storage
+    /// is given back (RM 13.11.2). There is room for the call of a Deallocate.
+    fn end_in_variable(&mut self, code: &Code, object: u64, out: usize, slot: usize, ending: Ending)
+        ghost s: { State }
+        requires valid { IsValid code.now }
+        requires before { BeforeResuming code.now self.old s }
+        requires top { (fs : List Frame) × (reverse self.old.control.items ≡ FrameOf.Freeing object (NulledOf.Variable out slot) ending.storage ending.place ∷ fs) }
+        requires ends { IsEnding code.now self.old ending }
+        ensures { Makes code.now self.old self.new (Table.act code.now (Giving (Shows.tried_of ending.ended)) s.control s.operands s.world 0) }
+    {
+        self.give(code, out, slot, 0, ending.place);
+        let _ = self.control.take_last();
+        self.stock.forget(object);
+        self.return_storage(code, ending);
+    }
+
+    /// Ends the freeing of an object by a component, behind its finalization: the component becomes null, the object is gone, and its storage
+    /// is given back. Where the object of the component is gone, the program is erroneous (RM 13.11.2). There is room for the call of a
+    /// Deallocate.
+    fn end_in_part(&mut self, code: &Code, object: u64, ending: Ending)
+        ghost s: { State }
+        requires valid { IsValid code.now }
+        requires before { BeforeResuming code.now self.old s }
+        requires top { (fs : List Frame) × (reverse self.old.control.items ≡ FrameOf.Freeing object NulledOf.Part ending.storage ending.place ∷ fs) }
+        requires ends { IsEnding code.now self.old ending }
+        ensures { Makes code.now self.old self.new (Table.act code.now (Giving (Shows.tried_of ending.ended)) s.control s.operands s.world 0) }
+    {
         let component = self.drop_frame();
         if !self.stock.exists(component.object()) {
             self.mode = Mode::Stopped(Stop::UseAfterFree);
@@ -384,32 +522,42 @@ impl Engine {
         }
         self.stock.write(component.object(), component.offset(), 0);
         self.stock.forget(object);
-        let given = give_back(&mut self.stock, storage);
-        self.mode = mode_given_back(given, ended, place);
+        self.return_storage(code, ending);
     }
 
     /// Goes on with the freeing of an object behind its finalization, which has ended so: what designated it becomes null, it is gone, and
-    /// its storage is given back; where a Finalize failed, Program_Error is raised (RM 13.11.2).
+    /// its storage is given back; where a Finalize failed, Program_Error is raised (RM 13.11.2). Unchanged where memory is refused.
     pub(crate) fn resume_freeing(
         &mut self,
         code: &Code,
         ended: Ended,
         object: u64,
         nulled: Nulled,
-        storage: Place,
+        storage: Storage,
         place: usize,
-    )
+    ) -> Result<(), AllocError>
         ghost s: { State }
         requires valid { IsValid code.now }
         requires before { BeforeResuming code.now self.old s }
         requires top { (fs : List Frame) × (reverse self.old.control.items ≡ FrameOf.Freeing object nulled storage place ∷ fs) }
-        ensures { Makes code.now self.old self.new (Table.act code.now (Giving (Shows.tried_of ended)) s.control s.operands s.world 0) }
+        requires number { self.old.given_masters + 1 < 2 ^ 64 }
+        ensures ok { OnOk result (Makes code.now self.old self.new (Table.act code.now (Giving (Shows.tried_of ended)) s.control s.operands s.world 0)) }
+        ensures err { OnErr result (GoesOn self.old self.new self.old.mode self.old.cells.items) }
     {
+        let base = self.window() + code.kinds.height_at(place, 0);
+        self.prepare_return(code, storage.place, base)?;
+        let ending = Ending {
+            ended,
+            storage,
+            place,
+            base,
+        };
         match nulled {
             Nulled::Variable { out, slot } => {
-                self.end_in_variable(code, ended, object, out, slot, storage, place);
+                self.end_in_variable(code, object, out, slot, ending);
             }
-            Nulled::Part => self.end_in_part(code, ended, object, storage, place),
+            Nulled::Part => self.end_in_part(code, object, ending),
         }
+        Ok(())
     }
 }

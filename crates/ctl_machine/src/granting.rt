@@ -1,10 +1,10 @@
 //! Storage of allocators (RM 13.11): an object lies in the standard pool, or in a block of the pool of its access type, which the variable
 //! of the pool holds where that is seen.
 
-ghost use Rattle.std.specs.Prelude.{◌≡◌, ◌+◌, ◌-◌, ◌^◌, ◌<◌, ◌≤◌, IfOk, IfSome, IsNone, OnErr, OnOk, Some, is_some, slice_get, true, vec_capacity, vec_len, ℕ};
+ghost use Rattle.std.specs.Prelude.{◌≡◌, ◌+◌, ◌-◌, ◌^◌, ◌<◌, ◌≤◌, IfOk, OnErr, OnOk, Some, is_some, slice_get, true, vec_capacity, vec_len, ℕ};
 ghost use Rattle.std.specs.Option.{option_map};
 ghost use Rattle.ctl_meaning.specs.Activations.{master_of};
-ghost use Rattle.ctl_meaning.specs.Changes.{slot_at};
+ghost use Rattle.ctl_meaning.specs.Changes.{object_at, slot_at};
 ghost use Rattle.ctl_meaning.specs.Finalization as S;
 ghost use Rattle.ctl_meaning.specs.Objects.{object_in};
 ghost use Rattle.ctl_meaning.specs.World as W;
@@ -14,17 +14,19 @@ ghost use Rattle.ctl_code.specs.declared.code.AccessHome.{AccessHome};
 ghost use Rattle.ctl_code.specs.States.{State};
 ghost use Rattle.ctl_code.specs.Table as Table;
 ghost use Rattle.ctl_code.specs.Valid.{IsValid};
-ghost use Rattle.ctl_machine.specs.Granting.{Adds, Serves, pool_grants, storage_seen};
+ghost use Rattle.ctl_machine.specs.Granting.{Adds, Grants, Places, Serves, pool_grants, storage_seen};
 ghost use Rattle.ctl_machine.specs.Masters.{first_display, heads_of};
 ghost use Rattle.ctl_machine.specs.Moves.{GoesOn};
+ghost use Rattle.ctl_machine.specs.PoolBlocks.{is_open_at};
 ghost use Rattle.ctl_machine.specs.Shows.{Holds, kept};
 
 use crate::engine::Engine;
 use crate::frame::Mode;
 use crate::holders::holder;
 use crate::parts::size_of;
+use crate::pool_blocks::is_open;
 use ctl_code::code::{Code, Way};
-use ctl_objects::PoolState;
+use ctl_objects::{Placing, Spot as BlockSpot};
 use ctl_program::types::{Ty, Var};
 use ctl_tree::ending::Stop;
 use std::alloc::AllocError;
@@ -32,8 +34,21 @@ use std::alloc::AllocError;
 /// The number of Storage_Error in each table of exceptions (RM 11.1).
 const STORAGE_ERROR: usize = 2;
 
+/// Who grants the storage of an allocator (RM 13.11).
+#[derive(Clone, Copy)]
+pub enum Grantor {
+    /// the standard pool
+    Standard,
+    /// the library's Allocate, for the open pool of this number
+    Library(u64),
+    /// this Allocate, which the user wrote for the type of the pool of this number
+    User { pool: u64, allocate: usize },
+    /// none, since the pool has ceased to exist
+    Gone,
+}
+
 /// Answers how many storage units an object of a record type takes (RM 13.3); none where the code knows no such type.
-fn units_of(code: &Code, record: usize) -> usize
+pub(crate) fn units_of(code: &Code, record: usize) -> usize
     ensures { result ≡ Table.units_of code.now «record» }
 {
     match code.layouts.as_slice().get(record) {
@@ -50,6 +65,16 @@ fn level_of(variable: &Var) -> usize
     match variable.level {
         0 => 1,
         level => level,
+    }
+}
+
+/// Answers the Allocate that the user wrote for the type of a pool, if there is one (RM 13.11).
+fn allocate_of(code: &Code, ty: Ty) -> Option<usize>
+    ensures { result ≡ Table.operation_for (λ x. x.allocate) code.now ty }
+{
+    match ty {
+        Ty::Record(record) => code.records.as_slice().get(record)?.allocate,
+        _ => None,
     }
 }
 
@@ -82,22 +107,46 @@ impl Engine {
         Some(self.number_of(held))
     }
 
-    /// Answers the number of the pool that a variable holds where it is seen, if its object exists and the pool is open (RM 13.11).
-    fn open_pool(&self, code: &Code, pool: &Var) -> Option<u64>
+    /// Answers who grants storage of the pool of this number (RM 13.11).
+    fn pool_grantor(&self, code: &Code, pool: u64) -> Grantor
         ghost s: { State }
         requires { Holds code.now (kept self.now) s.control s.operands s.world }
-        ensures open { IfSome result (λ n. IsOpen n (storage_of self.now.stock)) }
-        ensures exists { IfSome result (λ n. is_some (object_in n self.now.stock.objects) ≡ true) }
-        ensures grants { (size : ℕ) → IfSome result (λ n. Table.grant (Some pool.now) (first_display (heads_of s.world.activations)) size s.world ≡ pool_grants n size s.world) }
-        ensures none { (size : ℕ) → IsNone result → Table.grant (Some pool.now) (first_display (heads_of s.world.activations)) size s.world ≡ Table.UnknownPool }
+        ensures { Grants code.now self.now s.world (λ size. Table.object_grant code.now size (object_at pool s.world) s.world) result }
     {
-        let number = self.object_held(code, pool)?;
-        if !self.stock.exists(number) {
-            return None;
+        let Some(existing) = self.stock.find(pool) else {
+            return Grantor::Gone;
+        };
+        if let Some(allocate) = allocate_of(code, existing.ty) {
+            return Grantor::User { pool, allocate };
         }
-        match self.stock.pool(number)?.state {
-            PoolState::Open => Some(number),
-            PoolState::Closed => None,
+        if is_open(&self.stock, pool) {
+            return Grantor::Library(pool);
+        }
+        Grantor::Gone
+    }
+
+    /// Answers who grants storage of the pool that a variable holds where it is seen (RM 13.11).
+    fn grantor_held(&self, code: &Code, variable: &Var) -> Grantor
+        ghost s: { State }
+        requires { Holds code.now (kept self.now) s.control s.operands s.world }
+        ensures { Grants code.now self.now s.world (λ size. Table.grant code.now (Some variable.now) (first_display (heads_of s.world.activations)) size s.world) result }
+    {
+        match self.object_held(code, variable) {
+            Some(pool) => self.pool_grantor(code, pool),
+            None => Grantor::Gone,
+        }
+    }
+
+    /// Answers who grants storage to the allocators of an access type, where it is seen (RM 13.11).
+    pub(crate) fn grantor(&self, code: &Code, access: usize) -> Grantor
+        ghost s: { State }
+        requires holds { Holds code.now (kept self.now) s.control s.operands s.world }
+        requires access { (a : AccessHome) × (slice_get code.now.accesses.items access ≡ Some a) }
+        ensures { Grants code.now self.now s.world (storage_seen code.now access s) result }
+    {
+        match &code.accesses[access].pool {
+            Some(pool) => self.grantor_held(code, pool),
+            None => Grantor::Standard,
         }
     }
 
@@ -163,23 +212,23 @@ impl Engine {
         }
     }
 
-    /// Allocates an object of a record type, with cells of 0, for the collection of this number, with storage of the pool of an access type
-    /// (RM 4.8, 13.11), and reserves room for two frames that wait for it and for the part that it is. Answers what comes next where there is
-    /// no storage: Storage_Error is raised where the pool is exhausted; where the pool is gone, the program is erroneous (RM 13.11.2).
-    /// Unchanged then, and where memory is refused.
+    /// Allocates an object of a record type, with cells of 0, for the collection of this number, with storage that is granted so (RM 4.8,
+    /// 13.11), and reserves room for two frames that wait for it and for the part that it is. Answers what comes next where there is no
+    /// storage: Storage_Error is raised where the pool is exhausted; where the pool is gone, the program is erroneous (RM 13.11.2), and so it
+    /// counts where an Allocate of the user's is to be asked. Unchanged then, and where memory is refused.
     pub(crate) fn add_member(
         &mut self,
         code: &Code,
-        access: usize,
+        grantor: Grantor,
         set: u64,
         record: usize,
     ) -> Result<Option<Mode>, AllocError>
-        ghost s: { State }
+        ghost s: { State × (ℕ → Table.Grant) }
         requires valid { IsValid code.now }
-        requires holds { Holds code.now (kept self.old) s.control s.operands s.world }
+        requires holds { Holds code.now (kept self.old) s.0.control s.0.operands s.0.world }
         requires number { self.old.numbered.objects + 1 < 2 ^ 64 }
-        requires access { (a : AccessHome) × (slice_get code.now.accesses.items access ≡ Some a) }
-        ensures ok { IfOk result (Serves code.now self.old self.new set «record» s.world (storage_seen code.now access «record» s)) }
+        requires grants { Grants code.now self.old s.0.world s.1 grantor }
+        ensures ok { IfOk result (Serves code.now self.old self.new set «record» s.0.world (s.1 (Table.units_of code.now «record»))) }
         ensures err { OnErr result (GoesOn self.old self.new self.old.mode self.old.cells.items) }
         ensures control { OnOk result (vec_len self.new.control + 2 ≤ vec_capacity self.new.control) }
         ensures spots { OnOk result (vec_len self.new.spots < vec_capacity self.new.spots) }
@@ -188,13 +237,52 @@ impl Engine {
     {
         self.control.reserve(2)?;
         self.spots.reserve(1)?;
-        let Some(pool) = &code.accesses[access].pool else {
-            self.add_standard(code, set, record)?;
-            return Ok(None);
-        };
-        match self.open_pool(code, pool) {
-            Some(number) => self.add_in_pool(code, set, record, number),
-            None => Ok(Some(Mode::Stopped(Stop::UseAfterFree))),
+        match grantor {
+            Grantor::Standard => {
+                self.add_standard(code, set, record)?;
+                Ok(None)
+            }
+            Grantor::Library(pool) => self.add_in_pool(code, set, record, pool),
+            Grantor::User { .. } | Grantor::Gone => Ok(Some(Mode::Stopped(Stop::UseAfterFree))),
         }
+    }
+
+    /// Allocates an object of a record type, with cells of 0, for the collection of this number at an address of an open pool, whose object
+    /// exists, if a block is out there that holds no object and is large enough (RM 13.11), and reserves room for two frames that wait for it
+    /// and for the part that it is. Answers whether one is; unchanged if not, and where memory is refused.
+    pub(crate) fn add_at_address(
+        &mut self,
+        code: &Code,
+        set: u64,
+        record: usize,
+        block: BlockSpot,
+    ) -> Result<Placing, AllocError>
+        ghost s: { State }
+        requires valid { IsValid code.now }
+        requires holds { Holds code.now (kept self.old) s.control s.operands s.world }
+        requires number { self.old.numbered.objects + 1 < 2 ^ 64 }
+        requires open { IsOpen block.pool (storage_of self.old.stock) }
+        requires exists { is_some (object_in block.pool self.old.stock.objects) ≡ true }
+        requires stands { is_open_at block.pool s.world.pools ≡ true }
+        ensures ok { IfOk result (Places code.now self.old self.new set «record» block.pool block.address s.world) }
+        ensures err { OnErr result (GoesOn self.old self.new self.old.mode self.old.cells.items) }
+        ensures control { OnOk result (vec_len self.new.control + 2 ≤ vec_capacity self.new.control) }
+        ensures spots { OnOk result (vec_len self.new.spots < vec_capacity self.new.spots) }
+        ensures events { self.new.events ≡ self.old.events }
+        ensures picks { self.new.picks ≡ self.old.picks }
+    {
+        self.control.reserve(2)?;
+        self.spots.reserve(1)?;
+        let number = self.numbered.objects + 1;
+        let ty = Ty::Record(record);
+        let size = size_of(code, record);
+        let units = units_of(code, record) as u64;
+        let placing = self
+            .stock
+            .allocate_in_block(number, ty, set, size, block, units)?;
+        if let Placing::Placed = placing {
+            self.numbered.objects = number;
+        }
+        Ok(placing)
     }
 }

@@ -107,6 +107,7 @@ impl Engine {
         ensures mode { self.new.mode ≡ ModeOf.At place }
         ensures masters { reverse self.new.masters.items ≡ reverse self.old.masters.items }
         ensures gives { Gives (first_display (heads_of s.world.activations)) out slot value place self.old self.new }
+        ensures same { self.new ≡ record self.old { mode = self.new.mode; cells = self.new.cells } }
     {
         match self.variable(code, out, slot) {
             Some(cell) => {

@@ -3,8 +3,8 @@ use Rattle.std.specs.Prelude.{Bool, true, false, not, ◌&&◌, ◌||◌, List, 
 use Rattle.ctl_grammar.specs.Spelling.{same_name}
 use Rattle.ctl_syntax.specs.declared.denoted.Definition.{Definition}
 use Rattle.ctl_syntax.specs.declared.denoted.Denoted.{Denoted}
-use Rattle.ctl_syntax.specs.declared.denoted.Denoted.TheVariants.{Declared, Library}
-use Rattle.ctl_syntax.specs.declared.denoted.LibraryName.TheVariants.{Integer, Boolean, True, False, Put, PutLine, NewLine, Controlled, LimitedControlled, BlockPool}
+use Rattle.ctl_syntax.specs.declared.denoted.Denoted.TheVariants.{Declared, Library, Operation}
+use Rattle.ctl_syntax.specs.declared.denoted.LibraryName.TheVariants.{Integer, Boolean, Address, StorageCount, True, False, Put, PutLine, NewLine, Controlled, LimitedControlled, BlockPool}
 use Rattle.ctl_syntax.specs.declared.denoted.Use.{Use}
 use Rattle.ctl_syntax.specs.declared.expression.Expression.{Expression, out-Expression}
 use Rattle.ctl_syntax.specs.declared.expression.Expression.TheOpen.{Expression-F}
@@ -41,10 +41,12 @@ is_empty (x ∷ xs) = false
 abbrev pub is_operation : Specification Definition Use → Bool
 is_operation s = same_name s.name.identifier.text (codes "initialize") || (same_name s.name.identifier.text (codes "adjust") || same_name s.name.identifier.text (codes "finalize"))
 
--- Integer or Boolean (3.5.3, 3.5.4)
+-- Integer, Boolean (3.5.3, 3.5.4), Address (13.7) or Storage_Count (13.7.1)
 abbrev pub is_scalar : Denoted → Bool
 is_scalar (Library Integer) = true
 is_scalar (Library Boolean) = true
+is_scalar (Library Address) = true
+is_scalar (Library StorageCount) = true
 is_scalar d = false
 
 -- a subprogram or type of the text, which is judged where it is declared
@@ -167,6 +169,11 @@ is_output (Library PutLine) = true
 is_output (Library NewLine) = true
 is_output d = false
 
--- and of a subprogram of the text (6.4)
+-- an operation that a type may have of its own, Allocate and Deallocate among them (7.6, 13.11)
+abbrev pub is_own : Denoted → Bool
+is_own (Operation o) = true
+is_own d = false
+
+-- and of a subprogram of the text (6.4), or of such an operation
 abbrev pub of_call : Name Use (Expression Use) → Support
-of_call n = support_when (is_output n.first.denoted || is_of_text n.first.denoted)
+of_call n = support_when (is_output n.first.denoted || (is_of_text n.first.denoted || is_own n.first.denoted))

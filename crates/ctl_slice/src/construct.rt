@@ -174,13 +174,18 @@ fn may_be_extended(denoted: Denoted) -> bool
     )
 }
 
-/// Tells whether this is Integer or Boolean (RM 3.5.3, 3.5.4).
+/// Tells whether this is Integer, Boolean (RM 3.5.3, 3.5.4), Address (RM 13.7) or Storage_Count (RM 13.7.1).
 fn is_scalar(denoted: Denoted) -> bool
     ensures { result ≡ spec.is_scalar denoted }
 {
     matches!(
         denoted,
-        Denoted::Library(LibraryName::Integer | LibraryName::Boolean)
+        Denoted::Library(
+            LibraryName::Integer
+                | LibraryName::Boolean
+                | LibraryName::Address
+                | LibraryName::StorageCount
+        )
     )
 }
 
@@ -261,12 +266,14 @@ fn is_of_text(denoted: Denoted) -> bool
     matches!(denoted, Denoted::Declared(..))
 }
 
-/// Judges a call: those of Put, Put_Line and New_Line are run (RM A.10.7), and those of a subprogram of the text (RM 6.4).
+/// Judges a call: those of Put, Put_Line and New_Line are run (RM A.10.7), those of a subprogram of the text (RM 6.4), and those of an
+/// operation that a type may have of its own (RM 7.6, 13.11).
 pub(crate) fn of_call(name: &Name<Use, Expression<Use>>) -> Support
     ensures { result ≡ spec.of_call name.now }
 {
     let is_run = match name.first.denoted {
-        Denoted::Library(LibraryName::Put | LibraryName::PutLine | LibraryName::NewLine) => true,
+        Denoted::Library(LibraryName::Put | LibraryName::PutLine | LibraryName::NewLine)
+        | Denoted::Operation(_) => true,
         denoted => is_of_text(denoted),
     };
     support_when(is_run)

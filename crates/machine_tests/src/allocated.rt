@@ -17,6 +17,13 @@ const NEW: Instr = Instr::New {
     at: 2,
 };
 
+/// It is created at the address that an Allocate gave, which none does here: where no pool has one, the instruction is passed over.
+const NEW_IN: Instr = Instr::NewIn {
+    record: 0,
+    ty: Ty::Integer,
+    at: 2,
+};
+
 /// The second variable takes the access value.
 const KEEP: Instr = Instr::Move {
     from: CELL_2,
@@ -64,15 +71,17 @@ const GATHER: Instr = Instr::Gather {
 };
 
 /// Where the Finalize stands.
-const BODY: usize = 15;
+const BODY: usize = 17;
 
 /// Two objects are allocated, and a component of the second one takes a value; behind that stands a Finalize that does nothing.
-const LINES: [Line; 16] = [
+const LINES: [Line; 18] = [
     (Instr::Start(0), ""),
     (GATHER, "m"),
     (NEW, "m"),
+    (NEW_IN, "miiii"),
     (KEEP, "mi"),
     (NEW, "m"),
+    (NEW_IN, "miiii"),
     (KEEP, "mi"),
     (VALUE, "m"),
     (OBJECT, "mi"),
@@ -87,12 +96,12 @@ const LINES: [Line; 16] = [
 ];
 
 /// These lines, where others make the collection, the first object, and the operand and the object whose component takes the value.
-fn lines_with(gather: Instr, new: Instr, value: Instr, object: Instr) -> [Line; 16] {
+fn lines_with(gather: Instr, new: Instr, value: Instr, object: Instr) -> [Line; 18] {
     let mut lines = LINES;
     lines[1] = (gather, "m");
     lines[2] = (new, "m");
-    lines[6] = (value, "m");
-    lines[7] = (object, "mi");
+    lines[8] = (value, "m");
+    lines[9] = (object, "mi");
     lines
 }
 

@@ -553,6 +553,8 @@ fn change_tables(code: &mut Code, alloc: Global, finalize: usize) -> Result<(), 
         initialize: None,
         adjust: None,
         finalize: Some(finalize),
+        allocate: None,
+        deallocate: None,
     })?;
     code.texts.clear();
     add_text(code, alloc, &[Part::Integer, Part::Boolean])

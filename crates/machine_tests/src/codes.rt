@@ -96,6 +96,8 @@ fn add_bodies(code: &mut Code, finalizers: &[usize]) -> Result<(), AllocError> {
             initialize: None,
             adjust: None,
             finalize: Some(code.entries.len()),
+            allocate: None,
+            deallocate: None,
         })?;
         code.entries.push(Entry {
             kind: SubprogramKind::Procedure,
@@ -264,6 +266,8 @@ pub fn valid_code_with_adjust(
         initialize: None,
         adjust: Some(1),
         finalize: None,
+        allocate: None,
+        deallocate: None,
     };
     let added = give_operations(&mut code, alloc, operations);
     validated(completed(code, added)?)
@@ -283,6 +287,8 @@ pub fn valid_code_with_both(
         initialize: None,
         adjust: Some(2),
         finalize: Some(1),
+        allocate: None,
+        deallocate: None,
     };
     let added = give_operations(&mut code, alloc, operations);
     validated(completed(code, added)?)

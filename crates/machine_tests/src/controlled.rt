@@ -64,6 +64,8 @@ fn operations(initialize: Option<usize>, finalize: Option<usize>) -> Operations 
         initialize,
         adjust: None,
         finalize,
+        allocate: None,
+        deallocate: None,
     }
 }
 

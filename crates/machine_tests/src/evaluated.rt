@@ -113,6 +113,8 @@ fn change_body(
         initialize: None,
         adjust: None,
         finalize: None,
+        allocate: None,
+        deallocate: None,
     })?;
     add_exception(code, alloc, b"PROGRAM_ERROR")
 }

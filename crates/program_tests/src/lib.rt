@@ -16,6 +16,8 @@ mod jobs;
 #[cfg(test)]
 mod names;
 #[cfg(test)]
+mod own_pools;
+#[cfg(test)]
 mod parts;
 #[cfg(test)]
 mod pools;

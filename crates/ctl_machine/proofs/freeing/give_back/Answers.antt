@@ -1,32 +1,38 @@
-use Rattle.std.proofs.Common.{◌∙◌, subst, sym}
+use Rattle.std.proofs.Common.{◌≡◌, List, None, subst, sym}
+use Rattle.ctl_tree.specs.declared.ending.Stop.TheVariants.{UseAfterFree}
+use Rattle.ctl_meaning.specs.Objects.{object_in}
+use Rattle.ctl_meaning.specs.World.{Object}
 use Rattle.ctl_storage.specs.Allocated.{place_of}
 use Rattle.ctl_storage.specs.declared.existing.Place.{Place}
-use Rattle.ctl_storage.specs.declared.existing.Place.TheVariants as PlaceOf
-use Rattle.ctl_storage.specs.declared.pools.BlockReturn.{BlockReturn}
-use Rattle.ctl_storage.specs.declared.pools.BlockReturn.TheVariants as ReturnOf
 use Rattle.ctl_code.specs.Table.{return_to}
+use Rattle.ctl_machine.specs.declared.freeing.GivenBack.TheVariants as BackOf
 use Rattle.ctl_machine.specs.Freeing.{IsGivenBack}
-use Rattle.ctl_machine.proofs.GivenBack.{block_given_back, stop_of}
+use Rattle.ctl_machine.proofs.GivenBack.{gone_given, library_given, user_given}
+use Rattle.ctl_machine.proofs.MayJoin.{none_known}
 use Rattle.ctl_machine.proofs.freeing.give_back.Goals as goal
 
-pub returns-in-Accepted-clause-back : goal.returns-in-Accepted-clause-back
-returns-in-Accepted-clause-back c = λ next w objects shown.
+pub returns-in_default-find-clause-back : goal.returns-in_default-find-clause-back
+returns-in_default-find-clause-back c = λ next w objects shown.
+    let code = c.args.code.now in
+    let old = c.args.stock.now in
     let block = c.in-InBlock.block in
-    let new = c.give_block.new.self in
-    let there = sym c.exists.ensures ∙ c.if-not-exists.false in
-    let known = sym c.in-Some.is ∙ c.pool.ensures.shown next w.pools shown there in
-    let given =
-    block_given_back block.pool block.address next w c.args.stock.now new c.give_block.result c.in-Some.pool objects there known c.in_default-state.is (c.give_block.ensures.answer next w.pools shown) (c.give_block.ensures.pools next w.pools shown) in
-    subst (λ (x : Place). IsGivenBack next w new (return_to (place_of x) w) (stop_of ReturnOf.Accepted)) (sym c.in-InBlock.is)
-    (subst (λ (r : BlockReturn). IsGivenBack next w new (return_to (place_of (PlaceOf.InBlock block)) w) (stop_of r)) c.in-Accepted.is given)
+    subst (λ (x : Place). IsGivenBack code next w old (return_to code (place_of x) w) (BackOf.Stops UseAfterFree)) (sym c.in-InBlock.is)
+    (gone_given code block.pool block.address next w old (subst (λ (l : List Object). object_in block.pool l ≡ None) (sym objects) (none_known block.pool old.objects c.in_default-find.ensures)) shown)
 
-pub returns-in-Refused-clause-back : goal.returns-in-Refused-clause-back
-returns-in-Refused-clause-back c = λ next w objects shown.
+pub returns-in-Some-deallocate_of-clause-back : goal.returns-in-Some-deallocate_of-clause-back
+returns-in-Some-deallocate_of-clause-back c = λ next w objects shown.
+    let code = c.args.code.now in
+    let old = c.args.stock.now in
     let block = c.in-InBlock.block in
-    let new = c.give_block.new.self in
-    let there = sym c.exists.ensures ∙ c.if-not-exists.false in
-    let known = sym c.in-Some.is ∙ c.pool.ensures.shown next w.pools shown there in
-    let given =
-    block_given_back block.pool block.address next w c.args.stock.now new c.give_block.result c.in-Some.pool objects there known c.in_default-state.is (c.give_block.ensures.answer next w.pools shown) (c.give_block.ensures.pools next w.pools shown) in
-    subst (λ (x : Place). IsGivenBack next w new (return_to (place_of x) w) (stop_of ReturnOf.Refused)) (sym c.in-InBlock.is)
-    (subst (λ (r : BlockReturn). IsGivenBack next w new (return_to (place_of (PlaceOf.InBlock block)) w) (stop_of r)) c.in-Refused.is given)
+    let body = c.in-Some-deallocate_of.body in
+    subst (λ (x : Place). IsGivenBack code next w old (return_to code (place_of x) w) (BackOf.Calls (record { pool = block.pool; address = block.address; body = body }))) (sym c.in-InBlock.is)
+    (user_given code block.pool block.address next body c.in-Some.pool w old old objects c.in-Some.ensures c.in-Some-deallocate_of.ensures shown)
+
+pub returns-in-None-clause-back : goal.returns-in-None-clause-back
+returns-in-None-clause-back c = λ next w objects shown.
+    let code = c.args.code.now in
+    let old = c.args.stock.now in
+    let new = c.give_to_pool.new.stock in
+    let block = c.in-InBlock.block in
+    subst (λ (x : Place). IsGivenBack code next w new (return_to code (place_of x) w) c.give_to_pool.result) (sym c.in-InBlock.is)
+    (library_given code block.pool block.address next c.in-Some.pool w old new c.give_to_pool.result objects c.in-Some.ensures (sym c.in-None.ensures) (c.give_to_pool.ensures.back code next w objects shown))

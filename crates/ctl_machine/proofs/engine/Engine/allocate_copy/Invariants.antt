@@ -8,4 +8,4 @@ abbrev pub ghost-set_for : goal.ghost-set_for
 ghost-set_for g a = g.s.0
 
 abbrev pub ghost-copy_member : goal.ghost-copy_member
-ghost-copy_member g a = (g.s.0, object_or (object_at (first_spot g.s.0.operands).object g.s.0.world), storage_seen a.code.now a.access a.record g.s.0)
+ghost-copy_member g a = (g.s.0, object_or (object_at (first_spot g.s.0.operands).object g.s.0.world), storage_seen a.code.now a.access g.s.0)

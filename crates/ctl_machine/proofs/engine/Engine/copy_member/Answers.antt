@@ -1,16 +1,17 @@
-use Rattle.std.proofs.Common.{◌≡◌, ◌∙◌, ◌+◌, List, Option, Some, ap, arith, drop, refl, subst, sym}
+use Rattle.std.proofs.Common.{◌≡◌, ◌∙◌, ◌+◌, ℕ, List, Option, Some, ap, arith, drop, refl, subst, sym}
 use Rattle.ctl_meaning.specs.Finalization.{Spot}
 use Rattle.ctl_meaning.specs.Objects.{cells_at, object_in}
 use Rattle.ctl_meaning.specs.World as W
-use Rattle.ctl_code.specs.Table.{Grant, size_of}
+use Rattle.ctl_code.specs.Table.{Grant, size_of, units_of}
 use Rattle.ctl_machine.specs.declared.engine.Engine.{Engine}
 use Rattle.ctl_machine.specs.declared.frame.Mode.{Mode}
-use Rattle.ctl_machine.specs.Granting.{Adds, Lacks, Serves, place_granted, storage_seen, world_granted}
+use Rattle.ctl_machine.specs.Granting.{Adds, Serves, place_granted, storage_seen, world_granted}
 use Rattle.ctl_machine.specs.Moves.{Makes, here_of}
 use Rattle.ctl_machine.specs.Shows.{Kept, kept}
 use Rattle.ctl_machine.specs.Spots.{first_spot, standing}
 use Rattle.ctl_machine.proofs.CopyAllocated.{member_copied, source_part, taken_is, taken_kept, taken_makes, with_taken}
-use Rattle.ctl_machine.proofs.NewMember.{lacking_makes, member_number, seen_beside}
+use Rattle.ctl_machine.proofs.NewMember.{lacking_makes, member_number}
+use Rattle.ctl_machine.proofs.Granted.{grants_beside}
 use Rattle.ctl_machine.proofs.Owned.{found_below, object_shown}
 use Rattle.ctl_machine.proofs.Stocked.{copied_stock}
 use Rattle.ctl_machine.proofs.Words.{newest_read, same_front}
@@ -25,9 +26,10 @@ returns-in-Some-clause-ok g c =
     let set = c.args.set in
     let t = c.args.record in
     let b = c.requires.1.0.2 in
+    let size = units_of code t in
     let mode = c.in-Some.refused in
-    let served : Serves code old added set t s.world (storage_seen code c.args.access t s) (Some mode) = subst (λ (o : Option Mode). Serves code old added set t s.world (storage_seen code c.args.access t s) o) c.in-Some.is c.in_ok-refused.ensures.ok in
-    lacking_makes code old added c.go_on.new.self mode b.stack s.operands (here_of c.args.place s) (member_copied code c.args.place set t g.s.1 s) g.s.2 refl refl b.inside (subst (λ (x : Grant). Lacks x mode) (sym c.requires.1.1.1.0) served.0) served.1 c.go_on.ensures
+    let served : Serves code old added set t s.world (g.s.2 size) (Some mode) = subst (λ (o : Option Mode). Serves code old added set t s.world (g.s.2 size) o) c.in-Some.is c.in_ok-refused.ensures.ok in
+    lacking_makes code old added c.go_on.new.self mode b.stack s.operands (here_of c.args.place s) (member_copied code c.args.place set t g.s.1 s) (g.s.2 size) (λ o f is. refl) refl refl b.inside served.0 served.1 c.go_on.ensures
 
 pub copy-requires : goal.copy-requires
 copy-requires g c = λ e.
@@ -38,15 +40,16 @@ copy-requires g c = λ e.
     let before = c.requires.1.0 in
     let added = c.add_member.new.self in
     let h = before.2.inside.holds in
+    let size = units_of code t in
     let p = source_part code old c.args.access c.args.place t before.1 before.0 s before.2 in
     let count = c.count_spots-newest in
     let spot = newest_read old.spots.items (standing s.control (drop 1 s.operands)) (first_spot s.operands) c.index-spot.result.now count.result p.spots count.ensures.count c.index-spot.ensures in
     let number = c.object-source.ensures ∙ ap (λ (x : Spot). x.object) spot in
     let there = sym (object_shown code (kept old) s.control s.operands s.world (first_spot s.operands).object h) ∙ c.requires.1.1.0 in
     let less = found_below old.owned.items (old.numbered.objects + 1) old.stock.objects (first_spot s.operands).object g.s.1 h.owns there in
-    let adds : Adds code (kept old) (kept added) c.args.set t s.world (storage_seen code c.args.access t s) =
-    subst (λ (o : Option Mode). Serves code old added c.args.set t s.world (storage_seen code c.args.access t s) o) c.in_default.is c.in_ok-refused.ensures.ok in
-    let given = member_number code old added c.args.set t (place_granted (storage_seen code c.args.access t s)) (world_granted s.world (storage_seen code c.args.access t s)) adds.member in
+    let adds : Adds code (kept old) (kept added) c.args.set t s.world (g.s.2 size) =
+    subst (λ (o : Option Mode). Serves code old added c.args.set t s.world (g.s.2 size) o) c.in_default.is c.in_ok-refused.ensures.ok in
+    let given = member_number code old added c.args.set t (place_granted (g.s.2 size)) (world_granted s.world (g.s.2 size)) adds.member in
     omega (arith, e, given, number, less)
 
 pub adjust_member-requires : goal.adjust_member-requires
@@ -59,16 +62,16 @@ adjust_member-requires g c =
     let b = before.2 in
     let set = c.args.set in
     let t = c.args.record in
-    let place = place_granted g.s.2 in
-    let v = world_granted s.world g.s.2 in
+    let size = units_of code t in
+    let place = place_granted (g.s.2 size) in
+    let v = world_granted s.world (g.s.2 size) in
     let added = c.add_member.new.self in
     let y = first_spot s.operands in
     let below = standing s.control (drop 1 s.operands) in
-    let adds : Adds code (kept old) (kept added) set t s.world g.s.2 =
-    subst (λ (x : Grant). Adds code (kept old) (kept added) set t s.world x) (sym c.requires.1.1.1.0)
-    (subst (λ (z : Option Mode). Serves code old added set t s.world (storage_seen code c.args.access t s) z) c.in_default.is c.in_ok-refused.ensures.ok) in
+    let adds : Adds code (kept old) (kept added) set t s.world (g.s.2 size) =
+    subst (λ (z : Option Mode). Serves code old added set t s.world (g.s.2 size) z) c.in_default.is c.in_ok-refused.ensures.ok in
     let i = adds.member in
-    let beside = seen_beside code c.args.access t s v place (sym c.requires.1.1.1.0 ∙ adds.granted) in
+    let beside = grants_beside code old s.world v (storage_seen code c.args.access s) c.grantor-grantor.result size place c.grantor-grantor.ensures (ap (λ (f : ℕ → Grant). f size) (sym c.requires.1.1.1.0) ∙ adds.granted) in
     let p = source_part code old c.args.access c.args.place t before.1 before.0 s b in
     let count = c.count_spots-newest in
     let spot = newest_read old.spots.items below y c.index-spot.result.now count.result p.spots count.ensures.count c.index-spot.ensures in
@@ -101,14 +104,14 @@ returns-clause-ok g c =
     let before = c.requires.1.0 in
     let set = c.args.set in
     let t = c.args.record in
-    let place = place_granted g.s.2 in
-    let v = world_granted s.world g.s.2 in
+    let size = units_of code t in
+    let place = place_granted (g.s.2 size) in
+    let v = world_granted s.world (g.s.2 size) in
     let added = c.add_member.new.self in
     let begun : Engine = record added { spots = c.take_last.new.self; stock = c.copy.new.self } in
-    let adds : Adds code (kept old) (kept added) set t s.world g.s.2 =
-    subst (λ (x : Grant). Adds code (kept old) (kept added) set t s.world x) (sym c.requires.1.1.1.0)
-    (subst (λ (z : Option Mode). Serves code old added set t s.world (storage_seen code c.args.access t s) z) c.in_default.is c.in_ok-refused.ensures.ok) in
-    let beside = seen_beside code c.args.access t s v place (sym c.requires.1.1.1.0 ∙ adds.granted) in
+    let adds : Adds code (kept old) (kept added) set t s.world (g.s.2 size) =
+    subst (λ (z : Option Mode). Serves code old added set t s.world (g.s.2 size) z) c.in_default.is c.in_ok-refused.ensures.ok in
+    let beside = grants_beside code old s.world v (storage_seen code c.args.access s) c.grantor-grantor.result size place c.grantor-grantor.ensures (ap (λ (f : ℕ → Grant). f size) (sym c.requires.1.1.1.0) ∙ adds.granted) in
     let new = c.adjust_member.new.self in
     subst (λ (x : Grant). Makes code old new (member_copied code c.args.place set t o s x)) (sym adds.granted)
     (taken_makes code old added begun new c.args.access c.args.place set t before.1 before.0 place v o s before.2 beside adds.member (ap (λ l. l.items) c.add_member.ensures.events) (ap (λ l. l.items) c.add_member.ensures.picks) c.adjust_member.ensures)

@@ -1,11 +1,18 @@
-use Rattle.ctl_machine.specs.Gathering.{member_at}
+use Rattle.ctl_code.specs.Table.{behind_next, units_of}
 use Rattle.ctl_machine.specs.Granting.{place_granted, world_granted}
-use Rattle.ctl_machine.proofs.NewMember.{set_of_owner}
+use Rattle.ctl_machine.specs.Moves.{here_of}
+use Rattle.ctl_machine.proofs.MasterOf.{object_or}
 use Rattle.ctl_machine.proofs.Newborn.{place_in}
 use Rattle.ctl_machine.proofs.engine.Engine.create_member.Given as goal
 
-abbrev pub ghost-add_member : goal.ghost-add_member
-ghost-add_member g a = g.s.0
+abbrev pub ghost-grantor : goal.ghost-grantor
+ghost-grantor g a = g.s.0
 
-abbrev pub ghost-begin_part : goal.ghost-begin_part
-ghost-begin_part g a = member_at a.code.now (place_in g.s.0.mode) (set_of_owner a.owner) a.record (place_granted g.s.1) (world_granted g.s.0.world g.s.1) g.s.0
+abbrev pub ghost-call_allocate : goal.ghost-call_allocate
+ghost-call_allocate g a = (g.s.0, object_or a.pool a.self.now.stock.objects, a.set)
+
+abbrev pub ghost-add_member : goal.ghost-add_member
+ghost-add_member g a = g.s
+
+abbrev pub ghost-begin_member : goal.ghost-begin_member
+ghost-begin_member g a = let granted = g.s.1 (units_of a.code.now a.record) in record { place = place_granted granted; control = g.s.0.control; point = behind_next g.s.0.operands (here_of (place_in g.s.0.mode) g.s.0); granted = world_granted g.s.0.world granted }

@@ -43,7 +43,7 @@ returns-in_default-fate g c =
     let new : Engine = record old { mode = ModeOf.Giving EndedOf.Complete; control = c.push_reserved.new.self } in
     let are = freeing_pushed old c.push_reserved.new.self.items c.args.release.nulled n c.fate-found.result.storage t.place c.args.release.place c.push_reserved.ensures.items c.requires.1.1.0 in
     let finishes = freeing_finishes code old new c.args.release.nulled n c.fate-found.result.storage t f is.may c.fate-found.ensures.storage are in
-    fate_makes code old new c.args.access n a t old.owned.items FateOf.Goes found is (finished_gives code old new (freed_over n t) EndedOf.Complete (Fine T.Complete) finishes refl refl refl refl)
+    fate_makes code old new c.args.access n a t old.owned.items FateOf.Goes found is (finished_gives code old new (freed_over code n t) EndedOf.Complete (Fine T.Complete) finishes refl refl refl refl)
 
 pub finalize_whole-requires : goal.finalize_whole-requires
 finalize_whole-requires g c =

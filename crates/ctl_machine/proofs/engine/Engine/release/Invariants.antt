@@ -5,4 +5,4 @@ abbrev pub ghost-fate : goal.ghost-fate
 ghost-fate g a = g.t.state
 
 abbrev pub ghost-finalize_whole : goal.ghost-finalize_whole
-ghost-finalize_whole g a = freed_over a.number g.t
+ghost-finalize_whole g a = freed_over a.code.now a.number g.t

@@ -1,0 +1,150 @@
+//! The instructions of calls of the library's Allocate and Deallocate, and those behind allocators and Unchecked_Deallocation (RM 13.11).
+
+ghost use Rattle.std.specs.Prelude.{◌≡◌, ◌∷◌, [], OnOk, None, Some};
+ghost use Rattle.ctl_program.specs.declared.types.Ty.TheVariants.{Address, Count};
+ghost use Rattle.ctl_code.specs.Valid.{over_numbers};
+ghost use Rattle.ctl_layout.specs.Parts.{Variable};
+ghost use Rattle.ctl_gen.specs.Emitted.{appended, lined, stated, with_values};
+ghost use Rattle.ctl_layout.specs.Values as values;
+ghost use Rattle.ctl_layout.specs.Layout as spec;
+
+use crate::emit::Emitter;
+use ctl_code::code::{Instr, Way};
+use ctl_code::kinds::Kind;
+use ctl_layout::right::{Reached, reached_by};
+use ctl_program::expression::{Expr, Name};
+use ctl_program::types::{Ty, Var};
+use std::alloc::AllocError;
+
+/// The number of Program_Error among the exceptions.
+const PROGRAM_ERROR: usize = 1;
+
+/// How many numbers stand behind the call of an Allocate: those of the collection and of the pool, and what its first two formals hold
+/// (RM 13.11).
+const ADDRESS_NUMBERS: usize = 4;
+
+/// The record type of the operand that is a pool: of no account, since the pool is found by its object.
+const POOL_TYPE: usize = 0;
+
+impl Emitter {
+    /// Adds an instruction over what an Allocate left, which it takes (RM 13.11).
+    pub fn over_address(&mut self, instr: Instr) -> Result<(), AllocError>
+        ensures { OnOk result (self.new ≡ lined (λ s. (instr, over_numbers values.address_numbers s) ∷ []) self.old) }
+    {
+        self.enter_numbers(ADDRESS_NUMBERS)?;
+        self.put(instr)?;
+        self.leave_operands(ADDRESS_NUMBERS);
+        Ok(())
+    }
+
+    /// Emits what raises Program_Error where a Finalize of an object that is freed failed (RM 13.11.2).
+    #[tactic(auto, unfolding(ctl_meaning::specs::Outcome::program_error))]
+    pub fn fail_behind(&mut self) -> Result<(), AllocError>
+        ensures { OnOk result (self.new ≡ lined spec.failed_code self.old) }
+    {
+        self.put(Instr::Transfer(Way::Raise(PROGRAM_ERROR)))
+    }
+
+    /// Emits the pool of a call of the library's Allocate or Deallocate, which a variable holds or a formal stands for: a new operand.
+    fn pool_operand(&mut self, pool: Var) -> Result<(), AllocError>
+        ensures { OnOk result (self.new ≡ appended (spec.pool_operand pool self.old.notes.standing) [] (spec.with_pool self.old.notes.standing) self.old) }
+    {
+        self.locate(pool, POOL_TYPE)?;
+        self.enter(Kind::Operand(Ty::Record(POOL_TYPE)))
+    }
+
+    /// Emits the size and the alignment of such a call: two new operands.
+    fn request(&mut self, size: &Expr, alignment: &Expr) -> Result<(), AllocError>
+        ensures { OnOk result (self.new ≡ with_values ((values.value_code size.now, Count) ∷ (values.value_code alignment.now, Count) ∷ []) self.old) }
+    {
+        let _size = self.evaluated(Ty::Count, size)?;
+        let _alignment = self.evaluated(Ty::Count, alignment)?;
+        Ok(())
+    }
+
+    /// Emits the address, the size and the alignment of a block: three new operands.
+    fn block_request(
+        &mut self,
+        address: &Expr,
+        size: &Expr,
+        alignment: &Expr,
+    ) -> Result<(), AllocError>
+        ensures { OnOk result (self.new ≡ with_values ((values.value_code address.now, Address) ∷ (values.value_code size.now, Count) ∷ (values.value_code alignment.now, Count) ∷ []) self.old) }
+    {
+        let _address = self.evaluated(Ty::Address, address)?;
+        self.request(size, alignment)
+    }
+
+    /// Emits a call of the library's Allocate for the pool in a variable; another variable takes the address (RM 13.11).
+    fn take_block(
+        &mut self,
+        pool: Var,
+        address: Var,
+        size: &Expr,
+        alignment: &Expr,
+    ) -> Result<(), AllocError>
+        ensures { OnOk result (self.new ≡ stated (spec.library_allocate (Some (Variable pool)) (Some (Variable address)) (values.value_code size.now) (values.value_code alignment.now)) None self.old) }
+    {
+        let (out, slot) = (self.out_to(address), address.slot);
+        self.pool_operand(pool)?;
+        self.request(size, alignment)?;
+        self.put(Instr::TakeBlock {
+            record: POOL_TYPE,
+            out,
+            slot,
+        })?;
+        self.leave_operands(3);
+        Ok(())
+    }
+
+    /// Emits a call of the library's Deallocate for the pool in a variable (RM 13.11).
+    fn give_block(
+        &mut self,
+        pool: Var,
+        address: &Expr,
+        size: &Expr,
+        alignment: &Expr,
+    ) -> Result<(), AllocError>
+        ensures { OnOk result (self.new ≡ stated (spec.library_deallocate (Some (Variable pool)) (values.value_code address.now) (values.value_code size.now) (values.value_code alignment.now)) None self.old) }
+    {
+        self.pool_operand(pool)?;
+        self.block_request(address, size, alignment)?;
+        self.put(Instr::GiveBlock { record: POOL_TYPE })?;
+        self.leave_operands(4);
+        Ok(())
+    }
+
+    /// Emits a call of the library's Allocate: of a pool in a variable, whose address a variable takes (RM 13.11).
+    pub fn library_allocate(
+        &mut self,
+        pool: &Name,
+        address: &Name,
+        size: &Expr,
+        alignment: &Expr,
+    ) -> Result<(), AllocError>
+        ensures { OnOk result (self.new ≡ stated (spec.library_allocate (values.reached_by pool.now) (values.reached_by address.now) (values.value_code size.now) (values.value_code alignment.now)) None self.old) }
+    {
+        match (reached_by(pool), reached_by(address)) {
+            (Some(Reached::Variable(pool)), Some(Reached::Variable(address))) => {
+                self.take_block(pool, address, size, alignment)
+            }
+            _ => self.put(Instr::Missing),
+        }
+    }
+
+    /// Emits a call of the library's Deallocate: of a pool in a variable (RM 13.11).
+    pub fn library_deallocate(
+        &mut self,
+        pool: &Name,
+        address: &Expr,
+        size: &Expr,
+        alignment: &Expr,
+    ) -> Result<(), AllocError>
+        ensures { OnOk result (self.new ≡ stated (spec.library_deallocate (values.reached_by pool.now) (values.value_code address.now) (values.value_code size.now) (values.value_code alignment.now)) None self.old) }
+    {
+        match reached_by(pool) {
+            Some(Reached::Variable(pool)) => self.give_block(pool, address, size, alignment),
+            _ => self.put(Instr::Missing),
+        }
+    }
+}
