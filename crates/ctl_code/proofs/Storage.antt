@@ -1,12 +1,12 @@
--- What holds of a world, and of each that differs in its pools alone, holds where storage was granted or given back; and what a closing pool
--- keeps holds where an object's finalization has ended (13.11, 13.11.2).
+-- What holds of a world holds where storage was granted or given back, if it holds where a block goes out of a pool and where one comes back;
+-- and what a closing pool keeps holds where an object's finalization has ended (13.11, 13.11.2).
 use Rattle.std.proofs.Common.{ℕ, List, Option, Some, None, Bool, true, false}
 use Rattle.std.specs.Prelude.{◌||◌, nat_eq, nat_lt, not, if◌then◌else◌}
 use Rattle.ctl_program.specs.declared.types.Var.{Var}
 use Rattle.ctl_tree.specs.declared.ending.Stop.TheVariants.{UseAfterFree, BadAddress}
 use Rattle.ctl_tree.specs.declared.event.Cause.{Cause}
 use Rattle.ctl_tree.specs.declared.event.Cause.TheVariants as CauseOf
-use Rattle.ctl_meaning.specs.World.{Place, Standard, InBlock, InSubpool, Object, BlockPool, Pools, World}
+use Rattle.ctl_meaning.specs.World.{Place, Standard, InBlock, InSubpool, Object, BlockPool, World}
 use Rattle.ctl_meaning.specs.Finalization.{Spot}
 use Rattle.ctl_meaning.specs.Activations.{master_of}
 use Rattle.ctl_meaning.specs.Pools.{block_at, block_pool_at, give_block, take_block}
@@ -27,14 +27,14 @@ OnReturn P (Returned w) = P w
 OnReturn P (NotReturned s) = Unit {0}
 OnReturn P (DeallocateOf o a f) = Unit {0}
 
-module _ (P : World → Type 0) (in_pools_holds : (f : Pools → Pools) (w : World) → P w → P (in_pools f w)) where
+module _ (P : World → Type 0) (taken : (n : ℕ) (w : World) → P w → P (in_pools (take_block n) w)) where
   of_block : (n size : ℕ) (p : BlockPool) (w : World) → P w → OnGrant P (block_grant n size p w)
   of_block n size p w h = by (not p.is_open) (nat_eq p.free 0 || nat_lt p.block_size size)
     where
       by : (shut full : Bool) → OnGrant P (if shut then UnknownPool else if full then Exhausted else Granted (InBlock n w.pools.next_address) (in_pools (take_block n) w))
       by true full = tt
       by false true = tt
-      by false false = in_pools_holds (take_block n) w h
+      by false false = taken n w h
 
   pub granted_of_pool : (n size : ℕ) (p : Option BlockPool) (w : World) → P w → OnGrant P (pool_grant n size p w)
   granted_of_pool n size None w h = tt
@@ -56,12 +56,13 @@ module _ (P : World → Type 0) (in_pools_holds : (f : Pools → Pools) (w : Wor
   granted_keeps code None d size w h = h
   granted_keeps code (Some v) d size w h = of_holder code (spot_of (slot_at (master_of d v) v.slot w).content) size w h
 
+module _ (P : World → Type 0) (given : (n a : ℕ) (w : World) → P w → P (in_pools (give_block n a) w)) where
   to_block : (n a : ℕ) (p : BlockPool) (w : World) → P w → OnReturn P (block_return n a p w)
   to_block n a p w h = by (not p.is_open) (is_vacant w (block_at a p))
     where
       by : (shut vacant : Bool) → OnReturn P (if shut then NotReturned UseAfterFree else if vacant then Returned (in_pools (give_block n a) w) else NotReturned BadAddress)
       by true vacant = tt
-      by false true = in_pools_holds (give_block n a) w h
+      by false true = given n a w h
       by false false = tt
 
   pub returned_to_pool : (n a : ℕ) (p : Option BlockPool) (w : World) → P w → OnReturn P (pool_return n a p w)

@@ -620,7 +620,7 @@ module _ (ask : Ask) (k : Tables) (code : Code) (setting : Setting k code) (call
         by false go =
             subst (λ o. Gets 6 (allocator_steps value) s0 c0 p ks (bind (bind o (on_goes (created K set (Record t) value))) (on_goes completed))) (sym (storage_is pool d units c l w fits.0))
             (granted_runs value set x (grant code pool d units w) d place ks ops s0 c0 c l w le lo hi (is, may x refl)
-            (granted_keeps (MayStand set x) (λ f v h. h) code pool d units w (is, may x refl))
+            (granted_keeps (MayStand set x) (λ n v h. h) code pool d units w (is, may x refl))
             (since_granted k code pool d units w0 w fits) (own_granted pool d units w) fits served
             (go ∙ ap (λ i. moved l (grants value x.number (grant code pool d i w) ops (here d place ks w))) units_are ∙ ap (λ i. moved l (grants value i (grant code pool d units w) ops (here d place ks w))) number))
 

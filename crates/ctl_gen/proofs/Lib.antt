@@ -16,7 +16,6 @@ pub mod Worth
 pub mod Expressions
 pub mod Each
 pub mod Collections
-pub mod Pooled
 pub mod Worlds
 pub mod Scopes
 pub mod Setting

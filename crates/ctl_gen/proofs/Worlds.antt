@@ -21,10 +21,9 @@ use Rattle.ctl_meaning.specs.Changes.{ends_with, new_object, object_at, take_obj
 use Rattle.ctl_code.specs.declared.code.Code.{Code}
 use Rattle.ctl_code.specs.Table.{grant, pool_grant, pool_return, return_to, with_end}
 use Rattle.ctl_code.specs.Valid.{IsDeclarable}
-use Rattle.ctl_code.proofs.Storage.{OnGrant, OnReturn, end_keeps}
+use Rattle.ctl_code.proofs.Storage.{OnGrant, OnReturn, granted_keeps, granted_of_pool, returned_keeps, returned_to_pool, end_keeps}
 use Rattle.ctl_gen.proofs.Known.{IsPlainType}
 use Rattle.ctl_gen.proofs.Each.{Each, IfFound, each_found, each_and, each_changed, each_changed_first, each_kept, not_true, found_passes, each_all, each_set, each_get}
-use Rattle.ctl_gen.proofs.Pooled.{holds_granted, holds_of_pool, holds_returned, holds_to_pool}
 use Rattle.ctl_gen.proofs.Collections.{home, home_slot, home_kept, home_gone, HasLevel, AreNested, nested_in, nested_alike, nested_and, IsMadeIn, IsHeldBy, held_in, IsOf, Gathered, gathered_in, of_gathered, of_pushed, of_started, of_kept, Belongs, belongs_in, belongs_home, belongs_other}
 
 -- Slots -----------------------------------------------------------------------------------------------
@@ -586,17 +585,17 @@ module _ (k : Tables) (code : Code) where
 
   -- storage is granted to an allocator, or given back
   pub since_granted : (pool : Option Var) (d : List ℕ) (size : ℕ) (w0 w : World) → Since w0 w → OnGrant (Since w0) (grant code pool d size w)
-  since_granted pool d size w0 w h = holds_granted (Since w0) (since_taken w0) code pool d size w h
+  since_granted pool d size w0 w h = granted_keeps (Since w0) (since_taken w0) code pool d size w h
 
   pub since_returned : (place : Place) (w0 w : World) → Since w0 w → OnReturn (Since w0) (return_to code place w)
-  since_returned place w0 w h = holds_returned (Since w0) (since_given w0) code place w h
+  since_returned place w0 w h = returned_keeps (Since w0) (since_given w0) code place w h
 
   -- the same of the library's Allocate and Deallocate of a pool
   pub since_of_pool : (n size : ℕ) (p : Option BlockPool) (w0 w : World) → Since w0 w → OnGrant (Since w0) (pool_grant n size p w)
-  since_of_pool n size p w0 w h = holds_of_pool (Since w0) (since_taken w0) n size p w h
+  since_of_pool n size p w0 w h = granted_of_pool (Since w0) (since_taken w0) n size p w h
 
   pub since_to_pool : (n a : ℕ) (p : Option BlockPool) (w0 w : World) → Since w0 w → OnReturn (Since w0) (pool_return n a p w)
-  since_to_pool n a p w0 w h = holds_to_pool (Since w0) (since_given w0) n a p w h
+  since_to_pool n a p w0 w h = returned_to_pool (Since w0) (since_given w0) n a p w h
 
   -- the finalization of an object has ended
   pub since_ended : (cause : Cause) (n : ℕ) (w0 w : World) → Since w0 w → Since w0 (with_end cause n w)
