@@ -34,7 +34,6 @@ JOBS = [
     ("refused_copy.adb", ["run"], []),
     ("rolled_back.adb", ["run"], ["--trace"]),
     ("freed_list.adb", ["run"], ["--trace"]),
-    ("counting_pool.adb", ["run"], ["--trace"]),
     (None, ["check"], []),
     (None, ["run"], []),
 ]
