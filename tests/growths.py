@@ -4,11 +4,11 @@
     growths.py PATH_OF_ADACTL
 
 A growth is a call of malloc, calloc, realloc, posix_memalign or aligned_alloc. Each job is done whole, which counts its growths,
-then with the N-th growth refused for each N, once it alone and once with all that come after it, and at last with one refused that
-never comes. A job may end as usual only where a growth is refused alone and is asked for again, as a reservation is that came too
-early: then it comes to more growths. The calls are counted by a shared object, which gcc makes of the C text below and the loader
-puts before libc. Where there is no gcc, the address space of the process is limited instead, in rising steps: that refuses the
-growths that take pages.
+then with the N-th growth refused for each N (past the first 1,000 in equal steps), once it alone and once with all that come after
+it, and at last with one refused that never comes. A job may end as usual only where a growth is refused alone and is asked for
+again, as a reservation is that came too early: then it comes to more growths. The calls are counted by a shared object, which gcc
+makes of the C text below and the loader puts before libc. Where there is no gcc, the address space of the process is limited
+instead, in rising steps: that refuses the growths that take pages.
 
 One line for each run that ends otherwise; the last line is `N passed, M failed`."""
 import os
@@ -34,6 +34,8 @@ JOBS = [
     ("refused_copy.adb", ["run"], []),
     ("rolled_back.adb", ["run"], ["--trace"]),
     ("freed_list.adb", ["run"], ["--trace"]),
+    ("measured_calls.adb", ["run"], ["--trace"]),
+    ("counting_pool.adb", ["run"], ["--trace"]),
     (None, ["check"], []),
     (None, ["run"], []),
 ]

@@ -109,7 +109,7 @@ TEXTS = [
     ("procedure Main is task T; begin null; end Main;", 12, 1, 19),
     # a broken rule on names comes before a construct that is left out, wherever they stand
     ("procedure Main is begin Put_Line (\"x\"); end Main;", 20, 1, 25),
-    # a record is run where its components are: of Integer, of Boolean, or of another such record
+    # a record is run where its components are: of Integer, Boolean, Storage_Count, Address or an access type, or of another such record
     (ITEM + "type R is record N : Integer; end record; type Q is record X : R; end record; Y : Q; begin Y.X.N := 1; end Main;", ACCEPTED, 1, 1),
     (ITEM + "type R is record N : Integer := 1; end record; type Q is record X : R; end record; Y : Q; begin null; end Main;", ACCEPTED, 1, 1),
     (ITEM + "type R is record N : Integer; end record; type Q is record X : R; end record; A, B : Q; begin A.X := B.X; end Main;", ACCEPTED, 1, 1),
@@ -132,7 +132,7 @@ TEXTS = [
         1,
         1,
     ),
-    # functions are run that give values of Integer or Boolean; others are left out where they stand
+    # functions are run that give values of Integer, Boolean, Storage_Count, Address or an access type; others are left out where they stand
     (ITEM + "function F return Integer is begin return 1; end F; N : Integer; begin N := F; end Main;", ACCEPTED, 1, 1),
     (ITEM + "function F (N : Integer) return Boolean is begin return N > 1; end F; begin while F (1) loop null; end loop; end Main;", ACCEPTED, 1, 1),
     (ITEM + "type R is record N : Integer; end record; function F (X : R) return Integer is begin return X.N; end F; begin null; end Main;", ACCEPTED, 1, 1),
@@ -159,7 +159,7 @@ TEXTS = [
     (CONTROLLED + "type T is new Controlled with null record; X : T; Y : T := X; begin X := Y; end Main;", ACCEPTED, 1, 1),
     (CONTROLLED + "begin declare type T is new Controlled with null record; X, Y : T; begin X := Y; end; end Main;", 12, 1, 46),
     (CONTROLLED + "type T is new Limited_Controlled with null record; X, Y : T; begin X := Y; end Main;", 32, 1, 131),
-    # procedures are run whose parameters are records, or of Integer and Boolean, in each mode; one with others is left out where it stands.
+    # procedures are run whose parameters are records, or of the types that functions give, in each mode; one with others is left out where it stands.
     # A copy goes back to a variable; of a component only types tell it, at the main procedure
     (ITEM + "procedure P is begin null; end P; begin P; end Main;", ACCEPTED, 1, 1),
     (ITEM + "procedure P (N : Integer) is begin null; end P; begin P (1); end Main;", ACCEPTED, 1, 1),
@@ -217,8 +217,8 @@ TEXTS = [
     (CONTROLLED + "type T is new Controlled with record N : Integer := 1; end record; type U is new T with record N : Boolean; end record; X : U; begin null; end Main;", 21, 1, 159),
     (CONTROLLED + "type T is new Controlled with null record; X : T; Y : T := X; begin null; end Main;", ACCEPTED, 1, 1),
     (CONTROLLED + "type T is new Controlled with null record; X, Y : T; begin X := Y; X := 1; end Main;", 30, 1, 136),
-    # components of Integer and Boolean are run, in objects of controlled types, where their defaults are constants; others are left out at
-    # their type, but where no object has that type
+    # components of these types are run, in objects of controlled types, where their defaults are constants; others are left out at their type,
+    # but where no object has that type
     (
         CONTROLLED + "type T is new Controlled with record N : Integer; B : Boolean; end record; X : T; begin X.N := 1; X.B := X.N = 1; end Main;",
         ACCEPTED,

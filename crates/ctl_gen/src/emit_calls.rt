@@ -192,7 +192,7 @@ impl Emitter {
         Ok(())
     }
 
-    /// Emits that copies go back behind a call, which left what its formals held as numbers, and that these are dropped.
+    /// Emits that copies go back after a call, which left what its formals held as numbers, and that these are dropped.
     fn all_copies_back(&mut self, actuals: &[Actual]) -> Result<(), AllocError>
         ensures { OnOk result (self.new ≡ lined (values.copied_back (map values.actual_code actuals.now) (length actuals.now)) self.old) }
     {

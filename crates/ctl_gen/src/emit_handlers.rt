@@ -1,6 +1,6 @@
 //! The instructions of statements whose exceptions are handled, and of their handlers (RM 11.2 to 11.4).
 //!
-//! No loop of the same master stands around handlers, so an exit statement in them leads out of their master.
+//! No loop of the same master stands around handlers, so what completes a loop leads from them out of their master.
 
 ghost use Rattle.std.specs.Prelude.{◌≡◌, ◌≤◌, ◌-◌, length, map, OnOk, None};
 ghost use Rattle.ctl_program.specs.declared.statement.Master.{out-Master};

@@ -19,7 +19,7 @@ use std::alloc::AllocError;
 /// The number of Program_Error among the exceptions.
 const PROGRAM_ERROR: usize = 1;
 
-/// How many numbers stand behind the call of an Allocate: those of the collection and of the pool, and what its first two formals hold
+/// How many numbers stand after the call of an Allocate: those of the collection and of the pool, and what its first two formals hold
 /// (RM 13.11).
 const ADDRESS_NUMBERS: usize = 4;
 

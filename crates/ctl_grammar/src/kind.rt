@@ -5,7 +5,7 @@ ghost use Rattle.ctl_grammar.specs.Kind.{code, is_left_out, same_kind};
 
 use ctl_tree::token::Kind;
 
-/// The position of the kind in the list of all kinds.
+/// Gives the position of the kind in the list of all kinds.
 #[tactic(auto, unfolding(crate::specs::Kind::code))]
 fn code_of(kind: Kind) -> u8
     ensures { result ≡ code kind }
@@ -13,14 +13,14 @@ fn code_of(kind: Kind) -> u8
     kind as u8
 }
 
-/// Whether the two kinds are the same one.
+/// Tells whether the two kinds are the same one.
 pub fn is_same_kind(a: Kind, b: Kind) -> bool
     ensures { result ≡ same_kind a b }
 {
     code_of(a) == code_of(b)
 }
 
-/// Whether the kind is a reserved word that the subset leaves out (RM 2.9).
+/// Tells whether the kind is a reserved word that the subset leaves out (RM 2.9).
 #[tactic(auto, unfolding(crate::specs::Kind::code))]
 pub fn is_left_out(kind: Kind) -> bool
     ensures { result ≡ is_left_out kind }

@@ -4,7 +4,7 @@ ghost use Rattle.std.specs.Prelude.{◌≡◌};
 ghost use Rattle.std.specs.Char.{to_ascii_lowercase};
 ghost use Rattle.ctl_grammar.specs.Spelling.{same_letter, same_name};
 
-/// Whether two bytes are the same: case does not count.
+/// Tells whether two bytes are the same: case does not count.
 #[tactic(auto, unfolding(crate::specs::Spelling::same_letter))]
 fn is_same_letter(a: u8, b: u8) -> bool
     ensures { result ≡ same_letter a b }
@@ -12,7 +12,7 @@ fn is_same_letter(a: u8, b: u8) -> bool
     a.to_ascii_lowercase() == b.to_ascii_lowercase()
 }
 
-/// Whether two identifiers are the same: case does not count (RM 2.3).
+/// Tells whether two identifiers are the same: case does not count (RM 2.3).
 #[tactic(auto, unfolding(crate::specs::Spelling::same_name))]
 pub fn is_same_name(a: &[u8], b: &[u8]) -> bool
     ensures { result ≡ same_name a.now b.now }

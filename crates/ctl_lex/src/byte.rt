@@ -59,35 +59,35 @@ fn in_line(byte: u8) -> bool
     !is_line_end(byte)
 }
 
-/// How many bytes at the front are letters, digits and underscores.
+/// Counts the bytes at the front that are letters, digits and underscores.
 pub fn name_run(bytes: &[u8]) -> usize
     ensures { result ≡ run in_name bytes.now }
 {
     bytes.iter().take_while(|b| in_name(**b)).count()
 }
 
-/// How many bytes at the front are digits and underscores.
+/// Counts the bytes at the front that are digits and underscores.
 pub fn number_run(bytes: &[u8]) -> usize
     ensures { result ≡ run in_number bytes.now }
 {
     bytes.iter().take_while(|b| in_number(**b)).count()
 }
 
-/// How many bytes at the front stand in one line.
+/// Counts the bytes at the front that stand in one line.
 pub fn line_run(bytes: &[u8]) -> usize
     ensures { result ≡ run in_line bytes.now }
 {
     bytes.iter().take_while(|b| in_line(**b)).count()
 }
 
-/// How many bytes at the front may stand in a string.
+/// Counts the bytes at the front that may stand in a string.
 pub fn graphic_run(bytes: &[u8]) -> usize
     ensures { result ≡ run is_graphic bytes.now }
 {
     bytes.iter().take_while(|b| is_graphic(**b)).count()
 }
 
-/// What may begin with a byte.
+/// Tells what may begin with a byte.
 #[tactic(auto, unfolding(ctl_lexis::specs::Bytes::class_of))]
 pub fn class_of(byte: u8) -> ByteClass
     ensures { result ≡ class_of byte }

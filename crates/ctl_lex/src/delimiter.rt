@@ -5,7 +5,7 @@ ghost use Rattle.ctl_lexis.specs.Reading.{simple_delimiter, compound_delimiter};
 
 use ctl_tree::token::Kind;
 
-/// The delimiter of this one byte.
+/// Gives the delimiter of this one byte, if it is one.
 #[tactic(auto, unfolding(ctl_lexis::specs::Reading::simple_delimiter))]
 pub fn simple_delimiter(byte: u8) -> Option<Kind>
     ensures { result ≡ simple_delimiter byte }
@@ -31,7 +31,7 @@ pub fn simple_delimiter(byte: u8) -> Option<Kind>
     }
 }
 
-/// The delimiter of these two bytes.
+/// Gives the delimiter of these two bytes, if they are one.
 #[tactic(auto, unfolding(ctl_lexis::specs::Reading::compound_delimiter))]
 pub fn compound_delimiter(first: u8, second: u8) -> Option<Kind>
     ensures { result ≡ compound_delimiter first second }

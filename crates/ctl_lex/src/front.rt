@@ -12,7 +12,7 @@ use ctl_lexis::class::ByteClass;
 use ctl_lexis::shape::{Front, Shape};
 use ctl_tree::fault::FaultCode;
 
-/// The comment at the front, with its length (RM 2.7).
+/// Gives the comment at the front, with its length (RM 2.7).
 #[tactic(auto, unfolding(ctl_lexis::specs::Reading::comment_at))]
 fn comment_at(bytes: &[u8]) -> Front
     requires some { 2 ≤ length bytes.now }
@@ -22,7 +22,7 @@ fn comment_at(bytes: &[u8]) -> Front
     Ok((Shape::Gap, line_run(&bytes[2..]) + 2))
 }
 
-/// The comment or the longest delimiter at the front, with its length (RM 2.2, 2.7).
+/// Gives the comment or the longest delimiter at the front, with its length (RM 2.2, 2.7).
 #[tactic(auto, unfolding(ctl_lexis::specs::Reading::mark_at))]
 fn mark_at(bytes: &[u8]) -> Front
     requires room { length bytes.now < 2 ^ 32 }
@@ -42,7 +42,7 @@ fn mark_at(bytes: &[u8]) -> Front
     }
 }
 
-/// What stands at the front, with its length; or the fault that the text has there, and how far behind the front.
+/// Tells what stands at the front, with its length; or the fault that the text has there, and how far behind the front.
 #[tactic(auto, unfolding(ctl_lexis::specs::Reading::front_of))]
 pub fn front_of(bytes: &[u8]) -> Front
     requires some { 1 ≤ length bytes.now }

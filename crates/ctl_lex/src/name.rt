@@ -9,7 +9,7 @@ use crate::word::word_of;
 use ctl_lexis::shape::{Front, Shape};
 use ctl_tree::fault::FaultCode;
 
-/// Whether each underscore has another byte directly behind it.
+/// Tells whether each underscore has another byte directly behind it.
 pub fn has_single_underscores(text: &[u8]) -> bool
     ensures { result ≡ has_single_underscores false text.now }
 {
@@ -24,7 +24,7 @@ pub fn has_single_underscores(text: &[u8]) -> bool
     !behind
 }
 
-/// An identifier or a reserved word of these bytes, with its length.
+/// Gives the identifier or the reserved word of these bytes, with its length.
 #[tactic(auto, unfolding(ctl_lexis::specs::Reading::name_of))]
 fn name_of(text: &[u8]) -> Front
     ensures { result ≡ name_of text.now }
@@ -38,7 +38,7 @@ fn name_of(text: &[u8]) -> Front
     }
 }
 
-/// The identifier or the reserved word at the front, with its length.
+/// Gives the identifier or the reserved word at the front, with its length.
 #[tactic(auto, unfolding(ctl_lexis::specs::Reading::name_at))]
 pub fn name_at(bytes: &[u8]) -> Front
     ensures { result ≡ name_at bytes.now }

@@ -19,14 +19,14 @@ fn digit_count(text: &[u8]) -> usize
     text.iter().filter(|b| is_digit(**b)).count()
 }
 
-/// The byte at this place, or 0, which stands in no token, behind the end.
+/// Gives the byte at this place, or 0, which stands in no token, behind the end.
 pub fn byte_at(bytes: &[u8], index: usize) -> u8
     ensures { result ≡ slice_index bytes.now index }
 {
     if index < bytes.len() { bytes[index] } else { 0 }
 }
 
-/// Whether what follows a number would go on with it.
+/// Tells whether what follows a number would go on with it.
 fn runs_on(rest: &[u8]) -> bool
     ensures { result ≡ runs_on rest.now }
 {
@@ -34,7 +34,7 @@ fn runs_on(rest: &[u8]) -> bool
     is_letter(next) || next == b'#' || (next == b'.' && is_digit(byte_at(rest, 1)))
 }
 
-/// Whether digits and underscores are a number where this follows.
+/// Tells whether digits and underscores are a number where this follows.
 #[tactic(auto, unfolding(ctl_lexis::specs::Pieces::is_number))]
 fn is_number(text: &[u8], rest: &[u8]) -> bool
     ensures { result ≡ is_number text.now rest.now }
@@ -42,7 +42,7 @@ fn is_number(text: &[u8], rest: &[u8]) -> bool
     has_single_underscores(text) && digit_count(text) <= MOST_DIGITS && !runs_on(rest)
 }
 
-/// The value of the digits among these bytes.
+/// Gives the value of the digits among these bytes.
 fn value_of(text: &[u8]) -> u64
     requires { count_by is_digit text.now ≤ 18 }
     ensures { result ≡ value_from 0 text.now }
@@ -56,7 +56,7 @@ fn value_of(text: &[u8]) -> u64
     value
 }
 
-/// The number of these bytes, where this follows, with its length.
+/// Gives the number of these bytes, where this follows, with its length.
 #[tactic(auto, unfolding(ctl_lexis::specs::Reading::number_of, ctl_lexis::specs::Pieces::is_number))]
 fn number_of(text: &[u8], rest: &[u8]) -> Front
     ensures { result ≡ number_of text.now rest.now }
@@ -68,7 +68,7 @@ fn number_of(text: &[u8], rest: &[u8]) -> Front
     }
 }
 
-/// The number at the front, with its length.
+/// Gives the number at the front, with its length.
 #[tactic(auto, unfolding(ctl_lexis::specs::Reading::number_at))]
 pub fn number_at(bytes: &[u8]) -> Front
     ensures { result ≡ number_at bytes.now }

@@ -7,7 +7,7 @@ use crate::byte::is_line_end;
 use ctl_lexis::place::Place;
 use ctl_tree::span::Span;
 
-/// Where a text begins.
+/// Gives the place where a text begins.
 pub fn start() -> Place
     ensures { result ≡ start }
 {
@@ -17,7 +17,7 @@ pub fn start() -> Place
     }
 }
 
-/// The place behind a byte.
+/// Gives the place behind a byte.
 fn after(place: Place, byte: u8) -> Place
     requires line { place.span.line + 1 < 2 ^ 64 }
     requires column { place.span.column + 1 < 2 ^ 64 }
@@ -48,7 +48,7 @@ fn after(place: Place, byte: u8) -> Place
     }
 }
 
-/// The place behind these bytes.
+/// Gives the place behind these bytes.
 pub fn place_after(place: Place, bytes: &[u8]) -> Place
     requires room { place.span.line + place.span.column + length bytes.now < 2 ^ 64 }
     requires from_one { 1 ≤ place.span.column }

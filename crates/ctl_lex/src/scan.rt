@@ -16,8 +16,8 @@ use std::alloc::Global;
 /// The bytes that a source text may have.
 const LONGEST_TEXT: usize = 1_048_576;
 
-/// The tokens of a source text with their places, an end mark last (RM 2); or its first lexical fault. `Memory` comes
-/// only where a growth was refused.
+/// Gives the tokens of a source text with their places, an end mark last (RM 2); or its first lexical fault. `Memory` comes only where a
+/// growth was refused.
 pub fn tokens(alloc: Global, source: &[u8]) -> Result<Vec<Token>, Fault>
     ensures found { IfOk result (λ v. HasTokens source.now v.items) }
     ensures refused { IfErr result (λ f. HasFault source.now f ⊎ IsMemory f) }

@@ -9,8 +9,7 @@ use ctl_tree::fault::FaultCode;
 use ctl_tree::text::Text;
 use std::alloc::{AllocError, Global};
 
-/// How many bytes stand before the quotation mark that closes a string; nothing where the line or the text ends
-/// before it.
+/// Counts the bytes before the quotation mark that closes a string; nothing where the line or the text ends before it.
 fn body_length(body: &[u8]) -> Option<usize>
     ensures found { result ≡ body_length false body.now }
     ensures bound { IfSome result (λ n. n < length body.now) }
@@ -35,7 +34,7 @@ fn body_length(body: &[u8]) -> Option<usize>
     }
 }
 
-/// A string whose body has this many bytes, or the first byte in it that may not stand there.
+/// Gives the string whose body has this many bytes, or the first byte in it that may not stand there.
 #[tactic(auto, unfolding(ctl_lexis::specs::Reading::string_of))]
 fn string_of(n: usize, body: &[u8]) -> Front
     requires inside { n < length body.now }
@@ -50,7 +49,7 @@ fn string_of(n: usize, body: &[u8]) -> Front
     }
 }
 
-/// The string at the front, with its length.
+/// Gives the string at the front, with its length.
 #[tactic(auto, unfolding(ctl_lexis::specs::Reading::string_at))]
 pub fn string_at(bytes: &[u8]) -> Front
     requires some { 1 ≤ length bytes.now }
@@ -64,7 +63,7 @@ pub fn string_at(bytes: &[u8]) -> Front
     }
 }
 
-/// A string's body with each doubled quotation mark once.
+/// Gives a string's body with each doubled quotation mark once.
 pub fn content_of(alloc: Global, body: &[u8]) -> Result<Text, AllocError>
     ensures { IfOk result (λ t. t ≡ content_of false body.now) }
 {

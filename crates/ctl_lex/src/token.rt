@@ -11,7 +11,7 @@ use ctl_tree::text::Text;
 use ctl_tree::token::{Kind, Token};
 use std::alloc::{AllocError, Global};
 
-/// A token that carries nothing.
+/// Makes a token that carries nothing.
 pub fn bare_token(alloc: Global, kind: Kind, span: Span) -> Token
     ensures { result ≡ record { kind = kind; span = span; text = []; value = 0 } }
 {
@@ -23,7 +23,7 @@ pub fn bare_token(alloc: Global, kind: Kind, span: Span) -> Token
     }
 }
 
-/// The bytes between the first and the last.
+/// Gives the bytes between the first and the last.
 fn inside(text: &[u8]) -> &[u8]
     ensures { result.now ≡ take (length text.now - 2) (drop 1 text.now) }
 {
@@ -33,7 +33,7 @@ fn inside(text: &[u8]) -> &[u8]
     &text[1..text.len() - 1]
 }
 
-/// A token of this shape and of these bytes behind the others; a gap adds none.
+/// Adds a token of this shape and of these bytes behind the others; a gap adds none.
 pub fn push_token(
     alloc: Global,
     found: &mut Vec<Token>,

@@ -7,7 +7,7 @@ ghost use Rattle.ctl_lexis.specs.Reading.{word_of, has_spelling};
 
 use ctl_tree::token::Kind;
 
-/// The reserved words of this many letters.
+/// Gives the reserved words of this many letters.
 #[tactic(auto, unfolding(ctl_lexis::specs::Words::words_of_length))]
 fn words_of_length(letters: usize) -> &'static [Kind]
     ensures { result.now ≡ words_of_length letters }
@@ -214,7 +214,7 @@ fn letters_of(kind: Kind) -> &'static [u8]
     }
 }
 
-/// Whether these bytes spell the word, in letters of either case.
+/// Tells whether these bytes spell the word, in letters of either case.
 #[tactic(auto, unfolding(ctl_lexis::specs::Reading::has_spelling))]
 fn has_spelling(name: &[u8], kind: Kind) -> bool
     ensures { result ≡ has_spelling name.now kind }
@@ -222,7 +222,7 @@ fn has_spelling(name: &[u8], kind: Kind) -> bool
     name.eq_ignore_ascii_case(letters_of(kind))
 }
 
-/// The reserved word that these letters spell, if they do; case does not count.
+/// Gives the reserved word that these letters spell, if they do; case does not count.
 #[tactic(auto, unfolding(ctl_lexis::specs::Reading::word_of))]
 pub fn word_of(name: &[u8]) -> Option<Kind>
     ensures { result ≡ word_of name.now }

@@ -5,22 +5,22 @@ ghost use Rattle.ctl_tree.specs.declared.fault.Fault.{Fault};
 ghost use Rattle.ctl_tree.specs.declared.token.Token.{Token};
 ghost use Rattle.ctl_lexis.specs.Lexis.{HasTokens, HasFault};
 
-/// A text has at most one list of tokens.
+/// Says that a text has at most one list of tokens.
 pub fn one_list_of_tokens()
     ensures { (bytes : List ℕ) (a b : List Token) → HasTokens bytes a → HasTokens bytes b → a ≡ b }
 {}
 
-/// A text has at most one first fault.
+/// Says that a text has at most one first fault.
 pub fn one_first_fault()
     ensures { (bytes : List ℕ) (a b : Fault) → HasFault bytes a → HasFault bytes b → a ≡ b }
 {}
 
-/// No text has both tokens and a fault.
+/// Says that no text has both tokens and a fault.
 pub fn never_tokens_and_fault()
     ensures { (bytes : List ℕ) (tokens : List Token) (fault : Fault) → HasTokens bytes tokens → HasFault bytes fault → ⊥ }
 {}
 
-/// Every text has tokens or a fault.
+/// Says that every text has tokens or a fault.
 pub fn always_tokens_or_fault()
     ensures { (bytes : List ℕ) → ((tokens : List Token) × HasTokens bytes tokens) ⊎ ((fault : Fault) × HasFault bytes fault) }
 {}

@@ -25,6 +25,7 @@ mod FreeOfNoMember
 mod FreeOfWhatIsGone
 mod FreedTwice
 mod FreedWhileCollecting
+mod FreedWhileCollectingNewest
 mod FreedWhileFinalizing
 mod GeneralAccess
 mod HandedOnInPart
@@ -49,6 +50,7 @@ mod PoolOfTooSmallBlocks
 mod RecursionAndLocalObject
 mod RecursionWithOverflow
 mod ReleaseOutOfOrder
+mod ReleasedAndUsedAgain
 mod ReleasedWhileFreed
 mod ReleasedWhileReleased
 mod ReverseOrder

@@ -4,72 +4,72 @@ ghost use Rattle.ctl_meaning.specs.Law.{CandidatesAgree, ClockNeverRises, LogOnl
 
 use ctl_program::program::Checked;
 
-/// The clock never rises.
+/// Says that the clock never rises.
 pub fn clock_never_rises(program: &Checked)
     ensures { ClockNeverRises program.now }
 {
     let _ = program;
 }
 
-/// Each statement adds to what was shown and to the choices that were made, and takes nothing back.
+/// Says that each statement adds to what was shown and to the choices that were made, and takes nothing back.
 pub fn log_only_grows(program: &Checked)
     ensures { LogOnlyGrows program.now }
 {
     let _ = program;
 }
 
-/// The choices that a run reports are the answers that were given to it, each below its width.
+/// Says that the choices that a run reports are the answers that were given to it, each below its width.
 pub fn choices_obey(program: &Checked)
     ensures { ChoicesObey program.now }
 {
     let _ = program;
 }
 
-/// A run is cut only where the clock is at 0 or a choice has no answer.
+/// Says that a run is cut only where the clock is at 0 or a choice has no answer.
 pub fn cuts_have_causes(program: &Checked)
     ensures { CutsHaveCauses program.now }
 {
     let _ = program;
 }
 
-/// Where the finalization of collections or of a subpool goes on, none of their members is left that has a controlled part and whose
-/// finalization has not begun.
+/// Says that, where the finalization of collections or of a subpool goes on, none of their members is left that has a controlled part and
+/// whose finalization has not begun.
 pub fn groups_are_emptied(program: &Checked)
     ensures { GroupsAreEmptied program.now }
 {
     let _ = program;
 }
 
-/// The candidates of a choice in the finalization of collections or a subpool are exactly the members that have a controlled part, exist
-/// and whose finalization has not begun, in the order of their numbers.
+/// Says that the candidates of a choice in the finalization of collections or a subpool are exactly the members that have a controlled
+/// part, exist and whose finalization has not begun, in the order of their numbers.
 pub fn candidates_agree(program: &Checked)
     ensures { CandidatesAgree program.now }
 {
     let _ = program;
 }
 
-/// Whoever answers the choices of a run alike gets the same run.
+/// Says that whoever answers the choices of a run alike gets the same run.
 pub fn same_answers_same_run(program: &Checked)
     ensures { SameAnswersSameRun program.now }
 {
     let _ = program;
 }
 
-/// The choices that a run reports, and no more, give the same run.
+/// Says that the choices that a run reports, and no more, give the same run.
 pub fn choices_replay(program: &Checked)
     ensures { ChoicesReplay program.now }
 {
     let _ = program;
 }
 
-/// More clock changes no run that ended, and continues one that was cut.
+/// Says that more clock changes no run that ended, and continues one that was cut.
 pub fn more_clock_continues(program: &Checked)
     ensures { MoreClockContinues program.now }
 {
     let _ = program;
 }
 
-/// The texts of a run that was cut begin those of the run with more clock.
+/// Says that the texts of a run that was cut begin those of the run with more clock.
 pub fn texts_continue(program: &Checked)
     ensures { TextsContinue program.now }
 {

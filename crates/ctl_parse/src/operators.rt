@@ -2,13 +2,14 @@
 
 ghost use Rattle.std.specs.Prelude.{◌≡◌, MatchOption, Some, true, false, not};
 ghost use Rattle.ctl_grammar.specs.Form.{none, num, at, pair, tag, starts, act, alt};
-ghost use Rattle.ctl_grammar.specs.Grammar.{first_word, second_word, joiner, relational, sign, adding, multiplying, number, string, null, selection, spot, identifier, attribute, attributes, is_among, known, suffix};
+ghost use Rattle.ctl_grammar.specs.Grammar.{second_word, joiner, relational, sign, adding, multiplying, number, string, null, selection, spot, identifier, attribute, attributes, is_among, known, suffix};
 ghost use Rattle.ctl_grammar.specs.Nodes.{all_of_access, attribute_of, selector_of};
 ghost use Rattle.ctl_parse.specs.Kept.{attribute_number};
 ghost use Rattle.ctl_parse.specs.Reads.{Reads, sees};
 ghost use Rattle.ctl_parse.specs.View.{arithmetic_code, attribute_code, is_adding, relational_code, sign_node, signs, suffix_node, view};
 
 use crate::cursor::{NOWHERE, Parser};
+use ctl_grammar::joining::{first_word, joins};
 use ctl_grammar::kind::is_same_kind;
 use ctl_grammar::refused::{Reason, Refused};
 use ctl_grammar::spelling::is_same_name;
@@ -19,17 +20,6 @@ use ctl_syntax::operators::{
 };
 use ctl_tree::span::Span;
 use ctl_tree::token::Kind;
-
-/// Gives the word by which a logical operator begins.
-fn first_word(operator: LogicalOperator) -> Kind
-    ensures { result ≡ first_word operator }
-{
-    match operator {
-        LogicalOperator::And | LogicalOperator::AndThen => Kind::And,
-        LogicalOperator::Or | LogicalOperator::OrElse => Kind::Or,
-        LogicalOperator::Xor => Kind::Xor,
-    }
-}
 
 /// Gives the attribute of this name, of those that an identifier names. Case does not count.
 fn attribute_named(name: &[u8]) -> Option<Attribute>
@@ -72,7 +62,10 @@ impl<'a> Parser<'a> {
     pub(crate) fn at_joiner(&self, operator: LogicalOperator) -> bool
         ensures { result ≡ sees (starts (joiner operator)) self.now }
     {
-        self.next_is(first_word(operator))
+        match self.rest.first() {
+            Some(token) => self.fault.is_none() && joins(operator, token.kind),
+            None => false,
+        }
     }
 
     /// Says whether a relational operator is next.

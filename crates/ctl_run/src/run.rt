@@ -19,7 +19,8 @@ use ctl_tree::request::Order;
 use std::alloc::Global;
 
 /// Answers the program of a source text, or the fault of the text: its first one of lexis, grammar, names or types; or LEFT_OUT, where this
-/// version does not run each construct of it, at the first that it does not run. MEMORY comes only where the host refused memory.
+/// version does not run each construct of it, at the first that the table of `ctl_slice` leaves out. MEMORY comes only where the host
+/// refused memory.
 pub fn check_source(alloc: Global, source: &[u8]) -> Result<Checked, Fault>
     ensures { Settles source.now result }
 {

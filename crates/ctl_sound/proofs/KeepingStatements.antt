@@ -180,7 +180,7 @@ called_by_stays tables place (denoted.Library l) xs g = library_with_stays table
 called_by_stays tables place (denoted.Operation o) xs g = operation_with_stays tables place o xs g
 called_by_stays tables place denoted.Unknown xs g = wrong_stays Stmt fault.Unknown place
 
--- Exceptions, exits, returns ------------------------------------------------------------------------
+-- Transfers of control ------------------------------------------------------------------------------
 
 exception_entry_stays : (place : Span) (e : Option Entry) → Stays (spec.exception_entry place e)
 exception_entry_stays place (Some (entry.Exception n)) = known_stays n

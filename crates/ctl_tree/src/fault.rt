@@ -49,7 +49,7 @@ impl FaultCode {
         self as u8
     }
 
-    /// The name that the program prints behind the number.
+    /// Gives the name that the program prints behind the number.
     pub fn name(self) -> &'static str {
         match self {
             FaultCode::BadByte => "BAD_BYTE",
@@ -101,7 +101,7 @@ pub struct Fault {
 }
 
 impl Fault {
-    /// The fault of this code at this place.
+    /// Gives the fault of this code at this place.
     pub fn at(code: FaultCode, span: Span) -> Fault
         ensures { result ≡ record { code = code; line = span.line; column = span.column } }
     {
@@ -135,7 +135,7 @@ impl Fault {
         }
     }
 
-    /// The host refused memory: a fault of no place of the text, which stands at its beginning.
+    /// Says that the host refused memory: a fault of no place of the text, which stands at its beginning.
     pub fn memory() -> Fault
         ensures { result ≡ record { code = FaultCode.Memory; line = 1; column = 1 } }
     {

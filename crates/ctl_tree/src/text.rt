@@ -23,7 +23,7 @@ impl Model for Text {
 }
 
 impl Text {
-    /// No byte.
+    /// Makes a text of no byte.
     pub fn new(alloc: Global) -> Text
         ensures { result ≡ [] }
     {
@@ -32,7 +32,7 @@ impl Text {
         }
     }
 
-    /// A copy of these bytes.
+    /// Makes a text of a copy of these bytes.
     pub fn from_slice(alloc: Global, bytes: &[u8]) -> Result<Text, AllocError>
         ensures { IfOk result (λ t. t ≡ bytes.now) }
     {
@@ -41,21 +41,21 @@ impl Text {
         })
     }
 
-    /// These bytes themselves.
+    /// Makes a text of these bytes themselves.
     pub fn from_vec(bytes: Vec<u8>) -> Text
         ensures { result ≡ bytes.items }
     {
         Text { bytes }
     }
 
-    /// The bytes.
+    /// Gives the bytes.
     pub fn as_bytes(&self) -> &[u8]
         ensures { result.now ≡ self.now }
     {
         self.bytes.as_slice()
     }
 
-    /// One more byte at the end; unchanged where memory is refused.
+    /// Adds one more byte at the end; unchanged where memory is refused.
     pub fn push(&mut self, byte: u8) -> Result<(), AllocError>
         ensures ok { OnOk result (self.new ≡ self.old ++ byte ∷ []) }
         ensures err { OnErr result (self.new ≡ self.old) }
@@ -64,7 +64,7 @@ impl Text {
         Ok(())
     }
 
-    /// More bytes at the end; unchanged where memory is refused.
+    /// Adds more bytes at the end; unchanged where memory is refused.
     pub fn push_all(&mut self, bytes: &[u8]) -> Result<(), AllocError>
         ensures ok { OnOk result (self.new ≡ self.old ++ bytes.now) }
         ensures err { OnErr result (self.new ≡ self.old) }
@@ -73,7 +73,7 @@ impl Text {
         Ok(())
     }
 
-    /// A copy.
+    /// Makes a copy.
     pub fn copied(&self, alloc: Global) -> Result<Text, AllocError>
         ensures { IfOk result (λ t. t ≡ self.now) }
     {
@@ -98,7 +98,7 @@ impl Model for Path {
 }
 
 impl Path {
-    /// The way to the whole object.
+    /// Makes the way to the whole object.
     pub fn new(alloc: Global) -> Path
         ensures { result ≡ [] }
     {
@@ -107,7 +107,7 @@ impl Path {
         }
     }
 
-    /// The way along these positions.
+    /// Makes the way along these positions.
     pub fn from_slice(alloc: Global, positions: &[u64]) -> Result<Path, AllocError>
         ensures { IfOk result (λ p. p ≡ positions.now) }
     {
@@ -116,14 +116,14 @@ impl Path {
         })
     }
 
-    /// The positions.
+    /// Gives the positions.
     pub fn as_slice(&self) -> &[u64]
         ensures { result.now ≡ self.now }
     {
         self.positions.as_slice()
     }
 
-    /// One position further; unchanged where memory is refused.
+    /// Goes one position further; unchanged where memory is refused.
     pub fn push(&mut self, position: u64) -> Result<(), AllocError>
         ensures ok { OnOk result (self.new ≡ self.old ++ position ∷ []) }
         ensures err { OnErr result (self.new ≡ self.old) }

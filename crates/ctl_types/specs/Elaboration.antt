@@ -173,7 +173,7 @@ inside around g d =
       giving = g;
     }
 
--- a block is left by the exits, returns and raises that stand in it (5.7, 6.5, 11.3)
+-- a block is left by the transfers of control that stand in it (5.7, 6.5, 11.3)
 abbrev pub inside_block : Around → Draft → Around
 inside_block around d = record (inside around around.giving d) { looping = around.looping; handling = around.handling }
 

@@ -49,7 +49,7 @@ pub fn inside(around: Around, giving: Giving, draft: &Draft) -> Result<Around, A
     })
 }
 
-/// Answers what stands around the items of a block: the exits, returns and raises in it may leave what stands around it (RM 5.7, 6.5).
+/// Answers what stands around the items of a block: the transfers of control in it may leave what stands around it (RM 5.7, 6.5).
 pub fn inside_block(around: Around, draft: &Draft) -> Result<Around, AllocError>
     ensures { IfOk result (λ inner. inner ≡ spec.inside_block around draft.now) }
 {

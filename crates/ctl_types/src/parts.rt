@@ -212,7 +212,7 @@ pub fn statement(
     }
 }
 
-/// Judges statements, one behind the other (RM 5.1).
+/// Judges statements, one after the other (RM 5.1).
 #[cycle(part)]
 fn sequence(
     alloc: Global,
@@ -409,7 +409,7 @@ fn declarative_part(
     end_part(alloc, judged, waiting, around, draft)
 }
 
-/// Judges the items of a part, one behind the other (RM 3.11).
+/// Judges the items of a part, one after the other (RM 3.11).
 #[cycle(part)]
 fn items_in_order(
     alloc: Global,
@@ -543,7 +543,7 @@ fn handlers(
     handlers_in_order(alloc, handlers, place, around, draft)
 }
 
-/// Judges handlers, one behind the other.
+/// Judges handlers, one after the other.
 #[cycle(part)]
 fn handlers_in_order(
     alloc: Global,

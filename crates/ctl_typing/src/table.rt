@@ -111,7 +111,7 @@ pub struct RecordEntry {
     pub deeds: Items<Deed>,
 }
 
-/// What changes of a record type behind its declaration.
+/// What changes of a record type after its declaration.
 #[derive(Clone, Copy, Debug, PartialEq, Eq)]
 pub struct RecordState {
     /// the operations that the user wrote for it, its own or inherited
@@ -187,7 +187,7 @@ pub struct Tables {
     pub states: States,
 }
 
-/// What changes of the types behind their declarations.
+/// What changes of the types after their declarations.
 #[derive(Drop)]
 pub struct States {
     /// of each record type

@@ -9,7 +9,7 @@ use Rattle.ctl_meaning.proofs.worked.Build.{Program, access_type, assign, at, bl
 use Rattle.ctl_meaning.specs.Choice.{oldest}
 use Rattle.ctl_meaning.specs.Run.{opened_meaning, outcome}
 
-abbrev the_program : Program
+abbrev pub the_program : Program
 the_program =
     program (counted_type ∷ record_type 2 Controlled (Some 1) (component Integer (Some (constant 0)) ∷ component (Access 0) None ∷ []) (operations None None (Some 2)) ∷ [])
     (access_type 2 0 (Record 5) None ∷ [])
