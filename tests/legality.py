@@ -23,7 +23,7 @@ import subprocess
 import sys
 import tempfile
 
-from answers import LIMIT, tell
+from answers import LIMIT, fault_told, tell
 
 HERE = os.path.dirname(os.path.abspath(__file__))
 
@@ -55,15 +55,13 @@ class Case:
 
     def complaint(self, said):
         """What differs in this answer, or None."""
-        if self.fault is None:
-            wanted = "ok"
-        else:
+        wanted = "ok"
+        if self.fault is not None:
             number, line, column = self.fault
-            wanted = f"{line}:{column}: {number}"
-        told = " ".join(said.split(" ")[:2])
+            wanted = fault_told(line, column, number)
         if self.is_open:
-            return f"{self.name}: {said!r}, as it should be" if told == wanted else None
-        return None if told == wanted else f"{self.name}: {said!r}, not {wanted!r}"
+            return f"{self.name}: {said!r}, as it should be" if said == wanted else None
+        return None if said == wanted else f"{self.name}: {said!r}, not {wanted!r}"
 
 
 def framed_text(lines):

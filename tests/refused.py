@@ -8,7 +8,7 @@ import os
 import sys
 import tempfile
 
-from answers import answer, tell
+from answers import answer, fault_told, tell
 
 # in place of the number of a fault
 ACCEPTED = 0
@@ -109,6 +109,7 @@ TEXTS = [
     ("procedure Main is task T; begin null; end Main;", 12, 1, 19),
     # a broken rule on names comes before a construct that is left out, wherever they stand
     ("procedure Main is begin Put_Line (\"x\"); end Main;", 20, 1, 25),
+    ("procedure Main is begin begin Put_Line (\"x\"); end; end Main;", 20, 1, 31),
     # a record is run where its components are: of Integer, Boolean, Storage_Count, Address or an access type, or of another such record
     (ITEM + "type R is record N : Integer; end record; type Q is record X : R; end record; Y : Q; begin Y.X.N := 1; end Main;", ACCEPTED, 1, 1),
     (ITEM + "type R is record N : Integer := 1; end record; type Q is record X : R; end record; Y : Q; begin null; end Main;", ACCEPTED, 1, 1),
@@ -147,6 +148,7 @@ TEXTS = [
     # a type that no object has does nothing when it is elaborated
     (ITEM + "type R is record N : Integer; end record; begin null; end Main;", ACCEPTED, 1, 1),
     (ITEM + "type R is record N : Integer; end record; begin X := 1; end Main;", 20, 1, 67),
+    (ITEM + "type R is record N : Integer; end record; X : R; begin X := 1; end Main;", 30, 1, 79),
     (ITEM + "X, X : Integer; begin null; end Main;", 21, 1, 22),
     (ITEM + "procedure P; begin null; end Main;", 22, 1, 29),
     (ITEM + "procedure P is begin null; end P; type R is record N : Integer; end record; begin null; end Main;", 23, 1, 53),
@@ -336,8 +338,8 @@ def complaints(adactl):
             with open(path, "wb") as file:
                 file.write(text.encode("latin-1"))
             status, said = answer(adactl, path)
-            is_so = status == 0 if code == ACCEPTED else status == 2 and said.startswith(f"adactl: {line}:{column}: {code} ")
-            yield None if is_so else f"{text[:60]!r}: {status} {said!r}, not {line}:{column}: {code}"
+            wanted = (0, "") if code == ACCEPTED else (2, f"adactl: {fault_told(line, column, code)}")
+            yield None if (status, said) == wanted else f"{text[:60]!r}: {status} {said!r}, not {wanted}"
 
 
 if __name__ == "__main__":

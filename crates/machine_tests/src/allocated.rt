@@ -127,25 +127,6 @@ fn traced_of(alloc: Global, lines: &[Line], order: Order) -> Result<String, Fail
     traced(alloc, outcome_of(alloc, code, order, 1000)?)
 }
 
-#[test]
-fn members_end_with_the_master(rt: HostRuntime) -> Result<(), Fail> {
-    let lines = lines_with(GATHER, NEW, VALUE, OBJECT);
-    for (order, wanted) in [
-        (
-            Order::Newest,
-            "live 1 c1\nlive 2 c1\nprint  7\nnewline\nfinalize 2 collection\nfinalize 1 collection\nend done\npicks [1]\n",
-        ),
-        (
-            Order::Oldest,
-            "live 1 c1\nlive 2 c1\nprint  7\nnewline\nfinalize 1 collection\nfinalize 2 collection\nend done\npicks [0]\n",
-        ),
-    ] {
-        let traced = traced_of(rt.alloc(), &lines, order)?;
-        assert_eq!(rt; traced.as_str(), wanted);
-    }
-    Ok(())
-}
-
 /// A collection that is no layer is not emptied, and goes with its master.
 #[test]
 fn collections_without_a_layer_are_not_emptied(rt: HostRuntime) -> Result<(), Fail> {

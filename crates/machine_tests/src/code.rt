@@ -1,18 +1,12 @@
 //! Codes that are accepted, and codes with one fault each.
 
 use crate::codes::{Part, add_text, code_of, completed, is_well_formed};
-use crate::lines::{ADD, AND, CELL_1, CELL_2, CELL_3, CELL_4, EQUAL, FIRST, Line, SECOND};
-use ctl_code::code::{Cell, Code, Instr, Named, Operations, Way};
+use crate::lines::{ADD, AND, CELL_1, CELL_2, CELL_3, CELL_4, CELL_5, EQUAL, FIRST, Line, SECOND};
+use ctl_code::code::{Code, Instr, Operations, Way};
 use ctl_program::operators::{Direction, Shortcut, UnaryOp};
 use ctl_program::types::Ty;
 use std::alloc::{AllocError, Global};
 use std::test::Fail;
-
-/// The operand in cell 5.
-const CELL_5: Cell = Cell {
-    at: 5,
-    named: Named::Operand,
-};
 
 /// The code of an empty main procedure.
 const EMPTY: &[Line] = &[(Instr::Start(0), ""), (Instr::Leave, "m")];

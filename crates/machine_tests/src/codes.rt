@@ -242,58 +242,6 @@ pub fn valid_code_with(
     validated(code_with(alloc, lines, finalizers, layout)?)
 }
 
-/// The only record type has these operations, and Program_Error is the second exception.
-fn give_operations(
-    code: &mut Code,
-    alloc: Global,
-    operations: Operations,
-) -> Result<(), AllocError> {
-    code.records.clear();
-    code.records.push(operations)?;
-    add_exception(code, alloc, b"PROGRAM_ERROR")
-}
-
-/// The code of these lines, which is well formed, where the first record type has this layout, and the body at this place is its Adjust.
-/// Exceptions are Constraint_Error and Program_Error.
-pub fn valid_code_with_adjust(
-    alloc: Global,
-    lines: &[Line],
-    adjust: usize,
-    layout: Layout,
-) -> Result<ValidCode, Fail> {
-    let mut code = code_with(alloc, lines, &[adjust], layout)?;
-    let operations = Operations {
-        initialize: None,
-        adjust: Some(1),
-        finalize: None,
-        allocate: None,
-        deallocate: None,
-    };
-    let added = give_operations(&mut code, alloc, operations);
-    validated(completed(code, added)?)
-}
-
-/// The code of these lines, which is well formed, whose record type has the body at the first place as its Finalize and the one at the
-/// second as its Adjust. Exceptions are Constraint_Error and Program_Error.
-pub fn valid_code_with_both(
-    alloc: Global,
-    lines: &[Line],
-    finalize: usize,
-    adjust: usize,
-) -> Result<ValidCode, Fail> {
-    let mut code = code_of(alloc, lines, &[finalize, adjust])?;
-    drop(code.layouts.pop());
-    let operations = Operations {
-        initialize: None,
-        adjust: Some(2),
-        finalize: Some(1),
-        allocate: None,
-        deallocate: None,
-    };
-    let added = give_operations(&mut code, alloc, operations);
-    validated(completed(code, added)?)
-}
-
 /// The code of these lines, which is well formed.
 pub fn valid_code_of(
     alloc: Global,

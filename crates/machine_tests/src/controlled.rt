@@ -1,16 +1,13 @@
-//! Objects with controlled parts: their parts are created one chosen after another, and finalized behind the whole; where one fails, those
-//! that are complete are finalized.
+//! Layouts of objects with controlled parts: those that their types, their operations or their controlled components do not fit are refused.
 
-use crate::codes::{code_of, completed, is_well_formed, validated};
+use crate::codes::{code_of, completed, is_well_formed};
 use crate::lines::{BODY_LEVEL, BODY_SLOTS, Line, UNITS};
-use crate::runs::{outcome_of, traced};
-use ctl_code::code::{Begun, Code, Entry, Initial, Instr, Layout, Operations, Parts, Way};
+use ctl_code::code::{Begun, Code, Entry, Initial, Instr, Layout, Operations, Parts};
 use ctl_program::operators::SubprogramKind;
-use ctl_tree::request::Order;
 use std::alloc::{AllocError, Global};
 use std::test::Fail;
 
-/// A block declares an object of the last record type; behind it stand a body that does nothing and one that raises Constraint_Error.
+/// A block declares an object of the last record type; behind it stands a body that does nothing.
 const DECLARED: &[Line] = &[
     (Instr::Start(0), ""),
     (
@@ -25,7 +22,6 @@ const DECLARED: &[Line] = &[
     (Instr::Skip(0), "m"),
     (Instr::Leave, "m"),
     (Instr::Leave, "f"),
-    (Instr::Transfer(Way::Raise(0)), "f"),
 ];
 
 /// The body that does nothing, by its number and its place.
@@ -33,15 +29,8 @@ const SILENT: usize = 1;
 
 const SILENT_PLACE: usize = 6;
 
-/// The body that raises an exception.
-const RAISING: usize = 2;
-
-const RAISING_PLACE: usize = 7;
-
-/// The record types of the components.
+/// The record type of the components.
 const FIRST_TYPE: usize = 0;
-
-const SECOND_TYPE: usize = 1;
 
 /// The number of no record type.
 const PAST_THE_TABLE: usize = 3;
@@ -51,12 +40,12 @@ const PAST_THE_TABLE: usize = 3;
 enum Shape<'a> {
     /// a controlled type with one cell, whose component begins with 7
     Part,
-    /// a type with such parts, whose components are of these types, each with one cell and a controlled part
-    Whole(Parts, &'a [usize]),
+    /// a controlled type whose components are of these types, each with one cell and a controlled part
+    Whole(&'a [usize]),
 }
 
 /// A controlled type with two controlled parts.
-const TWO_PARTS: Shape<'static> = Shape::Whole(Parts::Controlled, &[FIRST_TYPE, FIRST_TYPE]);
+const TWO_PARTS: Shape<'static> = Shape::Whole(&[FIRST_TYPE, FIRST_TYPE]);
 
 /// The operations of a record type: these two, and no Adjust.
 fn operations(initialize: Option<usize>, finalize: Option<usize>) -> Operations {
@@ -99,12 +88,12 @@ const SEVEN: Begun = Begun {
 
 /// The layout of this record type.
 fn layout_of(alloc: Global, shape: Shape) -> Result<Layout, AllocError> {
-    let (parts, cells) = match shape {
-        Shape::Part => (Parts::Controlled, 1),
-        Shape::Whole(parts, types) => (parts, types.len()),
+    let cells = match shape {
+        Shape::Part => 1,
+        Shape::Whole(types) => types.len(),
     };
     let mut layout = Layout {
-        parts,
+        parts: Parts::Controlled,
         level: BODY_LEVEL,
         cells,
         content: UNITS,
@@ -115,7 +104,7 @@ fn layout_of(alloc: Global, shape: Shape) -> Result<Layout, AllocError> {
     };
     let added = match shape {
         Shape::Part => add_component(&mut layout, SEVEN),
-        Shape::Whole(_, types) => add_parts(&mut layout, types),
+        Shape::Whole(types) => add_parts(&mut layout, types),
     };
     match added {
         Ok(()) => Ok(layout),
@@ -126,16 +115,14 @@ fn layout_of(alloc: Global, shape: Shape) -> Result<Layout, AllocError> {
     }
 }
 
-/// Adds the bodies behind the main procedure.
-fn add_bodies(code: &mut Code) -> Result<(), AllocError> {
-    for place in [SILENT_PLACE, RAISING_PLACE] {
-        code.entries.push(Entry {
-            kind: SubprogramKind::Procedure,
-            level: BODY_LEVEL,
-            slots: BODY_SLOTS,
-            place,
-        })?;
-    }
+/// Adds the body behind the main procedure.
+fn add_body(code: &mut Code) -> Result<(), AllocError> {
+    code.entries.push(Entry {
+        kind: SubprogramKind::Procedure,
+        level: BODY_LEVEL,
+        slots: BODY_SLOTS,
+        place: SILENT_PLACE,
+    })?;
     Ok(())
 }
 
@@ -155,14 +142,14 @@ fn add_layouts(code: &mut Code, alloc: Global, shapes: &[Shape]) -> Result<(), A
     Ok(())
 }
 
-/// Adds the bodies, and the record types of these shapes with these operations.
+/// Adds the body, and the record types of these shapes with these operations.
 fn add_types(
     code: &mut Code,
     alloc: Global,
     shapes: &[Shape],
     records: &[Operations],
 ) -> Result<(), AllocError> {
-    add_bodies(code)?;
+    add_body(code)?;
     add_layouts(code, alloc, shapes)?;
     add_operations(code, records)
 }
@@ -184,94 +171,10 @@ fn code_with(alloc: Global, last: Shape) -> Result<Code, AllocError> {
     )
 }
 
-/// An object that is not controlled, with one component of a record type that is not either, which has one controlled part.
-fn code_of_nested(alloc: Global) -> Result<Code, AllocError> {
-    let none = operations(None, None);
-    unchecked(
-        alloc,
-        &[
-            Shape::Part,
-            Shape::Whole(Parts::Within, &[FIRST_TYPE]),
-            Shape::Whole(Parts::Within, &[SECOND_TYPE]),
-        ],
-        &[operations(Some(SILENT), Some(SILENT)), none, none],
-    )
-}
-
-/// A controlled object with three controlled parts, whose last one's Initialize raises an exception.
-fn code_of_failing(alloc: Global) -> Result<Code, AllocError> {
-    unchecked(
-        alloc,
-        &[
-            Shape::Part,
-            Shape::Part,
-            Shape::Whole(Parts::Controlled, &[FIRST_TYPE, FIRST_TYPE, SECOND_TYPE]),
-        ],
-        &[
-            operations(Some(SILENT), Some(SILENT)),
-            operations(Some(RAISING), Some(SILENT)),
-            operations(Some(SILENT), Some(SILENT)),
-        ],
-    )
-}
-
-/// The trace of a run of this code to its end, and its picks.
-fn traced_of(alloc: Global, code: Code, order: Order) -> Result<String, Fail> {
-    traced(alloc, outcome_of(alloc, validated(code)?, order, 1000)?)
-}
-
-#[test]
-fn parts_are_created_before_the_whole_and_finalized_behind_it(rt: HostRuntime) -> Result<(), Fail> {
-    let alloc = rt.alloc();
-    for (order, wanted) in [
-        (
-            Order::Newest,
-            "initialize 1.2\nlive 1.2 m2\ninitialize 1.1\nlive 1.1 m2\nlive 1 m2\nfinalize 1 scope\nfinalize 1.2 scope\nfinalize 1.1 scope\nend done\npicks [1, 1]\n",
-        ),
-        (
-            Order::Oldest,
-            "initialize 1.1\nlive 1.1 m2\ninitialize 1.2\nlive 1.2 m2\nlive 1 m2\nfinalize 1 scope\nfinalize 1.1 scope\nfinalize 1.2 scope\nend done\npicks [0, 0]\n",
-        ),
-    ] {
-        let traced = traced_of(alloc, code_with(alloc, TWO_PARTS)?, order)?;
-        assert_eq!(rt; traced.as_str(), wanted);
-    }
-    Ok(())
-}
-
-#[test]
-fn a_part_at_any_depth_is_finalized(rt: HostRuntime) -> Result<(), Fail> {
-    let alloc = rt.alloc();
-    let traced = traced_of(alloc, code_of_nested(alloc)?, Order::Newest)?;
-    assert_eq!(rt;
-        traced.as_str(),
-        "initialize 1.1.1\nlive 1.1.1 m2\nfinalize 1.1.1 scope\nend done\npicks []\n"
-    );
-    Ok(())
-}
-
-#[test]
-fn what_is_complete_is_finalized_where_a_part_fails(rt: HostRuntime) -> Result<(), Fail> {
-    let alloc = rt.alloc();
-    for (order, wanted) in [
-        (
-            Order::Oldest,
-            "initialize 1.1\nlive 1.1 m2\ninitialize 1.2\nlive 1.2 m2\ninitialize 1.3\nfinalize 1.1 failed\nfinalize 1.2 failed\nend raised CONSTRAINT_ERROR\npicks [0, 0, 0]\n",
-        ),
-        (
-            Order::Newest,
-            "initialize 1.3\nend raised CONSTRAINT_ERROR\npicks [2]\n",
-        ),
-    ] {
-        let traced = traced_of(alloc, code_of_failing(alloc)?, order)?;
-        assert_eq!(rt; traced.as_str(), wanted);
-    }
-    Ok(())
-}
-
 #[test]
 fn layouts_are_looked_at(rt: HostRuntime) -> Result<(), Fail> {
     let alloc = rt.alloc();
+    assert!(rt; is_well_formed(code_with(alloc, TWO_PARTS)?));
     let mut deep = code_with(alloc, TWO_PARTS)?;
     if let Some(layout) = deep.layouts.last_mut() {
         layout.level = BODY_LEVEL - 1;
@@ -281,7 +184,7 @@ fn layouts_are_looked_at(rt: HostRuntime) -> Result<(), Fail> {
         "a Finalize that is declared deeper than its type"
     );
     let types = [FIRST_TYPE, PAST_THE_TABLE];
-    let unknown = code_with(alloc, Shape::Whole(Parts::Controlled, &types))?;
+    let unknown = code_with(alloc, Shape::Whole(&types))?;
     assert!(rt;
         !is_well_formed(unknown),
         "a component of a type past the table"

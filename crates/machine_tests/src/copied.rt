@@ -1,11 +1,10 @@
-//! What a formal holds in the end of its body is an operand where the call goes on, and goes back to a variable (RM 6.4.1).
+//! What a formal holds in the end of its body is an operand where the call goes on, and goes back to a variable (RM 6.4.1): codes in which
+//! it does not stand there are refused.
 
-use crate::codes::{code_of, is_well_formed, valid_code_of};
+use crate::codes::{code_of, is_well_formed};
 use crate::lines::{ADD, CELL_2, FIRST, Line, SECOND};
-use crate::runs::{outcome_of, told};
-use ctl_code::code::{Instr, Way};
+use ctl_code::code::Instr;
 use ctl_program::types::Ty;
-use ctl_tree::request::Order;
 use std::alloc::{AllocError, Global};
 use std::test::Fail;
 
@@ -51,7 +50,7 @@ const INCREASE: Instr = Instr::BinaryConstant {
 /// Where the procedure stands.
 const BODY: usize = 9;
 
-/// A variable takes what the formal holds behind the call, and is printed; so is what it has where the body is left otherwise.
+/// A variable takes what the formal holds behind the call, and is printed.
 const LINES: [Line; 11] = [
     (Instr::Start(0), ""),
     (Instr::Handle(6), "m"),
@@ -66,45 +65,11 @@ const LINES: [Line; 11] = [
     (Instr::Leave, "f"),
 ];
 
-/// The same, where the body is left by this.
-fn lines_with(end: Instr) -> [Line; 11] {
-    let mut lines = LINES;
-    lines[10] = (end, "f");
-    lines
-}
-
-/// The same, with this in the place of the copy that goes back.
+/// These lines, with this in the place of the copy that goes back.
 fn lines_with_back(back: Instr) -> [Line; 11] {
-    let mut lines = lines_with(Instr::Leave);
+    let mut lines = LINES;
     lines[4] = (back, "mi");
     lines
-}
-
-/// What these lines print, and how the run ends.
-fn told_of_lines(alloc: Global, lines: &[Line]) -> Result<String, Fail> {
-    let code = valid_code_of(alloc, lines, &[BODY])?;
-    told(alloc, outcome_of(alloc, code, Order::Newest, 1000)?)
-}
-
-#[test]
-fn a_copy_goes_back(rt: HostRuntime) -> Result<(), Fail> {
-    let alloc = rt.alloc();
-    for end in [Instr::Leave, Instr::Transfer(Way::Return)] {
-        let told = told_of_lines(alloc, &lines_with(end))?;
-        assert_eq!(rt; told.as_str(), " 21\ndone");
-    }
-    Ok(())
-}
-
-#[test]
-fn no_copy_goes_back_behind_an_exception(rt: HostRuntime) -> Result<(), Fail> {
-    let alloc = rt.alloc();
-    let mut lines = lines_with(Instr::Transfer(Way::Raise(0)));
-    // The handler begins where the variable is printed.
-    lines[1] = (Instr::Handle(4), "m");
-    let told = told_of_lines(alloc, &lines)?;
-    assert_eq!(rt; told.as_str(), " 0\ndone");
-    Ok(())
 }
 
 /// Whether the code of these lines is well formed.
@@ -124,7 +89,7 @@ fn only_what_stands_there_goes_back(rt: HostRuntime) -> Result<(), Fail> {
         };
         assert!(rt; is_accepted(alloc, &lines_with_back(back))? == is_valid);
     }
-    let mut lines = lines_with(Instr::Leave);
+    let mut lines = LINES;
     lines[5] = (Instr::Discard(2), "mi");
     assert!(rt; !is_accepted(alloc, &lines)?);
     Ok(())
@@ -133,7 +98,7 @@ fn only_what_stands_there_goes_back(rt: HostRuntime) -> Result<(), Fail> {
 /// No more formals give back what they hold than there are actuals.
 #[test]
 fn there_are_no_more_copies_than_actuals(rt: HostRuntime) -> Result<(), Fail> {
-    let mut lines = lines_with(Instr::Leave);
+    let mut lines = LINES;
     lines[3] = (
         Instr::Call {
             procedure: 1,

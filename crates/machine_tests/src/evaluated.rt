@@ -1,12 +1,10 @@
-//! Functions are called in expressions: their values are operands, or their exceptions go on.
+//! Functions are called in expressions, where their values are operands, and procedures in statements: codes that mix them up are refused.
 
-use crate::codes::{MAIN, add_exception, code_of, completed, is_well_formed, validated};
+use crate::codes::{MAIN, add_exception, code_of, completed, is_well_formed};
 use crate::lines::{ADD, BODY_LEVEL, BODY_SLOTS, CELL_2, CELL_3, FIRST, Line};
-use crate::runs::{outcome_of, told};
-use ctl_code::code::{Code, Entry, Instr, Operations, Way};
+use ctl_code::code::{Code, Entry, Instr, Operations};
 use ctl_program::operators::SubprogramKind;
 use ctl_program::types::Ty;
-use ctl_tree::request::Order;
 use std::alloc::{AllocError, Global};
 use std::test::Fail;
 
@@ -56,15 +54,6 @@ const RETURN_FORMAL: Instr = Instr::Return {
 /// Where the function stands that returns its formal.
 const IDENTITY: usize = 7;
 
-/// Where one stands that returns a constant.
-const CONSTANT: usize = 9;
-
-/// Where one stands that reaches its end.
-const WITHOUT_VALUE: usize = 11;
-
-/// Where one stands that raises the first exception.
-const RAISING: usize = 12;
-
 /// A sum of a number and the value of a function is printed.
 const SUMS: &[Line] = &[
     (Instr::Start(0), ""),
@@ -75,11 +64,6 @@ const SUMS: &[Line] = &[
     (Instr::Put { text: 1, first: 2 }, "mi"),
     (Instr::Leave, "m"),
     (RETURN_FORMAL, "f"),
-    (Instr::Leave, "f"),
-    (Instr::Transfer(Way::ReturnValue(41)), "f"),
-    (Instr::Leave, "f"),
-    (Instr::Leave, "f"),
-    (Instr::Transfer(Way::Raise(0)), "f"),
     (Instr::Leave, "f"),
 ];
 
@@ -129,33 +113,6 @@ fn code_with(
     let mut code = code_of(alloc, lines, &[place])?;
     let changed = change_body(&mut code, alloc, place, kind);
     completed(code, changed)
-}
-
-/// What the sum with the function at this place prints, and how the run ends.
-fn told_with(alloc: Global, function: usize) -> Result<String, Fail> {
-    let code = validated(code_with(alloc, SUMS, function, SubprogramKind::Function)?)?;
-    told(alloc, outcome_of(alloc, code, Order::Newest, 1000)?)
-}
-
-#[test]
-fn a_value_is_an_operand(rt: HostRuntime) -> Result<(), Fail> {
-    for (function, wanted) in [(IDENTITY, " 21done"), (CONSTANT, " 42done")] {
-        let told = told_with(rt.alloc(), function)?;
-        assert_eq!(rt; told.as_str(), wanted);
-    }
-    Ok(())
-}
-
-#[test]
-fn a_function_without_a_value_raises(rt: HostRuntime) -> Result<(), Fail> {
-    for (function, wanted) in [
-        (WITHOUT_VALUE, "raised PROGRAM_ERROR"),
-        (RAISING, "raised CONSTRAINT_ERROR"),
-    ] {
-        let told = told_with(rt.alloc(), function)?;
-        assert_eq!(rt; told.as_str(), wanted);
-    }
-    Ok(())
 }
 
 #[test]

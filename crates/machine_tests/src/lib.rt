@@ -4,10 +4,6 @@
 #[cfg(test)]
 mod allocated;
 #[cfg(test)]
-mod assigned;
-#[cfg(test)]
-mod called;
-#[cfg(test)]
 mod code;
 #[cfg(test)]
 mod codes;
@@ -25,5 +21,3 @@ mod lines;
 mod machine;
 #[cfg(test)]
 mod runs;
-#[cfg(test)]
-mod selected;

@@ -31,12 +31,6 @@ pub const SECOND: Cell = Cell {
     named: Named::Variable { out: 0, slot: 1 },
 };
 
-/// The first slot of the main procedure, in a block of its.
-pub const OUTER: Cell = Cell {
-    at: 0,
-    named: Named::Variable { out: 1, slot: 0 },
-};
-
 /// The operand in cell 1, the first of a body with one slot.
 pub const CELL_1: Cell = Cell {
     at: 1,
@@ -69,30 +63,6 @@ pub const CELL_5: Cell = Cell {
 
 pub const ADD: Operator = Operator {
     op: BinaryOp::Add,
-    operands: Ty::Integer,
-    result: Ty::Integer,
-};
-
-pub const MULTIPLY: Operator = Operator {
-    op: BinaryOp::Multiply,
-    operands: Ty::Integer,
-    result: Ty::Integer,
-};
-
-pub const DIVIDE: Operator = Operator {
-    op: BinaryOp::Divide,
-    operands: Ty::Integer,
-    result: Ty::Integer,
-};
-
-pub const MODULO: Operator = Operator {
-    op: BinaryOp::Modulo,
-    operands: Ty::Integer,
-    result: Ty::Integer,
-};
-
-pub const REMAINDER: Operator = Operator {
-    op: BinaryOp::Remainder,
     operands: Ty::Integer,
     result: Ty::Integer,
 };

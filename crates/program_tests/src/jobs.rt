@@ -1,11 +1,14 @@
 //! Jobs on source texts, with readers and writers that fail.
 
+use crate::texts::{EMPTY, TWO_OBJECTS, TWO_OBJECTS_OUTPUT, TWO_OBJECTS_TRACE};
 use ctl_job::{Job, UsageFault};
 use ctl_machine::outcome::Outcome;
 use ctl_run::run::run_source;
 use ctl_serve::report::{Picks, say, say_end};
 use ctl_serve::status::{Status, status_of_end};
-use ctl_serve::{Reading, RunFault, Summary, put_run, refuse_words, run_into, serve, serve_into};
+use ctl_serve::{
+    Reading, RunFault, Summary, put_run, refuse_file, refuse_words, run_into, serve, serve_into,
+};
 use ctl_sink::{Sink, Through};
 use ctl_tree::ending::{End, Stop};
 use ctl_tree::fault::Fault;
@@ -15,24 +18,7 @@ use linked_list_allocator::LocalHeap;
 use std::alloc::{AllocError, Global};
 use std::io;
 use std::io::{Read, Write};
-use std::process::Abort;
 use std::test::Fail;
-
-/// Nothing is declared, and nothing shown.
-const EMPTY: &str = "procedure Main is begin null; end Main;";
-
-/// Two objects of a block, of types whose Finalize prints; the second type's Initialize prints too.
-const TWO_OBJECTS: &str =
-    "with Ada.Finalization; use Ada.Finalization; with Ada.Text_IO; use Ada.Text_IO; procedure Main is type A is new Controlled with null record; type B is new Controlled with null record; overriding procedure Finalize (X : in out A); overriding procedure Initialize (X : in out B); overriding procedure Finalize (X : in out B); procedure Finalize (X : in out A) is begin Put_Line (\"a\"); end Finalize; procedure Initialize (X : in out B) is begin Put_Line (\"i\"); end Initialize; procedure Finalize (X : in out B) is begin Put_Line (\"b\"); end Finalize; begin declare V : A; W : B; begin Put_Line (\"in\"); end; Put_Line (\"out\"); end Main;";
-
-const TWO_OBJECTS_OUTPUT: &str = "i\nin\nb\na\nout\n";
-
-const TWO_OBJECTS_TRACE: &str =
-    "live 1 m2\ninitialize 2\nprint i\nnewline\nlive 2 m2\nprint in\nnewline\nfinalize 2 scope\nprint b\nnewline\nfinalize 1 scope\nprint a\nnewline\nprint out\nnewline\nend done\n";
-
-/// An object whose type has three components with defaults and one without.
-const DEFAULTS: &str =
-    "with Ada.Finalization; use Ada.Finalization; procedure Main is type A is new Controlled with record N : Integer := 4; B : Boolean; C : Boolean := True; M : Integer := 7; end record; overriding procedure Finalize (X : in out A); procedure Finalize (X : in out A) is begin null; end Finalize; begin declare V : A; begin null; end; end Main;";
 
 /// A writer over memory that takes at most so many bytes at a time, and so many in all; then it takes none, or answers
 /// an error. A flush may fail, as that of a buffer before a full device.
@@ -111,16 +97,6 @@ fn run_job(alloc: Global, show: Show, steps: u64) -> Job {
     }
 }
 
-/// A job to run a file in an order, and to show the trace.
-pub(crate) fn order_job(alloc: Global, order: Order) -> Job {
-    Job::Run {
-        file: String::new(alloc),
-        show: Show::Trace,
-        order,
-        steps: 1000,
-    }
-}
-
 /// The status of a job on what a reader gives, with these outputs.
 fn serve_on<R: Read + Drop, W: Write, E: Write>(
     alloc: Global,
@@ -134,52 +110,13 @@ fn serve_on<R: Read + Drop, W: Write, E: Write>(
 }
 
 /// The status of a job on a text, what it printed and what it said, with bars between them.
-pub(crate) fn served(alloc: Global, job: Job, source: &str) -> Result<String, Fail> {
+fn served(alloc: Global, job: Job, source: &str) -> Result<String, Fail> {
     let mut out = Vec::new(alloc);
     let mut err = Vec::new(alloc);
     let status = serve_on(alloc, job, source.as_bytes(), &mut out, &mut err);
     let out = String::from_utf8(out).map_err(|_| "no text")?;
     let err = String::from_utf8(err).map_err(|_| "no text")?;
     Ok(format!(in alloc; "{status}|{out}|{err}")?)
-}
-
-/// Runs a text by an order, and compares its status, its trace and what it said, with bars between them.
-pub(crate) fn told(
-    rt: &impl Abort,
-    alloc: Global,
-    order: Order,
-    text: &str,
-    wanted: &str,
-) -> Result<(), Fail> {
-    let got = served(alloc, order_job(alloc, order), text)?;
-    assert_eq!(rt; got.as_str(), wanted, "a run");
-    Ok(())
-}
-
-/// Runs a text without choices that ends by itself, and compares what it printed and said.
-pub(crate) fn ran(rt: &impl Abort, alloc: Global, text: &str, wanted: &str) -> Result<(), Fail> {
-    let wanted = format!(in alloc; "0|{wanted}|adactl: picks none\n")?;
-    told(rt, alloc, Order::Newest, text, wanted.as_str())
-}
-
-/// Each component that takes its default is chosen among those that are left: a choice among three, one among two, and none (RM 7.6).
-#[test]
-fn choices_are_told_by_order(rt: HostRuntime) -> Result<(), Fail> {
-    let alloc = rt.alloc();
-    for (order, wanted) in [
-        (
-            Order::Newest,
-            "0|live 1 m2\nfinalize 1 scope\nend done\n|adactl: picks 2,1\n",
-        ),
-        (
-            Order::Oldest,
-            "0|live 1 m2\nfinalize 1 scope\nend done\n|adactl: picks 0,0\n",
-        ),
-    ] {
-        let got = served(alloc, order_job(alloc, order), DEFAULTS)?;
-        assert_eq!(rt; got.as_str(), wanted, "by order");
-    }
-    Ok(())
 }
 
 #[test]
@@ -276,6 +213,13 @@ fn other_words_have_status_64(rt: HostRuntime) {
     let mut err = Vec::new(alloc);
     assert_eq!(rt; refuse_words(UsageFault::Memory, &mut err), 5);
     assert_eq!(rt; err.as_slice(), b"adactl: host memory\n".as_slice());
+}
+
+#[test]
+fn a_file_that_is_not_opened_has_status_74(rt: HostRuntime) {
+    let mut err = Vec::new(rt.alloc());
+    assert_eq!(rt; refuse_file(&mut err), 74);
+    assert_eq!(rt; err.as_slice(), b"adactl: read failed\n".as_slice());
 }
 
 /// Runs a text into a writer, and answers what is known of the run and whether the sink failed.

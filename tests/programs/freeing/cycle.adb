@@ -1,0 +1,37 @@
+--  Two objects free one another: freeing an object that is being finalized is erroneous, and stops the run
+--  (RM 13.11.2).
+with Ada.Finalization; use Ada.Finalization;
+with Ada.Text_IO;      use Ada.Text_IO;
+with Ada.Unchecked_Deallocation;
+
+procedure Cycle is
+begin
+   declare
+      type Node;
+      type Link is access Node;
+
+      type Node is new Limited_Controlled with record
+         N    : Integer := 0;
+         Next : Link;
+      end record;
+
+      overriding procedure Finalize (X : in out Node);
+
+      procedure Free is new Ada.Unchecked_Deallocation (Node, Link);
+
+      procedure Finalize (X : in out Node) is
+      begin
+         Put_Line ("N" & Integer'Image (X.N));
+         Free (X.Next);
+      end Finalize;
+
+      A, B : Link;
+   begin
+      A := new Node;
+      B := new Node;
+      A.N := 1;
+      B.N := 2;
+      A.Next := B;
+      B.Next := A;
+   end;
+end Cycle;
