@@ -1,0 +1,44 @@
+--  Null designates no object, to free it does nothing, and an object is written to after it was freed: the program is
+--  erroneous there (RM 4.1, 13.11.2).
+with Ada.Finalization; use Ada.Finalization;
+with Ada.Text_IO;      use Ada.Text_IO;
+with Ada.Unchecked_Deallocation;
+
+procedure Written_After_Free is
+   type T is new Controlled with record
+      N : Integer := 0;
+   end record;
+
+   overriding procedure Adjust (X : in out T);
+   overriding procedure Finalize (X : in out T);
+
+   procedure Adjust (X : in out T) is
+   begin
+      Put_Line ("A" & Integer'Image (X.N));
+   end Adjust;
+
+   procedure Finalize (X : in out T) is
+   begin
+      Put_Line ("F" & Integer'Image (X.N));
+   end Finalize;
+begin
+   declare
+      type Ref is access T;
+
+      procedure Free is new Ada.Unchecked_Deallocation (T, Ref);
+
+      A, B : Ref;
+   begin
+      begin
+         A.N := 1;
+      exception
+         when Constraint_Error =>
+            Put_Line ("CE");
+      end;
+      A := new T;
+      B := A;
+      Free (A);
+      Free (A);
+      B.N := 1;
+   end;
+end Written_After_Free;
