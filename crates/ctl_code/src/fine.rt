@@ -10,7 +10,7 @@ ghost use Rattle.ctl_code.specs.declared.code.Cell.{Cell};
 ghost use Rattle.ctl_code.specs.declared.code.Operator.{Operator};
 ghost use Rattle.ctl_code.specs.declared.code.Instr.TheVariants as I;
 ghost use Rattle.ctl_code.specs.Kinds.{changed, stack_at};
-ghost use Rattle.ctl_code.specs.Valid.{HasFormals, HaveOperands, IsCalled, IsOperandAt, Bounded, DropsPart, IsAtEnd, IsDeclarable, IsEntry, IsFine, IsInScope, IsText, Leads, Puts, Taken, Takes, Under, outermost};
+ghost use Rattle.ctl_code.specs.Valid.{HasFormals, HaveOperands, IsCalled, IsOperandAt, Bounded, DropsPart, IsAtEnd, IsDeclarable, IsEntry, IsFine, IsInScope, IsText, Leads, Puts, Taken, Takes, Under};
 ghost use Rattle.ctl_code.specs.Windows.{depth, height, variable_at};
 
 use crate::accesses::{
@@ -604,16 +604,13 @@ fn is_copy_fine(code: &Code, place: usize, number: usize) -> bool
     is_declarable(code, code.kinds.depth_at(place), number) && drops_part(code, place, 0, number)
 }
 
-/// How many masters every object is declared in at least, or its collection stands in: the main procedure's own.
-const OUTERMOST: usize = 1;
-
 /// Checks the assignment of the value of one part to another (RM 5.2).
 fn is_assign_fine(code: &Code, place: usize, number: usize) -> bool
     requires { place + 1 < 2 ^ 64 }
     ensures { let stack = stack_at code.now.kinds place in
-        IsTrue result ↔ (IsDeclarable code.now outermost number × Under (Operand (Record number) ∷ []) stack (DropsPart code.now place number)) }
+        IsTrue result ↔ (IsDeclarable code.now (depth stack) number × Under (Operand (Record number) ∷ []) stack (DropsPart code.now place number)) }
 {
-    is_declarable(code, OUTERMOST, number) && drops_parts(code, place, number)
+    is_declarable(code, code.kinds.depth_at(place), number) && drops_parts(code, place, number)
 }
 
 /// Checks a dereference: a number stands on top, in this cell (RM 4.1).

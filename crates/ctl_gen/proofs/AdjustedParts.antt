@@ -24,16 +24,16 @@ use Rattle.ctl_code.specs.declared.code.Parts.TheVariants as PartsOf
 use Rattle.ctl_code.specs.declared.code.Code.{Code}
 use Rattle.ctl_code.specs.States.{Complete, AfterBody, Frame, Adjusting, AdjustingOwn, State, tell_all}
 use Rattle.ctl_code.specs.Table as Table
-use Rattle.ctl_code.specs.Table.{birth, birth_in, component_of, controlled_of, handed, noting, operation_of, part_at, parts_of, says_failed}
+use Rattle.ctl_code.specs.Table.{assigning_in, birth, birth_in, called_among, component_of, controlled_of, handed, noting, operation_of, part_at, parts_of, says_failed}
 use Rattle.ctl_code.specs.Steps.{moved, step, stepped}
 use Rattle.ctl_code.specs.Valid.{AreBegunBy, IsBegunBy, IsDeclarable}
 use Rattle.ctl_gen.proofs.Known.{IsPlainType}
 use Rattle.ctl_gen.proofs.Parted.{GivesDefaults, HasPart, HaveParts, component_is, is_itself, parts_length, parts_pulled, parts_rest}
 use Rattle.ctl_gen.proofs.Picks.{picked_less, rest_length}
-use Rattle.ctl_gen.proofs.Worlds.{Since, origin_nested}
+use Rattle.ctl_gen.proofs.Worlds.{Since}
 use Rattle.ctl_gen.proofs.Scopes.{IsSurrounded, adjust_in, controlled_inside, declarable_later, pulled_inside, rest_inside}
-use Rattle.ctl_gen.proofs.Setting.{Setting, tools_with, returns, Told, Sure, Calls, enter_shows}
-use Rattle.ctl_gen.proofs.FinalizedParts.{call_is, heard}
+use Rattle.ctl_gen.proofs.Setting.{Setting, called, tools_with, returns, Told, Sure, Calls, enter_shows}
+use Rattle.ctl_gen.proofs.FinalizedParts.{call_among, heard}
 use Rattle.ctl_gen.proofs.Adjust.{adjust_named}
 use Rattle.ctl_gen.proofs.Follow.{by_raise, Runs, gives, way_of, add_none, added, bind_add, bind_bind, both, one_step, last_step, stop_step, then_step, more_quits, more_halts, within}
 
@@ -43,20 +43,21 @@ IsCreation None None = Unit {0}
 IsCreation (Some b) (Some o) = b.owner ≡ o
 IsCreation _ _ = ⊥
 
--- frames that have noted the parts with these paths; in a creation one more part that is adjusted is noted there
+-- frames that have noted the parts with these paths; in a creation one more part that is adjusted is noted there, and else a statement
+-- assigns to the parts
 abbrev pub Noted : Type 0
 Noted = List (List ℕ) → List Frame
 
-abbrev pub Notes : Option Owner → Noted → Type 0
-Notes made ks = (path : List ℕ) (paths : List (List ℕ)) → noting made path (ks paths) ≡ ks (paths ++ path ∷ [])
+abbrev pub Notes : Option Owner → Option (List ℕ) → Noted → Type 0
+Notes made assigning ks = ((path : List ℕ) (paths : List (List ℕ)) → noting made path (ks paths) ≡ ks (paths ++ path ∷ [])) × ((paths : List (List ℕ)) → assigning_in (ks paths) ≡ assigning)
 
 -- below the components that are left, too
 abbrev over_parts : Option Owner → Spot → ℕ → List Begun → Noted → Noted
 over_parts made s t left ks paths = Adjusting made s t left ∷ ks paths
 
-notes_over : (made : Option Owner) (s : Spot) (t : ℕ) (left : List Begun) (ks : Noted) → Notes made ks → Notes made (over_parts made s t left ks)
-notes_over None s t left ks notes path paths = ap (λ k. Adjusting None s t left ∷ k) (notes path paths)
-notes_over (Some o) s t left ks notes path paths = ap (λ k. Adjusting (Some o) s t left ∷ k) (notes path paths)
+notes_over : (made : Option Owner) (assigning : Option (List ℕ)) (s : Spot) (t : ℕ) (left : List Begun) (ks : Noted) → Notes made assigning ks → Notes made assigning (over_parts made s t left ks)
+notes_over None assigning s t left ks notes = (λ path paths. ap (λ k. Adjusting None s t left ∷ k) (notes.0 path paths), notes.1)
+notes_over (Some o) assigning s t left ks notes = (λ path paths. ap (λ k. Adjusting (Some o) s t left ∷ k) (notes.0 path paths), notes.1)
 
 -- whether an Adjust failed is what the machine hands on, over the frames that have noted what is adjusted
 abbrev pub hands : Noted → Result Adjusted → Log → World → State
@@ -82,10 +83,11 @@ born_is ask k code setting call default (Some b) (Some owner) same s t a c l w =
     by None = refl
     by (Some f) = refl
 
--- in this creation, or an assignment, where since an earlier world so many masters are around the operations of an object
-module _ (ask : Ask) (k : Tables) (code : Code) (setting : Setting k code) (call : Call) (default : Default) (constants : GivesDefaults k default) (bound : ℕ) (calls : Calls ask k code setting bound call) (creation : Option Birth) (made : Option Owner) (same : IsCreation creation made) (wr : World) (around : ℕ) where
+-- in this creation, or an assignment, where since an earlier world the operations of an object are called among so many masters: those of a
+-- statement that assigns, if one does
+module _ (ask : Ask) (k : Tables) (code : Code) (setting : Setting k code) (call : Call) (default : Default) (constants : GivesDefaults k default) (bound : ℕ) (calls : Calls ask k code setting bound call) (creation : Option Birth) (made : Option Owner) (same : IsCreation creation made) (assigning : Option (List ℕ)) (wr : World) (around : ℕ) where
   abbrev K : Tools
-  K = tools_with ask k call default
+  K = tools_with ask k (called assigning call) default
 
   abbrev shown : Spot → Event
   shown s = EventOf.Adjust (part_at s)
@@ -107,7 +109,7 @@ module _ (ask : Ask) (k : Tables) (code : Code) (setting : Setting k code) (call
 
   -- the parts of types before this one are adjusted as the meaning says, from the step that begins with them
   abbrev pub PartsRun : ℕ → Type 0
-  PartsRun n = (s : Spot) (t : ℕ) (a : Adjusted) (ks : Noted) (c : ℕ) (l : Log) (w : World) (s0 : State) → Notes made ks → IsSurrounded k code wr around s.object → t < n → IsPlainType k (Record t) → IsDeclarable code around t → c ≤ bound → Since k code wr w → step ask code s0 ≡ moved l (Table.adjust_part code made s t a.failed (ks a.paths) w) → Adjusts 4 4 s0 c ks (adjust_part K creation n s t a c l w)
+  PartsRun n = (s : Spot) (t : ℕ) (a : Adjusted) (ks : Noted) (c : ℕ) (l : Log) (w : World) (s0 : State) → Notes made assigning ks → IsSurrounded k code assigning wr around s.object → t < n → IsPlainType k (Record t) → IsDeclarable code around t → c ≤ bound → Since k code wr w → step ask code s0 ≡ moved l (Table.adjust_part code made s t a.failed (ks a.paths) w) → Adjusts 4 4 s0 c ks (adjust_part K creation n s t a c l w)
 
   -- The part's own Adjust -----------------------------------------------------------------------------
 
@@ -129,13 +131,13 @@ module _ (ask : Ask) (k : Tables) (code : Code) (setting : Setting k code) (call
 
   -- one whose Adjust did not fail
   after_is : (s : Spot) (t : ℕ) (a : Adjusted) (c : ℕ) (l : Log) (w : World) → after_adjust K creation s t a (Fine tt) c l w ≡ Gives (Goes (settled s a)) 0 c (tell_all (birth_in code made s t) l) w
-  after_is = born_is ask k code setting call default creation made same
+  after_is = born_is ask k code setting (called assigning call) default creation made same
 
-  adjusted_is : (s : Spot) (t : ℕ) (a : Adjusted) (ks : Noted) → Notes made ks → (l : Log) (w : World) → moved l (Table.adjusted code made s t a.failed (ks a.paths) w) ≡ hands ks (Goes (settled s a)) (tell_all (birth_in code made s t) l) w
-  adjusted_is s t a ks notes l w = ap (λ x. gives x (Fine (handed a.failed)) (tell_all (birth_in code made s t) l) w) (notes s.path a.paths)
+  adjusted_is : (s : Spot) (t : ℕ) (a : Adjusted) (ks : Noted) → Notes made assigning ks → (l : Log) (w : World) → moved l (Table.adjusted code made s t a.failed (ks a.paths) w) ≡ hands ks (Goes (settled s a)) (tell_all (birth_in code made s t) l) w
+  adjusted_is s t a ks notes l w = ap (λ x. gives x (Fine (handed a.failed)) (tell_all (birth_in code made s t) l) w) (notes.0 s.path a.paths)
 
   -- after the execution of its own Adjust, one that raised is remembered
-  over : (s : Spot) (t : ℕ) (a : Adjusted) (ks : Noted) → Notes made ks → (s0 : State) (c : ℕ) (x : Out Returned) → Runs ask code (Told k code wr) 0 3 s0 c (returns (AdjustingOwn made s t a.failed ∷ ks a.paths)) x → Adjusts 3 3 s0 c ks (after_own s t a (bind (add 0 x) (on_goes (λ _. nothing))))
+  over : (s : Spot) (t : ℕ) (a : Adjusted) (ks : Noted) → Notes made assigning ks → (s0 : State) (c : ℕ) (x : Out Returned) → Runs ask code (Told k code wr) 0 3 s0 c (returns (AdjustingOwn made s t a.failed ∷ ks a.paths)) x → Adjusts 3 3 s0 c ks (after_own s t a (bind (add 0 x) (on_goes (λ _. nothing))))
   unfolding picked opened_outcome after_adjust
   over s t a ks notes s0 c (Gives (Goes v) u c1 l w) z =
       subst (λ y. Adjusts 3 3 s0 c ks (add (0 + u + 0 + 0) y)) (sym (after_is s t a c1 l w))
@@ -147,25 +149,30 @@ module _ (ask : Ask) (k : Tables) (code : Code) (setting : Setting k code) (call
   over s t a ks notes s0 c (Cut u c1 l) z = more_halts ask code (Sure k code wr) 3 3 s0 c u _ l (omega arith) z
 
   -- from the step that looks for it
-  called_runs : (s : Spot) (t : ℕ) (a : Adjusted) (ks : Noted) → Notes made ks → (c : ℕ) (l : Log) (w : World) (s0 : State) → IsSurrounded k code wr around s.object → IsDeclarable code around t → c ≤ bound → Since k code wr w → operation_of (λ x. x.adjust) code t ≡ operation (λ x. x.adjust) k t → (g : Option ℕ) (y : Option Object) → operation (λ x. x.adjust) k t ≡ g → object_at s.object w ≡ y → step ask code s0 ≡ moved l (Table.adjust_by code g made s t a.failed y (ks a.paths) w) → Adjusts 3 3 s0 c ks (after_own s t a (call_operation K s g (shown s) c l w))
+  called_runs : (s : Spot) (t : ℕ) (a : Adjusted) (ks : Noted) → Notes made assigning ks → (c : ℕ) (l : Log) (w : World) (s0 : State) → IsSurrounded k code assigning wr around s.object → IsDeclarable code around t → c ≤ bound → Since k code wr w → operation_of (λ x. x.adjust) code t ≡ operation (λ x. x.adjust) k t → (g : Option ℕ) (y : Option Object) → operation (λ x. x.adjust) k t ≡ g → object_at s.object w ≡ y → step ask code s0 ≡ moved l (Table.adjust_by code g made s t a.failed y (ks a.paths) w) → Adjusts 3 3 s0 c ks (after_own s t a (call_operation K s g (shown s) c l w))
   unfolding opened_finalization opened_outcome opened_names
   called_runs s t a ks notes c l w s0 homes inside le fits named None None op at go = subst (λ y. Adjusts 3 3 s0 c ks (after_own s t a (add 1 (on_some y gone (λ _. nothing) c l w)))) (sym at) (stop_step ask code (Sure k code wr) 3 3 s0 _ c 1 (hands ks) UseAfterFree l (omega arith) go refl refl)
   called_runs s t a ks notes c l w s0 homes inside le fits named None (Some p) op at go =
       subst (λ y. Adjusts 3 3 s0 c ks (after_own s t a (add 1 (on_some y gone (λ _. nothing) c l w)))) (sym at)
       (subst (λ y. Adjusts 3 3 s0 c ks (add (1 + 0 + 0) y)) (sym (after_is s t a c l w))
       (last_step ask code (Sure k code wr) 3 3 s0 c 1 (hands ks) (Goes (settled s a)) (tell_all (birth_in code made s t) l) w (omega arith) (tt, fits) (go ∙ adjusted_is s t a ks notes l w)))
-  called_runs s t a ks notes c l w s0 homes inside le fits named (Some f) None op at go = subst (λ y. Adjusts 3 3 s0 c ks (after_own s t a (on_some y gone (λ o1. look (λ w1. show (shown s) >> call (OfSubprogram f (holding (Binds s.object s.offset s.path) ∷ [])) (home_of o1.origin w1) >> nothing)) c l w))) (sym at) (stop_step ask code (Sure k code wr) 3 3 s0 _ c 0 (hands ks) UseAfterFree l (omega arith) go refl refl)
+  called_runs s t a ks notes c l w s0 homes inside le fits named (Some f) None op at go = subst (λ y. Adjusts 3 3 s0 c ks (after_own s t a (on_some y gone (λ o1. look (λ w1. show (shown s) >> K.call (OfSubprogram f (holding (Binds s.object s.offset s.path) ∷ [])) (home_of o1.origin w1) >> nothing)) c l w))) (sym at) (stop_step ask code (Sure k code wr) 3 3 s0 _ c 0 (hands ks) UseAfterFree l (omega arith) go refl refl)
   called_runs s t a ks notes c l w s0 homes inside le fits named (Some f) (Some p) op at go =
       let body = setting.adjust_body t f op in
       let waits = AdjustingOwn made s t a.failed ∷ ks a.paths in
-      let here : IsDeclarable code (length (home_of p.origin w)) t = declarable_later code around (length (home_of p.origin w)) t (homes w p fits at) inside in
-      subst (λ x. Adjusts 3 3 s0 c ks (after_own s t a x)) (sym (call_is ask k call default f s c (shown s) l w p at))
+      let actuals = holding (Binds s.object s.offset s.path) ∷ [] in
+      let v = called_among assigning p.origin w in
+      let nested = homes w p fits at in
+      let here : IsDeclarable code (length v) t = declarable_later code around (length v) t nested.0 inside in
+      subst (λ x. Adjusts 3 3 s0 c ks (after_own s t a x)) (sym (call_among ask k assigning call default f s c (shown s) l w p at))
       (over s t a ks notes s0 c _
-      (calls.runs f body.0 body.1 wr (home_of p.origin w) (holding (Binds s.object s.offset s.path) ∷ []) AfterBody waits c (tell (shown s) l) w s0 Procedure 1 tt le fits (adjust_in code setting.valid _ t f here (named ∙ op)) (origin_nested k code p.origin w fits.0) (tt, tt)
-      (go ∙ enter_shows (slice_get code.entries.items f) (shown s) (home_of p.origin w) (holding (Binds s.object s.offset s.path) ∷ []) AfterBody waits l w)))
+      (calls.runs f body.0 body.1 wr v actuals AfterBody waits c (tell (shown s) l) w s0 Procedure 1 tt le fits (adjust_in code setting.valid _ t f here (named ∙ op)) nested.1 (tt, tt)
+      (go
+      ∙ ap (λ y. moved l (Table.enter_body (slice_get code.entries.items f) (shown s ∷ []) (called_among y p.origin w) actuals AfterBody waits w)) (notes.1 a.paths)
+      ∙ enter_shows (slice_get code.entries.items f) (shown s) v actuals AfterBody waits l w)))
 
   -- from the step behind the components
-  own_runs : (s : Spot) (t : ℕ) (a : Adjusted) (ks : Noted) → Notes made ks → (c : ℕ) (l : Log) (w : World) (s0 : State) → IsSurrounded k code wr around s.object → IsPlainType k (Record t) → IsDeclarable code around t → c ≤ bound → Since k code wr w → step ask code s0 ≡ moved l (Table.adjust_own code (parts_of code t) made s t a.failed (ks a.paths) w) → Adjusts 3 3 s0 c ks (own_adjust K creation s t a c l w)
+  own_runs : (s : Spot) (t : ℕ) (a : Adjusted) (ks : Noted) → Notes made assigning ks → (c : ℕ) (l : Log) (w : World) (s0 : State) → IsSurrounded k code assigning wr around s.object → IsPlainType k (Record t) → IsDeclarable code around t → c ≤ bound → Since k code wr w → step ask code s0 ≡ moved l (Table.adjust_own code (parts_of code t) made s t a.failed (ks a.paths) w) → Adjusts 3 3 s0 c ks (own_adjust K creation s t a c l w)
   own_runs s t a ks notes c l w s0 homes plain inside le fits first = by (parts_of code t) refl first
     where
       itself : is_controlled k t ≡ is_itself (parts_of code t)
@@ -214,7 +221,7 @@ module _ (ask : Ask) (k : Tables) (code : Code) (setting : Setting k code) (call
   choose_step s t count ks a l w x xs p long is = ap (λ j. stepped code (before_parts s t a ks (x ∷ xs) l w) (picked ask j l)) long ∙ ap (stepped code (before_parts s t a ks (x ∷ xs) l w)) is
 
   -- the components that are left, and then the part
-  left_run : (n : ℕ) → PartsRun n → (s : Spot) (t : ℕ) → IsSurrounded k code wr around s.object → t ≤ n → IsPlainType k (Record t) → IsDeclarable code around t → (count : ℕ) (a : Adjusted) (ks : Noted) → Notes made ks → (c : ℕ) (l : Log) (w : World) (left : List Placed) (xs : List Begun) → length left ≡ count → HaveParts k t left xs → AreBegunBy code around xs → c ≤ bound → Since k code wr w → Adjusts 3 3 (before_parts s t a ks xs l w) c ks (then_own n s t count left a c l w)
+  left_run : (n : ℕ) → PartsRun n → (s : Spot) (t : ℕ) → IsSurrounded k code assigning wr around s.object → t ≤ n → IsPlainType k (Record t) → IsDeclarable code around t → (count : ℕ) (a : Adjusted) (ks : Noted) → Notes made assigning ks → (c : ℕ) (l : Log) (w : World) (left : List Placed) (xs : List Begun) → length left ≡ count → HaveParts k t left xs → AreBegunBy code around xs → c ≤ bound → Since k code wr w → Adjusts 3 3 (before_parts s t a ks xs l w) c ks (then_own n s t count left a c l w)
   unfolding adjust_each picked opened_outcome
   left_run n parts s t homes old plain inside zero a ks notes c l w [] [] long have within le fits =
       subst (Adjusts 3 3 (before_parts s t a ks [] l w) c ks) (sym (add_none (own_adjust K creation s t a c l w)))
@@ -268,7 +275,7 @@ module _ (ask : Ask) (k : Tables) (code : Code) (setting : Setting k code) (call
               let less1 = part.less in
               let among : p.0 < length (x ∷ xs) = omega (arith, less, long, many) in
               added ask code (Sure k code wr) 1 4 4 0 0 s0 c (hands frames) _ (omega arith) (omega arith)
-              (parts (component_of s y.offset y.position) part.number a frames c p.1 w s0 (notes_over made s t (pull_rest p.0 (x ∷ xs)) ks notes) homes (omega (arith, less1, old)) part.plain
+              (parts (component_of s y.offset y.position) part.number a frames c p.1 w s0 (notes_over made assigning s t (pull_rest p.0 (x ∷ xs)) ks notes) homes (omega (arith, less1, old)) part.plain
               (subst (IsBegunBy code around) part.initial (pulled_inside code around x p.0 (x ∷ xs) within among))
               le fits first)
 
@@ -295,7 +302,7 @@ module _ (ask : Ask) (k : Tables) (code : Code) (setting : Setting k code) (call
           (left_run n parts s t homes (omega (arith, less)) plain inside (length (q ∷ qs)) a ks notes c l w (q ∷ qs) (x ∷ xs) refl have scoped le fits)
 
   -- a part whose components wait to be adjusted
-  pub waiting_runs : (n : ℕ) (s : Spot) (t : ℕ) (a : Adjusted) (ks : Noted) (c : ℕ) (l : Log) (w : World) → Notes made ks → IsSurrounded k code wr around s.object → t ≤ n → IsPlainType k (Record t) → IsDeclarable code around t → c ≤ bound → Since k code wr w → Adjusts 3 3 (before_parts s t a ks (controlled_of code t) l w) c ks (adjust_part K creation (suc n) s t a c l w)
+  pub waiting_runs : (n : ℕ) (s : Spot) (t : ℕ) (a : Adjusted) (ks : Noted) (c : ℕ) (l : Log) (w : World) → Notes made assigning ks → IsSurrounded k code assigning wr around s.object → t ≤ n → IsPlainType k (Record t) → IsDeclarable code around t → c ≤ bound → Since k code wr w → Adjusts 3 3 (before_parts s t a ks (controlled_of code t) l w) c ks (adjust_part K creation (suc n) s t a c l w)
   unfolding adjust_part controlled_parts opened_outcome
   waiting_runs n s t a ks c l w notes homes old plain inside le fits =
       let left = keep (λ p. has_controlled k p.ty) (placed k t) in

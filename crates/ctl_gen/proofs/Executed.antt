@@ -49,6 +49,7 @@ use Rattle.ctl_gen.proofs.Texts.{print_runs}
 use Rattle.ctl_gen.proofs.Branches.{only_if_runs, paid}
 use Rattle.ctl_gen.proofs.Loops.{leave_step, loop_runs, while_runs}
 use Rattle.ctl_gen.proofs.Ranges.{for_runs}
+use Rattle.ctl_layout.specs.Around.{among}
 use Rattle.ctl_gen.proofs.Does.{DoesIn}
 use Rattle.ctl_gen.proofs.Follow.{arrives, last_step, lands}
 use Rattle.ctl_gen.proofs.Statements as S
@@ -121,7 +122,7 @@ module _ (ask : Ask) (k : Tables) (code : Code) (setting : Setting k code) (call
 
   -- a statement that no instruction exists for is not run
   missing_does : (y : Stmt-F Stmt Arm Handler Master) → statement_code (roll-Stmt y) ≡ missing_statement → Does (roll-Stmt y)
-  missing_does y same runs = absurd (let e = sym (ap (λ (x : StatementCode). x.runs k.records) same) ∙ runs in cc)
+  missing_does y same runs = absurd (let e = sym (ap (λ (x : StatementCode). x.runs (among k.records runs.0)) same) ∙ runs.1 in cc)
 
   -- what a name begins with, whose value is given by this act, if it begins with one
   abbrev Begins : Option Reached → (List ℕ → Act (List ℕ)) → Type 0
@@ -133,10 +134,10 @@ module _ (ask : Ask) (k : Tables) (code : Code) (setting : Setting k code) (call
   assign_does : (o : Option Reached) (act : List ℕ → Act (List ℕ)) (find : Naming) (e : Expr) → ((x : Reached) → o ≡ Some x → Reaches K x act (find Elementary K)) → Begins o act → Performs (assign o (value_code e)) (assign_doing find (eval e))
   unfolding assign_doing
   assign_does None act find e reaches begun runs n texts = absurd (cc)
-  assign_does (Some (Variable v)) act find e reaches begun runs n texts = assign_runs ask k code setting.valid bound v (find Elementary K) (reaches (Variable v) refl) (value_code e) (eval e K) (means e runs)
+  assign_does (Some (Variable v)) act find e reaches begun runs n texts = assign_runs ask k code setting.valid bound v (find Elementary K) (reaches (Variable v) refl) (value_code e) (eval e K) (means e runs.1)
   assign_does (Some (Object b steps)) act find e reaches begun runs n texts = absurd (cc)
   assign_does (Some (Part b steps t position)) act find e reaches begun runs n texts =
-      let h = both_true _ _ runs in
+      let h = both_true _ _ runs.1 in
       let x = Part b steps t position in
       let g = reaches x refl in
       part_does ask k code setting.places call default b act steps t position h.0 g.0 bound (value_code e) (eval e K) (means e h.1) (begun x refl (both_true _ _ h.0).0) (find Elementary K) g.1
@@ -146,15 +147,15 @@ module _ (ask : Ask) (k : Tables) (code : Code) (setting : Setting k code) (call
   record_assign_does None t q act find m target begun source runs n texts = absurd (cc)
   record_assign_does (Some x) t None act find m target begun source runs n texts = absurd (cc)
   record_assign_does (Some x) t (Some y) act find m target begun source runs n texts =
-      let h = both_true _ _ runs in
+      let h = both_true _ _ runs.1 in
       let g = both_true _ _ h.1 in
       let known = plain_if k t (both_true _ _ g.1).0 in
       let to = target x refl in
       let from = source y refl in
       let first = begun x refl (part_begun k.records x h.0) in
       let second = begins from.name y from.reaches (part_begun k.records y g.0) in
-      subst (λ (find1 : List ℕ → Act Found). DoesIn 0 ask k code bound (λ a. record_code x t y a.stack) (λ d caught. ticked (find1 d >>= (λ f. m.source K d >>= assign_found K t f)))) (sym (composite_leads K x act find to))
-      (subst (λ (find2 : List ℕ → Act Found). DoesIn 0 ask k code bound (λ a. record_code x t y a.stack) (λ d caught. ticked (find_by K act (steps_of x) (start_of x) d >>= (λ f. find2 d >>= assign_found K t f)))) (sym from.finds)
+      subst (λ (find1 : List ℕ → Act Found). DoesIn 0 ask k code bound (λ a. record_code x t y a.stack) (λ d caught. ticked (find1 d >>= (λ f. m.source K d >>= assign_found K d t f)))) (sym (composite_leads K x act find to))
+      (subst (λ (find2 : List ℕ → Act Found). DoesIn 0 ask k code bound (λ a. record_code x t y a.stack) (λ d caught. ticked (find_by K act (steps_of x) (start_of x) d >>= (λ f. find2 d >>= assign_found K d t f)))) (sym from.finds)
       (record_does ask k code setting call default constants t known bound calls x act y (given_by from.name K) first second to.walked from.walked h.0 g.0))
 
   free_does : (access : ℕ) (o : Option Reached) (act : List ℕ → Act (List ℕ)) (find : Naming) → ((x : Reached) → o ≡ Some x → Reaches K x act (find Elementary K)) → Begins o act → Performs (free_code access o) (free_object_of access find)
@@ -165,7 +166,7 @@ module _ (ask : Ask) (k : Tables) (code : Code) (setting : Setting k code) (call
   free_does access (Some (Part b steps t position)) act find reaches begun runs n texts =
       let x = Part b steps t position in
       let g = reaches x refl in
-      part_freed_does ask k code setting call default constants bound calls access b act (begun x refl (both_true _ _ runs).0) steps t position runs g.0 (find Elementary K) g.1
+      part_freed_does ask k code setting call default constants bound calls access b act (begun x refl (both_true _ _ runs.1).0) steps t position runs.1 g.0 (find Elementary K) g.1
 
   -- the library's Allocate of a pool that a variable is, whose address a variable takes (13.11)
   block_taken : (o q : Option Reached) (act held : List ℕ → Act (List ℕ)) (pool address : Naming) (size alignment : Expr) → ((x : Reached) → o ≡ Some x → Leads K x act pool) → ((x : Reached) → q ≡ Some x → Reaches K x held (address Elementary K)) → Performs (library_allocate o q (value_code size) (value_code alignment)) (call_allocate pool address (eval size) (eval alignment))
@@ -176,7 +177,7 @@ module _ (ask : Ask) (k : Tables) (code : Code) (setting : Setting k code) (call
   block_taken (Some (Variable p)) (Some (Part b steps t position)) act held pool address size alignment leads reaches runs n texts = absurd (cc)
   block_taken (Some (Variable p)) (Some (Object b steps)) act held pool address size alignment leads reaches runs n texts = absurd (cc)
   block_taken (Some (Variable p)) (Some (Variable v)) act held pool address size alignment leads reaches runs n texts =
-      let h = both_true _ _ runs in
+      let h = both_true _ _ runs.1 in
       library_allocate_does ask k code call default bound p act pool (leads (Variable p) refl) v address (reaches (Variable v) refl) (value_code size) (value_code alignment) (eval size) (eval alignment) (means size h.0) (means alignment (both_true _ _ h.1).0)
 
   -- and its Deallocate
@@ -185,12 +186,12 @@ module _ (ask : Ask) (k : Tables) (code : Code) (setting : Setting k code) (call
   block_given (Some (Part b steps t position)) act pool address size alignment leads runs n texts = absurd (cc)
   block_given (Some (Object b steps)) act pool address size alignment leads runs n texts = absurd (cc)
   block_given (Some (Variable p)) act pool address size alignment leads runs n texts =
-      let h = both_true _ _ runs in
+      let h = both_true _ _ runs.1 in
       let g = both_true _ _ h.1 in
       library_deallocate_does ask k code call default bound p act pool (leads (Variable p) refl) (value_code address) (value_code size) (value_code alignment) (eval address) (eval size) (eval alignment) (means address h.0) (means size g.0) (means alignment (both_true _ _ g.1).0)
 
   called_does : (f : ℕ) (actuals : List Actual) → Performs (call_code f (map actual_code actuals)) (call_doing f (map supply actuals))
-  called_does f actuals runs n texts = call_does ask k code setting call default bound calls f (map actual_code actuals) (map supply actuals) (λ w0. actuals_mean ask k code setting call default bound calls w0 actuals runs)
+  called_does f actuals runs n texts = call_does ask k code setting call default bound calls f (map actual_code actuals) (map supply actuals) (λ w0. actuals_mean ask k code setting call default bound calls w0 actuals runs.1)
 
   -- one step to where control lands
   exits : DoesIn 1 ask k code bound leaves_code (λ d caught. leave_by ByExit)
@@ -200,19 +201,19 @@ module _ (ask : Ask) (k : Tables) (code : Code) (setting : Setting k code) (call
   exit_does : (o : Option Expr) → Performs (exit (option_map value_code o)) (exit_doing (option_map eval o))
   unfolding exit_doing
   exit_does None runs n texts = paid ask k code bound leaves_code (λ d caught. leave_by ByExit) exits
-  exit_does (Some e) runs n texts = only_if_runs ask k code bound (value_code e) (eval e K) (means e runs) leaves_code (λ d caught. leave_by ByExit) exits
+  exit_does (Some e) runs n texts = only_if_runs ask k code bound (value_code e) (eval e K) (means e runs.1) leaves_code (λ d caught. leave_by ByExit) exits
 
   return_does : (o : Option Expr) → Performs (return (option_map value_code o)) (return_doing (option_map eval o))
   unfolding return_doing opened_outcome
   return_does None runs n texts = λ a w0 d place ks ops c l w le fits sees has. last_step ask code (Kept k code w0) 0 0 _ c 1 (arrives (lands a place) d (place + 1) ks ops) (Leaves (ByReturn [])) l w (omega arith) fits (by_code ask code d place ks ops l w (InstrOf.Transfer WayOf.Return) has.0)
-  return_does (Some e) runs n texts = return_runs ask k code bound (value_type (value_code e)) (value_code e) (eval e K) (means e (both_true _ _ runs).1)
+  return_does (Some e) runs n texts = return_runs ask k code bound (value_type (value_code e)) (value_code e) (eval e K) (means e (both_true _ _ runs.1).1)
 
   stmt_rolled : (y : Stmt-F StmtToo ArmToo HandlerToo MasterToo) → Does (roll-Stmt (bare_stmt y))
   unfolding null_doing put put_line new_line raise_new raise_again loop_plainly loop_while loop_for opened_outcome
   stmt_rolled Stmt-F.Null = does Stmt-F.Null _ _ (statement_roll Stmt-F.Null) (exec_roll Stmt-F.Null) (λ runs n texts a w0 d place ks ops c l w le fits sees has. S.still_there ask k code setting call default constants bound calls 1 (lands a place) w0 d place ks ops c l w fits)
   stmt_rolled (Stmt-F.Assign x e) = does (Stmt-F.Assign x e) _ _ (statement_roll (Stmt-F.Assign x e)) (exec_roll (Stmt-F.Assign x e)) (assign_does (reached_by x) (given_by x K) (eval_name x) e (name_finds K x) (begins x))
-  stmt_rolled (Stmt-F.Put ps) = does (Stmt-F.Put ps) _ _ (statement_roll (Stmt-F.Put ps)) (exec_roll (Stmt-F.Put ps)) (λ runs n texts. print_runs ask k code setting call default bound calls false ps runs n texts)
-  stmt_rolled (Stmt-F.PutLine ps) = does (Stmt-F.PutLine ps) _ _ (statement_roll (Stmt-F.PutLine ps)) (exec_roll (Stmt-F.PutLine ps)) (λ runs n texts. print_runs ask k code setting call default bound calls true ps runs n texts)
+  stmt_rolled (Stmt-F.Put ps) = does (Stmt-F.Put ps) _ _ (statement_roll (Stmt-F.Put ps)) (exec_roll (Stmt-F.Put ps)) (λ runs n texts. print_runs ask k code setting call default bound calls false ps runs.1 n texts)
+  stmt_rolled (Stmt-F.PutLine ps) = does (Stmt-F.PutLine ps) _ _ (statement_roll (Stmt-F.PutLine ps)) (exec_roll (Stmt-F.PutLine ps)) (λ runs n texts. print_runs ask k code setting call default bound calls true ps runs.1 n texts)
   stmt_rolled Stmt-F.NewLine = does Stmt-F.NewLine _ _ (statement_roll Stmt-F.NewLine) (exec_roll Stmt-F.NewLine) (λ runs n texts a w0 d place ks ops c l w le fits sees has. last_step ask code (Kept k code w0) 0 0 _ c 1 (arrives (lands a place) d (place + 1) ks ops) (Goes tt) (tell Newline l) w (omega arith) fits (by_code ask code d place ks ops l w InstrOf.NewLine has.0))
   stmt_rolled (Stmt-F.Exit o) = does (Stmt-F.Exit o) _ _ (statement_roll (Stmt-F.Exit o)) (exec_roll (Stmt-F.Exit o)) (exit_does o)
   stmt_rolled (Stmt-F.Raise e) = does (Stmt-F.Raise e) _ _ (statement_roll (Stmt-F.Raise e)) (exec_roll (Stmt-F.Raise e)) (λ runs n texts a w0 d place ks ops c l w le fits sees has. last_step ask code (Kept k code w0) 0 0 _ c 1 (arrives (lands a place) d (place + 1) ks ops) (Leaves (ByRaise e)) l w (omega arith) fits (by_code ask code d place ks ops l w (InstrOf.Transfer (WayOf.Raise e)) has.0))
@@ -228,15 +229,15 @@ module _ (ask : Ask) (k : Tables) (code : Code) (setting : Setting k code) (call
       let y = Stmt-F.While e (map (λ x. x.0) body) in
       does y _ _ (statement_roll y) (exec_roll y)
       (λ runs n texts.
-      let h = both_true _ _ runs in
-      while_runs ask k code bound (value_code e) (eval e K) (means e h.0) (λ a. (all (map statement_code (map (λ x. x.0) body))).code a n) (λ v caught. do_each K v caught (map exec (map (λ x. x.0) body))) (each_does body h.1 n texts))
+      let h = both_true _ _ runs.1 in
+      while_runs ask k code bound (value_code e) (eval e K) (means e h.0) (λ a. (all (map statement_code (map (λ x. x.0) body))).code a n) (λ v caught. do_each K v caught (map exec (map (λ x. x.0) body))) (each_does body (runs.0, h.1) n texts))
   stmt_rolled (Stmt-F.For x way low high body) =
       let y = Stmt-F.For x way low high (map (λ z. z.0) body) in
       does y _ _ (statement_roll y) (exec_roll y)
       (λ runs n texts.
-      let h = both_true _ _ runs in
+      let h = both_true _ _ runs.1 in
       let g = both_true _ _ h.1 in
-      for_runs ask k code setting.valid bound x way (value_code low) (value_code high) (eval low K) (eval high K) (means low h.0) (means high g.0) (λ a. (all (map statement_code (map (λ z. z.0) body))).code a n) (λ v caught. do_each K v caught (map exec (map (λ z. z.0) body))) (each_does body g.1 n texts))
+      for_runs ask k code setting.valid bound x way (value_code low) (value_code high) (eval low K) (eval high K) (means low h.0) (means high g.0) (λ a. (all (map statement_code (map (λ z. z.0) body))).code a n) (λ v caught. do_each K v caught (map exec (map (λ z. z.0) body))) (each_does body (runs.0, g.1) n texts))
   stmt_rolled (Stmt-F.Block m) = does (Stmt-F.Block m.0) _ _ (statement_roll (Stmt-F.Block m.0)) (exec_roll (Stmt-F.Block m.0)) (S.block_runs ask k code setting call default constants bound calls (master_code m.0) (body_of m.0) m.1)
   stmt_rolled (Stmt-F.AssignRecord x t a) = does (Stmt-F.AssignRecord x t a) _ _ (statement_roll (Stmt-F.AssignRecord x t a)) (exec_roll (Stmt-F.AssignRecord x t a)) (record_assign_does (reached_by x) t (sourced a) (given_by x K) (eval_name x) (supply a) (name_leads K x) (begins x) (source_means K a))
   stmt_rolled (Stmt-F.Call f xs) = does (Stmt-F.Call f xs) _ _ (statement_roll (Stmt-F.Call f xs)) (exec_roll (Stmt-F.Call f xs)) (called_does f xs)

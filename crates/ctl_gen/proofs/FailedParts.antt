@@ -193,7 +193,7 @@ module _ (ask : Ask) (k : Tables) (code : Code) (setting : Setting k code) (call
         (added ask code (Fallen k code wr) 1 3 3 0 0 s0 c (returns ks) _ (omega arith) (omega arith)
         (one_step ask code (Fallen k code wr) 2 2 3 3 s0 s1 c c (returns ks) _ (omega arith) (omega arith) (omega arith) (omega arith) first
         (both ask code (Sure k code wr) (Fallen k code wr) 1 1 1 1 2 2 s1 c (tells frames) (returns ks) _ _ (omega arith) (omega arith) (omega arith)
-        (left_run ask k code setting call default constants bound calls Failed wr (length (home_of o.origin wr)) (length k.records) (part_runs ask k code setting call default constants bound calls Failed wr (length (home_of o.origin wr)) (length k.records)) s t (still_surrounded k code wr s.object o fits_then was) old (length (complete_parts t incomplete)) frames Complete false c l (begin_finalization s.object w) (complete_parts t incomplete) (complete_of code t incomplete) refl
+        (left_run ask k code setting call default constants bound calls None Failed wr (length (home_of o.origin wr)) (length k.records) (part_runs ask k code setting call default constants bound calls None Failed wr (length (home_of o.origin wr)) (length k.records)) s t frames (refl, still_surrounded k code wr s.object o fits_then was) old (length (complete_parts t incomplete)) Complete false c l (begin_finalization s.object w) (complete_parts t incomplete) (complete_of code t incomplete) refl
         (have_kept k t (λ n. not (is_one_of n incomplete)) _ _ (setting.agrees default constants t plain).controlled)
         (each_kept (λ p. has_controlled k p.ty ≡ true) (λ p. not (is_one_of p.position incomplete)) _ (each_all (λ p. has_controlled k p.ty ≡ true) (λ p. not (is_one_of p.position incomplete) ≡ true → has_controlled k p.ty ≡ true) (λ p has test. has) _ (keep_passes (λ p. has_controlled k p.ty) (placed k t))))
         (kept_inside code (length (home_of o.origin wr)) (λ x. not (is_one_of x.position incomplete)) (controlled_of code t) (controlled_inside code setting.valid (length (home_of o.origin wr)) t inside))

@@ -114,7 +114,7 @@ module _ (ask : Ask) (k : Tables) (code : Code) (setting : Setting k code) (call
   parts_run cause sure f t n w0 ks c l w s0 o le fits at ty plain held first follows =
       both ask code (Sure k code w) (Sure k code w0) 0 0 1 1 1 1 s0 c (tells (Finalizing cause n ∷ ks)) (tells ks) _ f (omega arith) (omega arith) (omega arith)
       (weaker ask code (Passed k code cause w) (Sure k code w) 0 0 s0 c (tells (Finalizing cause n ∷ ks)) _ (λ y v passed. (sure y passed.0, passed.1))
-      (part_runs ask k code setting call default constants bound calls cause w (length (home_of o.origin w)) (depth k) (whole_spot n) t (Finalizing cause n ∷ ks) c l (begin_finalization n w) s0 (still_surrounded k code w n o fits.0 at) (within_depth k t plain) plain held inside le (since_begin k code n w w (fits.0, keeps_itself k code w)) first))
+      (part_runs ask k code setting call default constants bound calls None cause w (length (home_of o.origin w)) (depth k) (whole_spot n) t (Finalizing cause n ∷ ks) c l (begin_finalization n w) s0 (refl, still_surrounded k code w n o fits.0 at) (within_depth k t plain) plain held inside le (since_begin k code n w w (fits.0, keeps_itself k code w)) first))
       after
     where
       inside : IsDeclarable code (length (home_of o.origin w)) t

@@ -23,16 +23,16 @@ use Rattle.ctl_code.specs.declared.code.Parts.TheVariants as PartsOf
 use Rattle.ctl_code.specs.declared.code.Code.{Code}
 use Rattle.ctl_code.specs.States.{Handed, Complete, AfterBody, Frame, FinalizingOwn, FinalizingParts, State}
 use Rattle.ctl_code.specs.Table as Table
-use Rattle.ctl_code.specs.Table.{component_of, controlled_of, finalize_component, finalize_left, finalize_own, handed, has_part, operation_of, or_complete, own_failed, part_at, parts_of, says_failed}
+use Rattle.ctl_code.specs.Table.{assigning_in, called_among, component_of, controlled_of, enter_body, finalize_component, finalize_left, finalize_own, handed, has_part, operation_of, or_complete, own_failed, part_at, parts_of, says_failed}
 use Rattle.ctl_code.specs.Steps.{moved, step, stepped}
 use Rattle.ctl_code.specs.Valid.{AreBegunBy, IsBegunBy, IsDeclarable}
 use Rattle.ctl_gen.proofs.Known.{IsPlainType}
 use Rattle.ctl_gen.proofs.Parted.{AgreesOn, GivesDefaults, HasPart, HaveParts, component_is, is_itself, parts_length, parts_pulled, parts_rest}
 use Rattle.ctl_gen.proofs.Picks.{next_in_order, none_in_order, picked_less, rest_length}
 use Rattle.ctl_gen.proofs.Each.{Each}
-use Rattle.ctl_gen.proofs.Worlds.{Since, origin_nested}
+use Rattle.ctl_gen.proofs.Worlds.{Since}
 use Rattle.ctl_gen.proofs.Scopes.{IsSurrounded, controlled_inside, declarable_later, finalize_in, pulled_inside, rest_inside}
-use Rattle.ctl_gen.proofs.Setting.{Setting, tools_with, returns, IsSure, Told, Calls, enter_shows}
+use Rattle.ctl_gen.proofs.Setting.{Setting, called, called_is, tools_with, returns, IsSure, Told, Calls, enter_shows}
 use Rattle.ctl_gen.proofs.Follow.{IsRaise, by_raise, Comes, Runs, gives, way_of, added, after_comes, both, last_step, one_step, stop_step, more_quits, more_halts}
 
 -- whether a finalization failed is what it hands on, unless an exception leaves it
@@ -118,12 +118,23 @@ pub call_is : (ask : Ask) (k : Tables) (call : Call) (default : Default) (f : �
 unfolding opened_finalization opened_outcome opened_names
 call_is ask k call default f s c e l w o at = ap (λ x. on_some x gone (λ o1. look (λ w1. show e >> call (OfSubprogram f (holding (Binds s.object s.offset s.path) ∷ [])) (home_of o1.origin w1) >> nothing)) c l w) at
 
+-- among the masters of a statement that assigns, if one does
+pub call_among : (ask : Ask) (k : Tables) (assigning : Option (List ℕ)) (call : Call) (default : Default) (f : ℕ) (s : Spot) (c : ℕ) (e : Event) (l : Log) (w : World) (o : Object) → object_at s.object w ≡ Some o → call_operation (tools_with ask k (called assigning call) default) s (Some f) e c l w ≡ bind (add 0 (call (OfSubprogram f (holding (Binds s.object s.offset s.path) ∷ [])) (called_among assigning o.origin w) c (tell e l) w)) (on_goes (λ _. nothing))
+call_among ask k assigning call default f s c e l w o at =
+    call_is ask k (called assigning call) default f s c e l w o at
+    ∙ ap (λ (m : Act Returned). bind (add 0 (m c (tell e l) w)) (on_goes (λ _. nothing))) (called_is assigning call (OfSubprogram f (holding (Binds s.object s.offset s.path) ∷ [])) o.origin w)
+
 -- Parts ---------------------------------------------------------------------------------------------
 
--- for a cause, where so many masters have been around the operations of the object since an earlier world
-module _ (ask : Ask) (k : Tables) (code : Code) (setting : Setting k code) (call : Call) (default : Default) (constants : GivesDefaults k default) (bound : ℕ) (calls : Calls ask k code setting bound call) (cause : Cause) (wr : World) (around : ℕ) where
+-- for a cause, where the operations of the object have been called among so many masters since an earlier world: those of a statement that
+-- assigns, if one does
+module _ (ask : Ask) (k : Tables) (code : Code) (setting : Setting k code) (call : Call) (default : Default) (constants : GivesDefaults k default) (bound : ℕ) (calls : Calls ask k code setting bound call) (assigning : Option (List ℕ)) (cause : Cause) (wr : World) (around : ℕ) where
   abbrev K : Tools
-  K = tools_with ask k call default
+  K = tools_with ask k (called assigning call) default
+
+  -- over these frames
+  abbrev pub AreAround : List Frame → ℕ → Type 0
+  AreAround ks n = (assigning_in ks ≡ assigning) × IsSurrounded k code assigning wr around n
 
   abbrev shown : Spot → Event
   shown s = EventOf.Finalize (part_at s) cause
@@ -141,21 +152,21 @@ module _ (ask : Ask) (k : Tables) (code : Code) (setting : Setting k code) (call
 
   -- the parts of types before this one are finalized as the meaning says, from the step that begins with them
   abbrev pub PartsRun : ℕ → Type 0
-  PartsRun n = (s : Spot) (t : ℕ) (ks : List Frame) (c : ℕ) (l : Log) (w : World) (s0 : State) → IsSurrounded k code wr around s.object → t < n → IsPlainType k (Record t) → has_controlled k (Record t) ≡ true → IsDeclarable code around t → c ≤ bound → Since k code wr w → step ask code s0 ≡ moved l (Table.finalize_part code (parts_of code t) cause s t ks w) → Finalizes 0 0 s0 c ks (finalize_part K cause Every n s t c l w)
+  PartsRun n = (s : Spot) (t : ℕ) (ks : List Frame) (c : ℕ) (l : Log) (w : World) (s0 : State) → AreAround ks s.object → t < n → IsPlainType k (Record t) → has_controlled k (Record t) ≡ true → IsDeclarable code around t → c ≤ bound → Since k code wr w → step ask code s0 ≡ moved l (Table.finalize_part code (parts_of code t) cause s t ks w) → Finalizes 0 0 s0 c ks (finalize_part K cause Every n s t c l w)
 
   -- the step that chooses
   choose_step : (s : Spot) (count : ℕ) (ks : List Frame) (h : Handed) (l : Log) (w : World) (x : Begun) (xs : List Begun) (failed : Bool) (a : Option (ℕ × Log)) → length (x ∷ xs) ≡ suc count → picked ask (suc count) l ≡ a → step ask code (gives (FinalizingParts cause s (x ∷ xs) failed ∷ ks) (Fine h) l w) ≡ stepped code (gives (FinalizingParts cause s (x ∷ xs) failed ∷ ks) (Fine h) l w) a
   choose_step s count ks h l w x xs failed a long is = ap (λ j. stepped code (gives (FinalizingParts cause s (x ∷ xs) failed ∷ ks) (Fine h) l w) (picked ask j l)) long ∙ ap (stepped code (gives (FinalizingParts cause s (x ∷ xs) failed ∷ ks) (Fine h) l w)) is
 
   -- the components that are left
-  pub left_run : (n : ℕ) → PartsRun n → (s : Spot) (t : ℕ) → IsSurrounded k code wr around s.object → t ≤ n → (count : ℕ) (ks : List Frame) (h : Handed) (failed : Bool) (c : ℕ) (l : Log) (w : World) (left : List Placed) (xs : List Begun) → length left ≡ count → HaveParts k t left xs → Each (λ p. has_controlled k p.ty ≡ true) left → AreBegunBy code around xs → c ≤ bound → Since k code wr w → Finalizes 1 1 (gives (FinalizingParts cause s xs failed ∷ ks) (Fine h) l w) c ks (in_turn n s count left (failed || says_failed (Fine h)) c l w)
+  pub left_run : (n : ℕ) → PartsRun n → (s : Spot) (t : ℕ) (ks : List Frame) → AreAround ks s.object → t ≤ n → (count : ℕ) (h : Handed) (failed : Bool) (c : ℕ) (l : Log) (w : World) (left : List Placed) (xs : List Begun) → length left ≡ count → HaveParts k t left xs → Each (λ p. has_controlled k p.ty ≡ true) left → AreBegunBy code around xs → c ≤ bound → Since k code wr w → Finalizes 1 1 (gives (FinalizingParts cause s xs failed ∷ ks) (Fine h) l w) c ks (in_turn n s count left (failed || says_failed (Fine h)) c l w)
   unfolding in_any_order picked opened_outcome
-  left_run n parts s t was old zero ks h failed c l w [] [] long have held inside le fits = last_step ask code (Passed k code cause wr) 1 1 _ c 0 (tells ks) (Goes (failed || says_failed (Fine h))) l w (omega arith) (none_passed cause, fits) refl
-  left_run n parts s t was old zero ks h failed c l w [] (x ∷ xs) long have held inside le fits = absurd have
-  left_run n parts s t was old zero ks h failed c l w (q ∷ qs) xs long have held inside le fits = absurd (omega (arith, long))
-  left_run n parts s t was old (suc count) ks h failed c l w [] xs long have held inside le fits = absurd (omega (arith, long))
-  left_run n parts s t was old (suc count) ks h failed c l w (q ∷ qs) [] long have held inside le fits = absurd have
-  left_run n parts s t was old (suc count) ks h failed c l w (q ∷ qs) (x ∷ xs) long have held inside le fits = by (λ b c2 l2 w2 left2 xs2 long2 have2 held2 inside2 le2 fits2. left_run n parts s t was old count ks (handed b) (failed || says_failed (Fine h)) c2 l2 w2 left2 xs2 long2 have2 held2 inside2 le2 fits2) (picked ask (suc count) l) refl
+  left_run n parts s t ks was old zero h failed c l w [] [] long have held inside le fits = last_step ask code (Passed k code cause wr) 1 1 _ c 0 (tells ks) (Goes (failed || says_failed (Fine h))) l w (omega arith) (none_passed cause, fits) refl
+  left_run n parts s t ks was old zero h failed c l w [] (x ∷ xs) long have held inside le fits = absurd have
+  left_run n parts s t ks was old zero h failed c l w (q ∷ qs) xs long have held inside le fits = absurd (omega (arith, long))
+  left_run n parts s t ks was old (suc count) h failed c l w [] xs long have held inside le fits = absurd (omega (arith, long))
+  left_run n parts s t ks was old (suc count) h failed c l w (q ∷ qs) [] long have held inside le fits = absurd have
+  left_run n parts s t ks was old (suc count) h failed c l w (q ∷ qs) (x ∷ xs) long have held inside le fits = by (λ b c2 l2 w2 left2 xs2 long2 have2 held2 inside2 le2 fits2. left_run n parts s t ks was old count (handed b) (failed || says_failed (Fine h)) c2 l2 w2 left2 xs2 long2 have2 held2 inside2 le2 fits2) (picked ask (suc count) l) refl
     where
       -- whether one failed so far
       fell : Bool
@@ -224,9 +235,9 @@ module _ (ask : Ask) (k : Tables) (code : Code) (setting : Setting k code) (call
   behind_own n s t failed = in_turn n s (length (parts_to_finalize K Every s t)) (parts_to_finalize K Every s t) failed
 
   -- its components, from the step that begins with them
-  all_run : (n : ℕ) → PartsRun n → (s : Spot) (t : ℕ) → IsSurrounded k code wr around s.object → t ≤ n → IsPlainType k (Record t) → IsDeclarable code around t → (ks : List Frame) (failed : Bool) (c : ℕ) (l : Log) (w : World) (s0 : State) → c ≤ bound → Since k code wr w → step ask code s0 ≡ moved l (finalize_left cause s (controlled_of code t) failed ks w) → Finalizes 2 2 s0 c ks (behind_own n s t failed c l w)
+  all_run : (n : ℕ) → PartsRun n → (s : Spot) (t : ℕ) (ks : List Frame) → AreAround ks s.object → t ≤ n → IsPlainType k (Record t) → IsDeclarable code around t → (failed : Bool) (c : ℕ) (l : Log) (w : World) (s0 : State) → c ≤ bound → Since k code wr w → step ask code s0 ≡ moved l (finalize_left cause s (controlled_of code t) failed ks w) → Finalizes 2 2 s0 c ks (behind_own n s t failed c l w)
   unfolding in_any_order opened_outcome
-  all_run n parts s t was old plain inside ks failed c l w s0 le fits first =
+  all_run n parts s t ks was old plain inside failed c l w s0 le fits first =
       subst (λ ps. Finalizes 2 2 s0 c ks (in_turn n s (length ps) ps failed c l w)) (sym (parts_is s t))
       (by (keep (λ p. has_controlled k p.ty) (placed k t)) (controlled_of code t) (setting.agrees default constants t plain).controlled (keep_passes (λ p. has_controlled k p.ty) (placed k t)) (controlled_inside code setting.valid around t inside) first)
     where
@@ -237,7 +248,7 @@ module _ (ask : Ask) (k : Tables) (code : Code) (setting : Setting k code) (call
       by (q ∷ qs) (x ∷ xs) have held within go =
           one_step ask code (Passed k code cause wr) 1 1 2 2 s0 (gives (FinalizingParts cause s (x ∷ xs) failed ∷ ks) (Fine Complete) l w) c c (tells ks) _ (omega arith) (omega arith) (omega arith) (omega arith) go
           (subst (λ b. Finalizes 1 1 (gives (FinalizingParts cause s (x ∷ xs) failed ∷ ks) (Fine Complete) l w) c ks (in_turn n s (length (q ∷ qs)) (q ∷ qs) b c l w)) (or_false failed)
-          (left_run n parts s t was old (length (q ∷ qs)) ks Complete failed c l w (q ∷ qs) (x ∷ xs) refl have held within le fits))
+          (left_run n parts s t ks was old (length (q ∷ qs)) Complete failed c l w (q ∷ qs) (x ∷ xs) refl have held within le fits))
 
   -- what becomes of the call of its own Finalize
   abbrev after_own : ℕ → Spot → ℕ → Out Unit → Out Bool
@@ -263,50 +274,55 @@ module _ (ask : Ask) (k : Tables) (code : Code) (setting : Setting k code) (call
       (record { n = z.n; falls = z.falls; enough = z.enough; in_time = omega (arith, z.in_time, le); comes = z.comes; fits = z.fits }) next)
 
   -- after its own Finalize, which raised
-  own_raised : (n : ℕ) → PartsRun n → (s : Spot) (t : ℕ) → IsSurrounded k code wr around s.object → t ≤ n → IsPlainType k (Record t) → IsDeclarable code around t → (ks : List Frame) (s0 : State) (e c c1 u : ℕ) (l : Log) (w : World) → c ≤ bound → Comes ask code 0 s0 c u c1 (gives (FinalizingOwn cause s t ∷ ks) (Raised e) l w) (Told k code wr (Some (ByRaise e)) w) → OnFailure cause → Finalizes 0 0 s0 c ks (after_own n s t (Gives (Leaves (ByRaise e)) u c1 l w))
+  own_raised : (n : ℕ) → PartsRun n → (s : Spot) (t : ℕ) (ks : List Frame) → AreAround ks s.object → t ≤ n → IsPlainType k (Record t) → IsDeclarable code around t → (s0 : State) (e c c1 u : ℕ) (l : Log) (w : World) → c ≤ bound → Comes ask code 0 s0 c u c1 (gives (FinalizingOwn cause s t ∷ ks) (Raised e) l w) (Told k code wr (Some (ByRaise e)) w) → OnFailure cause → Finalizes 0 0 s0 c ks (after_own n s t (Gives (Leaves (ByRaise e)) u c1 l w))
   unfolding picked opened_outcome
-  own_raised n parts s t was old plain inside ks s0 e c c1 u l w le z (Remembers meant run) =
+  own_raised n parts s t ks was old plain inside s0 e c c1 u l w le z (Remembers meant run) =
       let s1 = gives (FinalizingOwn cause s t ∷ ks) (Raised e) l w in
       let falls = z.falls in
       subst (λ x. Finalizes 0 0 s0 c ks (add 1 (bind (add (u + 0) x) (on_goes (behind_own n s t))))) (sym (meant e c1 l w))
       (behind_it s0 s1 ks c c1 u (u + 0 + 0) (behind_own n s t true c1 l w) (omega arith) z
-      (all_run n parts s t was old plain inside ks true c1 l w s1 (omega (arith, falls, le)) z.fits.1 (ap (moved l) (run code s t ks w))))
-  own_raised n parts s t was old plain inside ks s0 e c c1 u l w le z (Raises x meant run passed) =
+      (all_run n parts s t ks was old plain inside true c1 l w s1 (omega (arith, falls, le)) z.fits.1 (ap (moved l) (run code s t ks w))))
+  own_raised n parts s t ks was old plain inside s0 e c c1 u l w le z (Raises x meant run passed) =
       let s1 = gives (FinalizingOwn cause s t ∷ ks) (Raised e) l w in
       subst (λ y. Finalizes 0 0 s0 c ks (add 1 (bind (add (u + 0) y) (on_goes (behind_own n s t))))) (sym (meant e c1 l w))
       (behind_it s0 s1 ks c c1 u (u + 0 + 0) (Gives (Leaves (ByRaise x)) 0 c1 l w) (omega arith) z
       (last_step ask code (Passed k code cause wr) 2 2 s1 c1 0 (tells ks) (Leaves (ByRaise x)) l w (omega arith) (passed, z.fits.1) (ap (moved l) (run code s t ks w))))
 
   -- after the execution of its own Finalize
-  over : (n : ℕ) → PartsRun n → (s : Spot) (t : ℕ) → IsSurrounded k code wr around s.object → t ≤ n → IsPlainType k (Record t) → IsDeclarable code around t → (ks : List Frame) (s0 : State) (c : ℕ) (x : Out Returned) → c ≤ bound → Runs ask code (Told k code wr) 0 3 s0 c (returns (FinalizingOwn cause s t ∷ ks)) x → Finalizes 0 0 s0 c ks (after_own n s t (bind (add 0 x) (on_goes (λ _. nothing))))
+  over : (n : ℕ) → PartsRun n → (s : Spot) (t : ℕ) (ks : List Frame) → AreAround ks s.object → t ≤ n → IsPlainType k (Record t) → IsDeclarable code around t → (s0 : State) (c : ℕ) (x : Out Returned) → c ≤ bound → Runs ask code (Told k code wr) 0 3 s0 c (returns (FinalizingOwn cause s t ∷ ks)) x → Finalizes 0 0 s0 c ks (after_own n s t (bind (add 0 x) (on_goes (λ _. nothing))))
   unfolding picked opened_outcome after_finalize
-  over n parts s t was old plain inside ks s0 c (Gives (Goes v) u c1 l w) le z =
+  over n parts s t ks was old plain inside s0 c (Gives (Goes v) u c1 l w) le z =
       let s1 = gives (FinalizingOwn cause s t ∷ ks) (Fine Complete) l w in
       let falls = z.falls in
-      behind_it s0 s1 ks c c1 u (0 + u + 0 + 0 + 0) (behind_own n s t false c1 l w) (omega arith) z (all_run n parts s t was old plain inside ks false c1 l w s1 (omega (arith, falls, le)) z.fits.1 refl)
-  over n parts s t was old plain inside ks s0 c (Gives (Leaves y) u c1 l w) le z =
+      behind_it s0 s1 ks c c1 u (0 + u + 0 + 0 + 0) (behind_own n s t false c1 l w) (omega arith) z (all_run n parts s t ks was old plain inside false c1 l w s1 (omega (arith, falls, le)) z.fits.1 refl)
+  over n parts s t ks was old plain inside s0 c (Gives (Leaves y) u c1 l w) le z =
       by_raise (λ x. Runs ask code (Told k code wr) 0 3 s0 c (returns {A = Returned} (FinalizingOwn cause s t ∷ ks)) (Gives (Leaves x) u c1 l w) → Finalizes 0 0 s0 c ks (after_own n s t (Gives (Leaves x) (0 + u + 0) c1 l w)))
-      (λ e z1. own_raised n parts s t was old plain inside ks s0 e c c1 (0 + u + 0) l w le (record { n = z1.n; falls = z1.falls; enough = z1.enough; in_time = omega (arith, z1.in_time); comes = z1.comes; fits = z1.fits }) (on_failure cause)) y z.fits.0 z
-  over n parts s t was old plain inside ks s0 c (Stops why u l) le z = more_quits ask code (Passed k code cause wr) 3 0 s0 u _ l why (omega arith) z
-  over n parts s t was old plain inside ks s0 c (Cut u c1 l) le z = more_halts ask code (Passed k code cause wr) 3 0 s0 c u _ l (omega arith) z
+      (λ e z1. own_raised n parts s t ks was old plain inside s0 e c c1 (0 + u + 0) l w le (record { n = z1.n; falls = z1.falls; enough = z1.enough; in_time = omega (arith, z1.in_time); comes = z1.comes; fits = z1.fits }) (on_failure cause)) y z.fits.0 z
+  over n parts s t ks was old plain inside s0 c (Stops why u l) le z = more_quits ask code (Passed k code cause wr) 3 0 s0 u _ l why (omega arith) z
+  over n parts s t ks was old plain inside s0 c (Cut u c1 l) le z = more_halts ask code (Passed k code cause wr) 3 0 s0 c u _ l (omega arith) z
 
   -- a part that is controlled, from the step that begins with it
-  own_runs : (n : ℕ) → PartsRun n → (s : Spot) (t : ℕ) (ks : List Frame) (c : ℕ) (l : Log) (w : World) (s0 : State) → IsSurrounded k code wr around s.object → t ≤ n → IsPlainType k (Record t) → IsDeclarable code around t → c ≤ bound → Since k code wr w → (g : Option ℕ) (y : Option Object) → operation (λ x. x.finalize) k t ≡ g → object_at s.object w ≡ y → step ask code s0 ≡ moved l (finalize_own code g cause s t y ks w) → Finalizes 0 0 s0 c ks (after_own n s t (call_operation K s g (shown s) c l w))
+  own_runs : (n : ℕ) → PartsRun n → (s : Spot) (t : ℕ) (ks : List Frame) (c : ℕ) (l : Log) (w : World) (s0 : State) → AreAround ks s.object → t ≤ n → IsPlainType k (Record t) → IsDeclarable code around t → c ≤ bound → Since k code wr w → (g : Option ℕ) (y : Option Object) → operation (λ x. x.finalize) k t ≡ g → object_at s.object w ≡ y → step ask code s0 ≡ moved l (finalize_own code g cause s t y ks w) → Finalizes 0 0 s0 c ks (after_own n s t (call_operation K s g (shown s) c l w))
   unfolding opened_finalization opened_outcome opened_names
   own_runs n parts s t ks c l w s0 was old plain inside le fits None None op at go = subst (λ y. Finalizes 0 0 s0 c ks (after_own n s t (add 1 (on_some y gone (λ _. nothing) c l w)))) (sym at) (stop_step ask code (Passed k code cause wr) 0 0 s0 _ c 2 (tells ks) UseAfterFree l (omega arith) go refl refl)
   own_runs n parts s t ks c l w s0 was old plain inside le fits None (Some p) op at go =
       subst (λ y. Finalizes 0 0 s0 c ks (after_own n s t (add 1 (on_some y gone (λ _. nothing) c l w)))) (sym at)
       (added ask code (Passed k code cause wr) 1 2 2 0 0 s0 c (tells ks) _ (omega arith) (omega arith)
       (added ask code (Passed k code cause wr) (1 + 0 + 0 + 0) 2 2 2 2 s0 c (tells ks) _ (omega arith) (omega arith)
-      (all_run n parts s t was old plain inside ks false c l w s0 le fits go)))
-  own_runs n parts s t ks c l w s0 was old plain inside le fits (Some f) None op at go = subst (λ y. Finalizes 0 0 s0 c ks (after_own n s t (on_some y gone (λ o1. look (λ w1. show (shown s) >> call (OfSubprogram f (holding (Binds s.object s.offset s.path) ∷ [])) (home_of o1.origin w1) >> nothing)) c l w))) (sym at) (stop_step ask code (Passed k code cause wr) 0 0 s0 _ c 1 (tells ks) UseAfterFree l (omega arith) go refl refl)
+      (all_run n parts s t ks was old plain inside false c l w s0 le fits go)))
+  own_runs n parts s t ks c l w s0 was old plain inside le fits (Some f) None op at go = subst (λ y. Finalizes 0 0 s0 c ks (after_own n s t (on_some y gone (λ o1. look (λ w1. show (shown s) >> K.call (OfSubprogram f (holding (Binds s.object s.offset s.path) ∷ [])) (home_of o1.origin w1) >> nothing)) c l w))) (sym at) (stop_step ask code (Passed k code cause wr) 0 0 s0 _ c 1 (tells ks) UseAfterFree l (omega arith) go refl refl)
   own_runs n parts s t ks c l w s0 was old plain inside le fits (Some f) (Some p) op at go =
       let body = setting.finalize_body t f op in
-      let here : IsDeclarable code (length (home_of p.origin w)) t = declarable_later code around (length (home_of p.origin w)) t (was w p fits at) inside in
-      subst (λ x. Finalizes 0 0 s0 c ks (after_own n s t x)) (sym (call_is ask k call default f s c (shown s) l w p at))
-      (over n parts s t was old plain inside ks s0 c _ le
-      (calls.runs f body.0 body.1 wr (home_of p.origin w) (holding (Binds s.object s.offset s.path) ∷ []) AfterBody (FinalizingOwn cause s t ∷ ks) c (tell (shown s) l) w s0 Procedure 1 tt le fits (finalize_in code setting.valid _ t f here (setting.finalize t ∙ op)) (origin_nested k code p.origin w fits.0) (tt, tt)
-      (go ∙ enter_shows (slice_get code.entries.items f) (shown s) (home_of p.origin w) (holding (Binds s.object s.offset s.path) ∷ []) AfterBody (FinalizingOwn cause s t ∷ ks) l w)))
+      let actuals = holding (Binds s.object s.offset s.path) ∷ [] in
+      let v = called_among assigning p.origin w in
+      let nested = was.1 w p fits at in
+      let here : IsDeclarable code (length v) t = declarable_later code around (length v) t nested.0 inside in
+      subst (λ x. Finalizes 0 0 s0 c ks (after_own n s t x)) (sym (call_among ask k assigning call default f s c (shown s) l w p at))
+      (over n parts s t ks was old plain inside s0 c _ le
+      (calls.runs f body.0 body.1 wr v actuals AfterBody (FinalizingOwn cause s t ∷ ks) c (tell (shown s) l) w s0 Procedure 1 tt le fits (finalize_in code setting.valid _ t f here (setting.finalize t ∙ op)) nested.1 (tt, tt)
+      (go
+      ∙ ap (λ a. moved l (enter_body (slice_get code.entries.items f) (shown s ∷ []) (called_among a p.origin w) actuals AfterBody (FinalizingOwn cause s t ∷ ks) w)) was.0
+      ∙ enter_shows (slice_get code.entries.items f) (shown s) v actuals AfterBody (FinalizingOwn cause s t ∷ ks) l w)))
 
   -- each part
   pub part_runs : (n : ℕ) → PartsRun n
@@ -325,7 +341,7 @@ module _ (ask : Ask) (k : Tables) (code : Code) (setting : Setting k code) (call
           subst (Finalizes 0 0 s0 c ks) (sym (within_is n s t c l w (agrees.itself ∙ ap is_itself is)))
           (added ask code (Passed k code cause wr) 1 2 2 0 0 s0 c (tells ks) _ (omega arith) (omega arith)
           (added ask code (Passed k code cause wr) 0 2 2 2 2 s0 c (tells ks) _ (omega arith) (omega arith)
-          (all_run n parts s t was old plain inside ks false c l w s0 le fits go)))
+          (all_run n parts s t ks was old plain inside false c l w s0 le fits go)))
       by PartsOf.Controlled is parts go =
           subst (Finalizes 0 0 s0 c ks) (sym (controlled_is (operation (λ x. x.finalize) k t) n s t c l w refl (agrees.itself ∙ ap is_itself is)))
           (own_runs n parts s t ks c l w s0 was old plain inside le fits (operation (λ x. x.finalize) k t) (object_at s.object w) refl refl (go ∙ ap (λ g. moved l (finalize_own code g cause s t (object_at s.object w) ks w)) (setting.finalize t)))

@@ -1,5 +1,5 @@
 -- The code of each well-typed statement and master is well formed.
-use Rattle.std.proofs.Common.{◌<◌, ◌≡◌, ℕ, ◌+◌, List, [], ◌∷◌, ◌++◌, length, map, true, false, Option, Some, None, option_map, refl, sym, ap, ◌∙◌, subst, arith}
+use Rattle.std.proofs.Common.{◌<◌, ◌≡◌, ℕ, ◌+◌, List, [], ◌∷◌, ◌++◌, length, map, true, false, Option, Some, None, option_map, refl, sym, ap, ◌∙◌, subst, arith, length-append}
 use Rattle.std.specs.Prelude.{◌&&◌, slice_get}
 use Rattle.ctl_program.specs.declared.types.Ty.{Ty}
 use Rattle.ctl_program.specs.declared.types.Ty.TheVariants.{Integer, Count, Boolean, Address, Handle, Access, Record}
@@ -30,12 +30,12 @@ use Rattle.ctl_code.specs.declared.code.Way.TheVariants as WayOf
 use Rattle.ctl_code.specs.declared.code.Code.{Code}
 use Rattle.ctl_code.specs.Windows.{depth, variable_at}
 use Rattle.ctl_meaning.specs.Outcome.{program_error}
-use Rattle.ctl_code.specs.Valid.{IsAtEnd, IsDeclarable, IsException, HasCollection, IsScalar, outermost}
-use Rattle.ctl_layout.specs.Around.{behind, local_at, out_to}
+use Rattle.ctl_code.specs.Valid.{IsAtEnd, IsDeclarable, IsException, HasCollection, IsScalar}
+use Rattle.ctl_layout.specs.Around.{Site, among, behind, local_at, out_to}
 use Rattle.ctl_layout.specs.Parts.{Reached, Variable, Part, Object, part_runs, parts_run}
 use Rattle.ctl_layout.specs.Values.{ValueCode, actual_code, copied, sourced, value_code, value_type, reached_by}
 use Rattle.ctl_layout.specs.Records.{is_pool, is_run_type}
-use Rattle.ctl_layout.specs.Defaults.{is_assignable, is_outermost}
+use Rattle.ctl_layout.specs.Defaults.{is_assignable, is_declared_in}
 use Rattle.ctl_layout.specs.Layout as Layout
 use Rattle.ctl_layout.specs.Layout.{ArmCode, HandlerCode, ItemCode, MasterCode, StatementCode, all, all_items, arm_code, arms_run, assign, assign_record, block, call, exit, free, gathers_code, return, handled, handler_code, handlers_run, has_choice, in_master, inside, item_code, library_allocate, library_deallocate, master_code, missing_statement, order_of, ordered_pool, statement_code, tested, valued, with_value}
 use Rattle.ctl_layout.proofs.Extensions.{both_true}
@@ -61,9 +61,9 @@ slots_told (D.master {f = f} {is = items} {body = body} {hs = hs} elaborated don
     ap (λ (z : MasterCode). z.slots) (master_roll (record { slots = length f; items = items; body = body; handlers = hs }))
 
 -- the operations of each record type that is declared around a place are declared there too, and so is each subprogram that can be called
--- there, with slots for its formals; the collection of each access type stands in one of the masters around; and the operations of a record
--- type of the main procedure's own declarative part are declared inside its master; and Program_Error is an exception of the table
-module _ (code : Code) (records : List RecordType) (k : W.Setting) (declarable : (env : W.Frames) (t : ℕ) → W.HasRecord k env t → IsDeclarable code (length env) t) (may_call : MayCall code k) (may_new : MayNew code k) (seen : (env : W.Frames) (a : ℕ) → W.HasAccess k env a → HasCollection code (length env) a) (assignable : (t : ℕ) → is_outermost (slice_get records t) ≡ true → IsDeclarable code outermost t) (raisable : (x : ℕ) → x < k.exceptions → x < length code.exceptions.items) (fails : IsException code program_error) where
+-- there, with slots for its formals; the collection of each access type stands in one of the masters around; the operations of a record type
+-- are declared inside as many masters as its level says; and Program_Error is an exception of the table
+module _ (code : Code) (records : List RecordType) (k : W.Setting) (declarable : (env : W.Frames) (t : ℕ) → W.HasRecord k env t → IsDeclarable code (length env) t) (may_call : MayCall code k) (may_new : MayNew code k) (seen : (env : W.Frames) (a : ℕ) → W.HasAccess k env a → HasCollection code (length env) a) (assignable : (masters t : ℕ) → is_declared_in masters (slice_get records t) ≡ true → IsDeclarable code masters t) (raisable : (x : ℕ) → x < k.exceptions → x < length code.exceptions.items) (fails : IsException code program_error) where
   -- Items ------------------------------------------------------------------------------------------
 
   may_declare : (env : W.Frames) (ty : Ty) → W.InView k env ty → MayDeclare code (length env) ty
@@ -152,14 +152,18 @@ module _ (code : Code) (records : List RecordType) (k : W.Setting) (declarable :
 
   -- Statements ---------------------------------------------------------------------------------------
 
+  -- inside these masters
+  abbrev site : W.Frames → Site
+  site env = among records (length env)
+
   abbrev pub GoodStatement : W.Frames → StatementCode → Type 0
-  GoodStatement env x = x.runs records ≡ true → Stays code env x.texts x.code
+  GoodStatement env x = x.runs (among records (length env)) ≡ true → Stays code env x.texts x.code
 
   good_as : (env : W.Frames) (x y : StatementCode) → x ≡ y → GoodStatement env y → GoodStatement env x
   good_as env x y same h = subst (GoodStatement env) (sym same) h
 
   not_missing : (env : W.Frames) (x : StatementCode) → x ≡ missing_statement → GoodStatement env x
-  not_missing env x same runs = absurd (let e = sym (ap (λ (z : StatementCode). z.runs records) same) ∙ runs in cc)
+  not_missing env x same runs = absurd (let e = sym (ap (λ (z : StatementCode). z.runs (site env)) same) ∙ runs in cc)
 
   assign_good : (env : W.Frames) (o : Option Reached) (x : ValueCode) (t : Ty) → IsFound code (length env) records o → (x.runs records ≡ true → Fine code (length env) x t) → GoodStatement env (assign o x)
   assign_good env None x t found fine runs a n p agrees texts can = absurd (cc)
@@ -173,9 +177,9 @@ module _ (code : Code) (records : List RecordType) (k : W.Setting) (declarable :
   record_good env None t q to from runs a n p agrees texts can = absurd (cc)
   record_good env (Some target) t None to from runs a n p agrees texts can = absurd (cc)
   record_good env (Some target) t (Some source) to from runs a n p agrees texts can =
-      let e = both_true (part_runs target records) (part_runs source records && is_assignable records t) runs in
-      let f = both_true (part_runs source records) (is_assignable records t) e.1 in
-      record_formed code (length env) records target source t a.stack agrees.deep to from (part_begun records target e.0) (part_begun records source f.0) (assignable t (both_true _ _ f.1).1) p
+      let e = both_true (part_runs target records) (part_runs source records && is_assignable (site env) t) runs in
+      let f = both_true (part_runs source records) (is_assignable (site env) t) e.1 in
+      record_formed code (length env) records target source t a.stack agrees.deep to from (part_begun records target e.0) (part_begun records source f.0) (subst (λ n. IsDeclarable code n t) (sym agrees.deep) (assignable (length env) t (both_true _ _ f.1).1)) p
 
   free_good : (env : W.Frames) (access : ℕ) (o : Option Reached) → IsFound code (length env) records o → HasCollection code (length env) access → GoodStatement env (free access o)
   free_good env access None found around runs a n p agrees texts can = absurd (cc)
@@ -230,16 +234,16 @@ module _ (code : Code) (records : List RecordType) (k : W.Setting) (declarable :
   -- Masters ------------------------------------------------------------------------------------------
 
   abbrev pub GoodMaster : W.Frames → StatementCode → Type 0
-  GoodMaster env x = x.runs records ≡ true → (m : Kind) (below : List Kind) (n p : ℕ) → Agrees env (m ∷ below) → HasAt code.texts.items n x.texts → IsAtEnd (m ∷ below) → FormedAt code p (x.code (in_master m below) n) (m ∷ below) None
+  GoodMaster env x = x.runs (among records (length env)) ≡ true → (m : Kind) (below : List Kind) (n p : ℕ) → Agrees env (m ∷ below) → HasAt code.texts.items n x.texts → IsAtEnd (m ∷ below) → FormedAt code p (x.code (in_master m below) n) (m ∷ below) None
 
   -- the statements of a master, with their handlers
   abbrev GoodHandled : W.Frames → StatementCode → Type 0
-  GoodHandled env x = x.runs records ≡ true → StaysAtEnd code env x.texts x.code
+  GoodHandled env x = x.runs (site env) ≡ true → StaysAtEnd code env x.texts x.code
 
-  handled_good : (env : W.Frames) (body : StatementCode) (hs : List HandlerCode) → GoodStatement env body → (handlers_run hs records ≡ true → GoodHandlers code env hs) → GoodHandled env (handled body hs)
+  handled_good : (env : W.Frames) (body : StatementCode) (hs : List HandlerCode) → GoodStatement env body → (handlers_run hs (site env) ≡ true → GoodHandlers code env hs) → GoodHandled env (handled body hs)
   handled_good env body [] h g runs = handled_stays code env body [] tt (h runs)
   handled_good env body (x ∷ more) h g runs =
-      let e = both_true (body.runs records) (handlers_run (x ∷ more) records) runs in
+      let e = both_true (body.runs (site env)) (handlers_run (x ∷ more) (site env)) runs in
       handled_stays code env body (x ∷ more) (g e.1) (h e.0)
 
   -- choices that are well typed name exceptions of the table
@@ -253,7 +257,7 @@ module _ (code : Code) (records : List RecordType) (k : W.Setting) (declarable :
 
   inside_good : (env : W.Frames) (x : ItemCode) (body : StatementCode) → GoodItem env x → GoodHandled env body → GoodMaster env (inside x body)
   inside_good env x body items h runs m below n p agrees texts top =
-      let e = both_true (x.runs records) (body.runs records) runs in
+      let e = both_true (x.runs records) (body.runs (site env)) runs in
       let s = m ∷ below in
       let a = in_master m below in
       let first = x.code s in
@@ -271,7 +275,7 @@ module _ (code : Code) (records : List RecordType) (k : W.Setting) (declarable :
       let over = subst (λ slots. Agrees (env ++ f ∷ []) (Block slots ∷ s)) (sym same) (agrees_inside env f s agrees) in
       let there : p + (size + 1) ≡ p + 1 + size = omega arith in
       block_formed code p m.slots inner (behind (size + 1) a)
-      (h runs (Block m.slots) s n (p + 1) over texts tt)
+      (h (subst (λ masters. m.inside.runs (among records masters) ≡ true) (sym (length-append env (f ∷ []))) runs) (Block m.slots) s n (p + 1) over texts tt)
       (leaves_formed code (p + 1 + size) (behind (size + 1) a) (leave_behind code p (size + 1) (p + 1 + size) a there can))
 
   -- Well-typed statements ----------------------------------------------------------------------------
@@ -288,21 +292,21 @@ module _ (code : Code) (records : List RecordType) (k : W.Setting) (declarable :
     statement_good {env} (D.exit {x = o} inside_a_loop perhaps) = good_as env _ _ (layer_of _ (sym (rolls-Exit o))) (leaving_good o perhaps)
     statement_good {env} (D.choose {arms = arms} {others = others} each rest) =
         good_as env _ _ (layer_of _ (sym (rolls-If arms others))) (λ runs.
-        let e = both_true (arms_run (map arm_code arms) records) ((all (map statement_code others)).runs records) runs in
+        let e = both_true (arms_run (map arm_code arms) (site env)) ((all (map statement_code others)).runs (site env)) runs in
         branches_stay code env (map arm_code arms) (all (map statement_code others)) (arms_good each e.0) (each_good rest e.1))
     statement_good {env} (D.loop {body = body} h) =
         good_as env _ _ (layer_of _ (sym (rolls-Loop body))) (λ runs. loop_stays code env (all (map statement_code body)) (λ a n p agrees texts can next. each_good h runs a n p agrees texts can))
     statement_good {env} (D.while {test = e} {body = body} t h) =
         good_as env _ _ (layer_of _ (sym (rolls-While e body))) (λ runs.
         let b = all (map statement_code body) in
-        let g = both_true ((value_code e).runs records) (b.runs records) runs in
+        let g = both_true ((value_code e).runs records) (b.runs (site env)) runs in
         loop_stays code env (tested (value_code e) b) (tested_turns code env (value_code e) b (usable_as code (length env) (value_code e) Boolean tt (typed_fine code records k may_call may_new t g.0)) (each_good h g.1)))
     statement_good {env} (D.for {number = number} {way = way} {low = low} {high = high} {body = body} (D.fills names) from to h) =
         let v : Var = record { level = length env; slot = number } in
         good_as env _ _ (layer_of _ (sym (rolls-For v way low high body))) (λ runs.
         let b = all (map statement_code body) in
-        let e = both_true ((value_code low).runs records) ((value_code high).runs records && b.runs records) runs in
-        let g = both_true ((value_code high).runs records) (b.runs records) e.1 in
+        let e = both_true ((value_code low).runs records) ((value_code high).runs records && b.runs (site env)) runs in
+        let g = both_true ((value_code high).runs records) (b.runs (site env)) e.1 in
         for_stays code env v way (value_code low) (value_code high) b (λ s agrees. newest_there env s v W.LoopParameter agrees names refl)
         (usable_as code (length env) (value_code low) Integer tt (typed_fine code records k may_call may_new from e.0))
         (usable_as code (length env) (value_code high) Integer tt (typed_fine code records k may_call may_new to g.0))
@@ -321,27 +325,27 @@ module _ (code : Code) (records : List RecordType) (k : W.Setting) (declarable :
     each_good : {env : W.Frames} {a : D.Around} {ys : List Stmt} → DoneEach k env a ys → GoodStatement env (all (map statement_code ys))
     each_good D.no_more_statements = λ runs a n p agrees texts can. none code a.stack p
     each_good {env} (D.one_more_statement {s = y} {more = ys} h rest) = λ runs.
-        let g = both_true ((statement_code y).runs records) ((all (map statement_code ys)).runs records) runs in
+        let g = both_true ((statement_code y).runs (site env)) ((all (map statement_code ys)).runs (site env)) runs in
         all_stay code env (statement_code y) (map statement_code ys) (statement_good h g.0) (each_good rest g.1)
 
-    arms_good : {env : W.Frames} {a : D.Around} {ys : List Arm} → GuardedEach k env a ys → arms_run (map arm_code ys) records ≡ true → GoodArms code env (map arm_code ys)
+    arms_good : {env : W.Frames} {a : D.Around} {ys : List Arm} → GuardedEach k env a ys → arms_run (map arm_code ys) (site env) ≡ true → GoodArms code env (map arm_code ys)
     arms_good D.no_more_arms = λ runs. tt
     arms_good {env} (D.one_more_arm {test = e} {body = body} {more = more} t h rest) =
-        subst (λ (z : ArmCode). arms_run (z ∷ map arm_code more) records ≡ true → GoodArms code env (z ∷ map arm_code more)) (sym (arm_roll (record { test = e; body = body })))
+        subst (λ (z : ArmCode). arms_run (z ∷ map arm_code more) (site env) ≡ true → GoodArms code env (z ∷ map arm_code more)) (sym (arm_roll (record { test = e; body = body })))
         (λ runs.
         let b = all (map statement_code body) in
-        let f = both_true ((value_code e).runs records) (b.runs records && arms_run (map arm_code more) records) runs in
-        let g = both_true (b.runs records) (arms_run (map arm_code more) records) f.1 in
+        let f = both_true ((value_code e).runs records) (b.runs (site env) && arms_run (map arm_code more) (site env)) runs in
+        let g = both_true (b.runs (site env)) (arms_run (map arm_code more) (site env)) f.1 in
         (tested_turns code env (value_code e) b (usable_as code (length env) (value_code e) Boolean tt (typed_fine code records k may_call may_new t f.0)) (each_good h g.0), arms_good rest g.1))
 
-    handlers_good : {env : W.Frames} {a : D.Around} {ys : List Handler} → HandledEach k env a ys → handlers_run (map handler_code ys) records ≡ true → GoodHandlers code env (map handler_code ys)
+    handlers_good : {env : W.Frames} {a : D.Around} {ys : List Handler} → HandledEach k env a ys → handlers_run (map handler_code ys) (site env) ≡ true → GoodHandlers code env (map handler_code ys)
     handlers_good D.no_more_handlers = λ runs. tt
     handlers_good {env} (D.one_more_handler {c = c} {body = body} {more = more} choices h rest) =
-        subst (λ (z : HandlerCode). handlers_run (z ∷ map handler_code more) records ≡ true → GoodHandlers code env (z ∷ map handler_code more)) (sym (handler_roll (record { choices = c; body = body })))
+        subst (λ (z : HandlerCode). handlers_run (z ∷ map handler_code more) (site env) ≡ true → GoodHandlers code env (z ∷ map handler_code more)) (sym (handler_roll (record { choices = c; body = body })))
         (λ runs.
         let b = all (map statement_code body) in
-        let e = both_true (has_choice c) (b.runs records && handlers_run (map handler_code more) records) runs in
-        let f = both_true (b.runs records) (handlers_run (map handler_code more) records) e.1 in
+        let e = both_true (has_choice c) (b.runs (site env) && handlers_run (map handler_code more) (site env)) runs in
+        let f = both_true (b.runs (site env)) (handlers_run (map handler_code more) (site env)) e.1 in
         ((chosen_good choices, each_good h f.0), handlers_good rest f.1))
 
     pub master_good : {env : W.Frames} {f : W.Frame} {a : D.Around} {m : Master} → Mastered k env f a m → GoodMaster (env ++ f ∷ []) (master_code m).inside

@@ -14,7 +14,7 @@ use Rattle.ctl_code.specs.declared.code.Instr.TheVariants as InstrOf
 use Rattle.ctl_code.specs.declared.code.Code.{Code}
 use Rattle.ctl_code.specs.Windows.{depth, height}
 use Rattle.ctl_code.specs.Valid as Valid
-use Rattle.ctl_code.specs.Valid.{IsDeclarable, IsFine, Puts, outermost}
+use Rattle.ctl_code.specs.Valid.{IsDeclarable, IsFine, Puts}
 use Rattle.ctl_layout.specs.Around.{local_at, new_operand, out_to, read_from}
 use Rattle.ctl_layout.specs.Parts.{Start, OfVariable, OfValue, Reached, Variable, Part, Object, access_value, are_followed, are_walked, behind_steps, first_type, found, is_begun, is_dereferenced, located_code, part_code, selected, selects_code}
 use Rattle.ctl_layout.specs.Layout.{record_code, take_over_code}
@@ -116,7 +116,7 @@ module _ (code : Code) where
 
     -- Assignments ------------------------------------------------------------------------------------
 
-    pub record_formed : (records : List RecordType) (target source : Reached) (t : ℕ) (s : List Kind) → depth s ≡ masters → IsFound code masters records (Some target) → IsFound code masters records (Some source) → is_begun (start_of target) records ≡ true → is_begun (start_of source) records ≡ true → IsDeclarable code outermost t → Formed code (record_code target t source s) s (Some s)
+    pub record_formed : (records : List RecordType) (target source : Reached) (t : ℕ) (s : List Kind) → depth s ≡ masters → IsFound code masters records (Some target) → IsFound code masters records (Some source) → is_begun (start_of target) records ≡ true → is_begun (start_of source) records ≡ true → IsDeclarable code (depth s) t → Formed code (record_code target t source s) s (Some s)
     record_formed records target source t s deep to from begun begun1 declarable =
         let above = Operand (Record t) ∷ s in
         let top = Operand (Record t) ∷ above in

@@ -22,11 +22,11 @@ use Rattle.ctl_code.specs.declared.code.Entry.{Entry}
 use Rattle.ctl_code.specs.declared.code.Operations.{Operations}
 use Rattle.ctl_code.specs.declared.code.Code.{Code}
 use Rattle.ctl_meaning.specs.Outcome.{program_error}
-use Rattle.ctl_code.specs.Valid.{AreInScope, IsBegun, IsDeclarable, IsEntry, IsException, IsFine, IsInScope, IsStorageInScope, HasCollection, IsValid, Leads, MayBeEntry, TakesObject, TakesStorage, outermost, storage_formals}
-use Rattle.ctl_layout.specs.Around.{Line, Around, behind}
+use Rattle.ctl_code.specs.Valid.{AreInScope, IsBegun, IsDeclarable, IsEntry, IsException, IsFine, IsInScope, IsStorageInScope, HasCollection, IsValid, Leads, MayBeEntry, TakesObject, TakesStorage, storage_formals}
+use Rattle.ctl_layout.specs.Around.{Line, Around, among, behind}
 use Rattle.ctl_layout.specs.Layout as Layout
-use Rattle.ctl_layout.specs.Layout.{bodies, body_code, entries_from, entry_at, HasKinds, in_body, instructions_of, IsLaidOut, kinds_of, master_code, nowhere, operations_in, operations_of, program_code}
-use Rattle.ctl_layout.specs.Defaults.{is_outermost}
+use Rattle.ctl_layout.specs.Layout.{bodies, body_code, entries_from, entry_at, HasKinds, in_body, instructions_of, IsLaidOut, kinds_of, master_code, nowhere, outside, operations_in, operations_of, program_code}
+use Rattle.ctl_layout.specs.Defaults.{is_declared_in}
 use Rattle.ctl_layout.specs.Records.{adjust_by}
 use Rattle.ctl_layout.specs.Run.{AreLinked, IsBody, IsRun, IsWritten}
 use Rattle.ctl_gen.proofs.Known.{both_true}
@@ -163,7 +163,7 @@ module _ (program : Checked) (typed : WellTyped program) where
 module _ (code : Code) (records : List RecordType) where
   -- the body of a subprogram is well formed wherever it stands, and its slots stand before it
   abbrev GoodBody : Subprogram → Type 0
-  GoodBody s = (body_code s).runs records ≡ true → (a : Around) (n p : ℕ) → HasAt code.texts.items n (body_code s).texts → FormedAt code p ((body_code s).code a n) (in_body s).stack None
+  GoodBody s = (body_code s).runs (outside records) ≡ true → (a : Around) (n p : ℕ) → HasAt code.texts.items n (body_code s).texts → FormedAt code p ((body_code s).code a n) (in_body s).stack None
 
   -- bodies that stand from a place on are fine, and before the first instruction of each there stand its slots
   record BodiesFormed (a : Around) (place n : ℕ) (ss : List Subprogram) : Type 0 where
@@ -174,7 +174,7 @@ module _ (code : Code) (records : List RecordType) where
   begins place s rest here more zero e h = let same : entry_at place s ≡ e = cc h in subst (λ (y : Entry). IsBegun code y) same here
   begins place s rest here more (suc f) e h = more f e h
 
-  bodies_formed : (ss : List Subprogram) → (bodies ss).runs records ≡ true → ((f : ℕ) (s : Subprogram) → slice_get ss f ≡ Some s → GoodBody s) → (a : Around) (place n : ℕ) → HasAt code.texts.items n (bodies ss).texts → Has code place ((bodies ss).code a n) None → BodiesFormed a place n ss
+  bodies_formed : (ss : List Subprogram) → (bodies ss).runs (outside records) ≡ true → ((f : ℕ) (s : Subprogram) → slice_get ss f ≡ Some s → GoodBody s) → (a : Around) (place n : ℕ) → HasAt code.texts.items n (bodies ss).texts → Has code place ((bodies ss).code a n) None → BodiesFormed a place n ss
   bodies_formed [] runs good a place n texts h = record { fine = tt; begin = λ f e e1. absurd (cc) }
   bodies_formed (s ∷ ss) runs good a place n texts h =
       let x = body_code s in
@@ -183,7 +183,7 @@ module _ (code : Code) (records : List RecordType) where
       let n1 = n + length x.texts in
       let b : Around = behind size a in
       let more = (bodies ss).code b n1 in
-      let both = both_true (x.runs records) ((bodies ss).runs records) runs in
+      let both = both_true (x.runs (outside records)) ((bodies ss).runs (outside records)) runs in
       let g = good 0 s refl both.0 a n place (Place.has_front code.texts.items n x.texts (bodies ss).texts texts) (has_front code place first more None None h tt) in
       let rest = bodies_formed ss both.1 (λ f t e. good (suc f) t e) b (place + size) n1 (Place.has_back code.texts.items n x.texts (bodies ss).texts texts) (has_back code place first more None h) in
       record {
@@ -331,16 +331,16 @@ module _ (program : Checked) (code : Code) (laid : IsLaidOut program code) (kind
       )
 
   -- the level of a type says how many masters are around it
-  assignable : (t : ℕ) → is_outermost (slice_get program.records t) ≡ true → IsDeclarable code outermost t
-  assignable t e = by (slice_get program.records t) refl e
+  assignable : (masters t : ℕ) → is_declared_in masters (slice_get program.records t) ≡ true → IsDeclarable code masters t
+  assignable masters t e = by (slice_get program.records t) refl e
     where
-      by : (o : Option RecordType) → slice_get program.records t ≡ o → is_outermost o ≡ true → IsDeclarable code outermost t
-      by None there outer = absurd (cc)
-      by (Some r) there outer =
+      by : (o : Option RecordType) → slice_get program.records t ≡ o → is_declared_in masters o ≡ true → IsDeclarable code masters t
+      by None there inside = absurd (cc)
+      by (Some r) there inside =
           let home = home_of program typed t r there in
           let level = (typed.each_record t r home.0 there home.1).level in
-          let few : r.level ≤ outermost = leb-true r.level outermost outer in
-          declarable_in program typed code laid outermost t r home.0 (omega (arith, level, few)) there home.1
+          let few : r.level ≤ masters = leb-true r.level masters inside in
+          declarable_in program typed code laid masters t r home.0 (omega (arith, level, few)) there home.1
 
   raisable : (x : ℕ) → x < typed.k.exceptions → x < length code.exceptions.items
   raisable x known = let all = ap (λ (names : List (List ℕ)). length names) laid.exceptions in omega (arith, known, typed.fits.exceptions, all)
@@ -362,8 +362,10 @@ module _ (program : Checked) (code : Code) (laid : IsLaidOut program code) (kind
   good_body s is h runs a n p texts =
       let frame = map W.OfFormal is.formals ++ h.others in
       let slots = (master_code s.body).slots in
+      let deep : s.level + 1 ≡ length (is.home ++ frame ∷ []) = (let level = h.level in omega (arith, level, length-append is.home (frame ∷ []))) in
+      let inside = subst (λ masters. (master_code s.body).inside.runs (among program.records masters) ≡ true) deep runs in
       let over = subst (λ m. Agrees (is.home ++ frame ∷ []) (Body s.level m ∷ [])) (sym (slots_told h.body)) (agrees_body is.home frame s.level h.level) in
-      master_good code program.records typed.k (declarable program typed code laid) may_call may_new seen assignable raisable failing h.body runs (Body s.level slots) [] n p over texts tt
+      master_good code program.records typed.k (declarable program typed code laid) may_call may_new seen assignable raisable failing h.body inside (Body s.level slots) [] n p over texts tt
 
   good : (f : ℕ) (s : Subprogram) → slice_get program.subprograms f ≡ Some s → GoodBody code program.records s
   good f s e =

@@ -20,7 +20,7 @@ use Rattle.ctl_code.specs.declared.kinds.Kind.{Kind}
 use Rattle.ctl_code.specs.States.{Frame, InMaster}
 use Rattle.ctl_code.specs.Table.{caught_in}
 use Rattle.ctl_code.specs.Steps.{step, steps}
-use Rattle.ctl_layout.specs.Around.{Line}
+use Rattle.ctl_layout.specs.Around.{Line, among}
 use Rattle.ctl_layout.specs.Layout.{HandlerCode, StatementCode, all, catches_code, handled, handler_lines, handlers_code, handlers_run, handlers_texts, has_choice}
 use Rattle.ctl_gen.proofs.Known.{both_true}
 use Rattle.ctl_gen.proofs.Place.{HasAt, has_front, has_back, Laid, laid_front, laid_back}
@@ -30,6 +30,7 @@ use Rattle.ctl_gen.proofs.Setting.{Setting, tools_with, Sees, Told, Calls}
 use Rattle.ctl_gen.proofs.Parted.{GivesDefaults}
 use Rattle.ctl_gen.proofs.Cells.{by_code}
 use Rattle.ctl_gen.proofs.Branches.{Ends}
+use Rattle.ctl_gen.proofs.Does.{IsRunIn, both_run}
 use Rattle.ctl_gen.proofs.Leave.{ends_out, in_frame, leaves, left_after, left_runs, passes_out, steps_out}
 use Rattle.ctl_gen.proofs.Statements.{inside_master}
 use Rattle.ctl_gen.proofs.Statements as S
@@ -91,13 +92,13 @@ module _ (ask : Ask) (k : Tables) (code : Code) (setting : Setting k code) (call
   -- a handler, before what is done where it does not apply: its first tick pays all but four steps
   abbrev pub Handles : HandlerCode → Guarding → Type 0
   Handles x m =
-      has_choice x.choices ≡ true → x.body.runs k.records ≡ true → (n : ℕ) → HasAt code.texts.items n x.body.texts → (other : Act Done) (s : List Kind) (w0 : World) (d : List ℕ) (place place1 : ℕ) (ks : List Frame) (c : ℕ) (l : Log) (w : World) → c ≤ bound → Since k code w0 w → Sees d s w0 →
+      has_choice x.choices ≡ true → IsRunIn k.records x.body.runs → (n : ℕ) → HasAt code.texts.items n x.body.texts → (other : Act Done) (s : List Kind) (w0 : World) (d : List ℕ) (place place1 : ℕ) (ks : List Frame) (c : ℕ) (l : Log) (w : World) → c ≤ bound → Since k code w0 w → Sees d s w0 →
       Laid code place (handler_lines x (inside_master s) n) → Ends ask k code bound d (place + length (handler_lines x (inside_master s) n)) place1 ks [] →
       Runs ask code (Kept k code w0) 1 1 (at d (place + length (handler_lines x (inside_master s) n) + 1) ks [] l w) c (arrives OutOf d place1 ks []) (other c l w) →
       (o : Out Done) × (m K d (caught_in ks) other c l w ≡ add 1 o) × Runs ask code (Kept k code w0) 4 4 (at d place ks [] l w) c (arrives OutOf d place1 ks []) o
 
   -- its statements, and what leads from their end to that of the master
-  body_runs : (xs : List StatementCode) (ms : List Doing) → EachPerforms xs ms → (all xs).runs k.records ≡ true → (n : ℕ) → HasAt code.texts.items n (all xs).texts → (s : List Kind) (w0 : World) (d : List ℕ) (place place1 : ℕ) (ks : List Frame) (c : ℕ) (l : Log) (w : World) → c ≤ bound → Since k code w0 w → Sees d s w0 → Laid code place ((all xs).code (inside_master s) n) → Ends ask k code bound d (place + length ((all xs).code (inside_master s) n)) place1 ks [] → Runs ask code (Kept k code w0) 2 0 (at d place ks [] l w) c (arrives OutOf d place1 ks []) (do_each K d (caught_in ks) ms c l w)
+  body_runs : (xs : List StatementCode) (ms : List Doing) → EachPerforms xs ms → IsRunIn k.records (all xs).runs → (n : ℕ) → HasAt code.texts.items n (all xs).texts → (s : List Kind) (w0 : World) (d : List ℕ) (place place1 : ℕ) (ks : List Frame) (c : ℕ) (l : Log) (w : World) → c ≤ bound → Since k code w0 w → Sees d s w0 → Laid code place ((all xs).code (inside_master s) n) → Ends ask k code bound d (place + length ((all xs).code (inside_master s) n)) place1 ks [] → Runs ask code (Kept k code w0) 2 0 (at d place ks [] l w) c (arrives OutOf d place1 ks []) (do_each K d (caught_in ks) ms c l w)
   body_runs xs ms each runs n texts s w0 d place place1 ks c l w le fits sees has ends =
       further ask code (Kept k code w0) 0 0 2 0 2 (at d place ks [] l w) c (arrives OutOf d (place + length ((all xs).code (inside_master s) n)) ks []) (arrives OutOf d place1 ks []) (do_each K d (caught_in ks) ms c l w) (omega arith) (omega arith)
       (S.all_run ask k code setting call default constants bound calls xs ms each runs n texts (inside_master s) w0 d place ks [] c l w le fits sees has) over
@@ -176,13 +177,13 @@ module _ (ask : Ask) (k : Tables) (code : Code) (setting : Setting k code) (call
   by_handlers ms d ks = do_first K d (caught_in ks) ms (raise (caught_in ks))
 
   -- one handler and those behind it, which do what they mean
-  one_does : (x : HandlerCode) (rest : List HandlerCode) (m : Guarding) (ms : List Guarding) → Handles x m → handlers_run (x ∷ rest) k.records ≡ true → (n : ℕ) → HasAt code.texts.items n (handlers_texts (x ∷ rest)) → (back end place1 size : ℕ) (s : List Kind) (w0 : World) (d : List ℕ) (ks : List Frame) (c : ℕ) (l : Log) (w : World) → c ≤ bound → Since k code w0 w → Sees d s w0 → slice_get code.instructions.items end ≡ Some (InstrOf.Skip size) → end + 1 + size ≡ place1 → Laid code (end + back) (handlers_code back (x ∷ rest) (inside_master s) n)
-      → (handlers_run rest k.records ≡ true → HasAt code.texts.items (n + length x.body.texts) (handlers_texts rest) → Laid code (end + (back + length (handler_lines x (inside_master s) n) + 1)) (handlers_code (back + length (handler_lines x (inside_master s) n) + 1) rest (inside_master s) (n + length x.body.texts)) → Runs ask code (Kept k code w0) 1 1 (at d (end + (back + length (handler_lines x (inside_master s) n) + 1)) ks [] l w) c (arrives OutOf d place1 ks []) (by_handlers ms d ks c l w))
+  one_does : (x : HandlerCode) (rest : List HandlerCode) (m : Guarding) (ms : List Guarding) → Handles x m → IsRunIn k.records (handlers_run (x ∷ rest)) → (n : ℕ) → HasAt code.texts.items n (handlers_texts (x ∷ rest)) → (back end place1 size : ℕ) (s : List Kind) (w0 : World) (d : List ℕ) (ks : List Frame) (c : ℕ) (l : Log) (w : World) → c ≤ bound → Since k code w0 w → Sees d s w0 → slice_get code.instructions.items end ≡ Some (InstrOf.Skip size) → end + 1 + size ≡ place1 → Laid code (end + back) (handlers_code back (x ∷ rest) (inside_master s) n)
+      → (IsRunIn k.records (handlers_run rest) → HasAt code.texts.items (n + length x.body.texts) (handlers_texts rest) → Laid code (end + (back + length (handler_lines x (inside_master s) n) + 1)) (handlers_code (back + length (handler_lines x (inside_master s) n) + 1) rest (inside_master s) (n + length x.body.texts)) → Runs ask code (Kept k code w0) 1 1 (at d (end + (back + length (handler_lines x (inside_master s) n) + 1)) ks [] l w) c (arrives OutOf d place1 ks []) (by_handlers ms d ks c l w))
       → (o : Out Done) × (by_handlers (m ∷ ms) d ks c l w ≡ add 1 o) × Runs ask code (Kept k code w0) 4 4 (at d (end + back) ks [] l w) c (arrives OutOf d place1 ks []) o
   unfolding do_first
   one_does x rest m ms does runs n texts back end place1 size s w0 d ks c l w le fits sees here far has others =
-      let h = both_true (has_choice x.choices) (x.body.runs k.records && handlers_run rest k.records) runs in
-      let g = both_true (x.body.runs k.records) (handlers_run rest k.records) h.1 in
+      let h = both_true (has_choice x.choices) (x.body.runs (among k.records runs.0) && handlers_run rest (among k.records runs.0)) runs.1 in
+      let g = both_run k.records x.body.runs (handlers_run rest) (runs.0, h.1) in
       let lines = handler_lines x (inside_master s) n in
       let j = length lines in
       let more = back + j + 1 in
@@ -197,7 +198,7 @@ module _ (ask : Ask) (k : Tables) (code : Code) (setting : Setting k code) (call
       (others g.1 (has_back code.texts.items n x.body.texts (handlers_texts rest) texts) (subst (λ p. Laid code p (handlers_code more rest (inside_master s) (n + length x.body.texts))) e2 tail.2)))
 
   -- further handlers, so many instructions behind the end of the statements
-  handlers_do : (xs : List HandlerCode) (ms : List Guarding) → EachHandles xs ms → handlers_run xs k.records ≡ true → (n : ℕ) → HasAt code.texts.items n (handlers_texts xs) → (back end place1 size : ℕ) (s : List Kind) (w0 : World) (d : List ℕ) (ks : List Frame) (c : ℕ) (l : Log) (w : World) → c ≤ bound → Since k code w0 w → Sees d s w0 → slice_get code.instructions.items end ≡ Some (InstrOf.Skip size) → end + 1 + size ≡ place1 → Laid code (end + back) (handlers_code back xs (inside_master s) n) → Runs ask code (Kept k code w0) 1 1 (at d (end + back) ks [] l w) c (arrives OutOf d place1 ks []) (by_handlers ms d ks c l w)
+  handlers_do : (xs : List HandlerCode) (ms : List Guarding) → EachHandles xs ms → IsRunIn k.records (handlers_run xs) → (n : ℕ) → HasAt code.texts.items n (handlers_texts xs) → (back end place1 size : ℕ) (s : List Kind) (w0 : World) (d : List ℕ) (ks : List Frame) (c : ℕ) (l : Log) (w : World) → c ≤ bound → Since k code w0 w → Sees d s w0 → slice_get code.instructions.items end ≡ Some (InstrOf.Skip size) → end + 1 + size ≡ place1 → Laid code (end + back) (handlers_code back xs (inside_master s) n) → Runs ask code (Kept k code w0) 1 1 (at d (end + back) ks [] l w) c (arrives OutOf d place1 ks []) (by_handlers ms d ks c l w)
   unfolding do_first opened_outcome
   handlers_do [] [] each runs n texts back end place1 size s w0 d ks c l w le fits sees here far has = end_step ask code (Kept k code w0) 1 (at d (end + back) ks [] l w) c 0 (arrives OutOf d place1 ks []) (Leaves (ByRaise (caught_in ks))) l w fits (by_code ask code d (end + back) ks [] l w InstrOf.RaiseAgain has.0)
   handlers_do [] (m ∷ ms) each runs n texts back end place1 size s w0 d ks c l w le fits sees here far has = absurd each
@@ -215,7 +216,7 @@ module _ (ask : Ask) (k : Tables) (code : Code) (setting : Setting k code) (call
       subst (λ o. Runs ask code (Told k code w0) 0 2 s0 c0 (leaves after ks) (add t o)) (sym (bind_bind (do_each K d caught ms c l w) (handles (handle K d (g ∷ gs))) (leave K master)))
       (both_from ask code (Kept k code w2) (Told k code w0) 2 0 0 2 2 0 s0 (at d (place + 1) armed [] l w) c0 c t (arrives OutOf d end armed []) (leaves after ks) _ _ (omega arith) (omega arith)
       (then_step ask code (Kept k code w2) 1 2 s0 (at d place (in_frame master caught after ks) [] l w) (at d (place + 1) armed [] l w) c0 c t t front arms front.fits (omega arith))
-      (S.all_run ask k code setting call default constants bound calls xs ms each (both_true _ _ runs).0 n (has_front code.texts.items n (all xs).texts (handlers_texts (h ∷ hs)) texts) (inside_master s) w2 d (place + 1) armed [] c l w le front.fits opened.sees (laid_front code (place + 1) body ((InstrOf.Skip (length rest), s) ∷ rest) has.2)) on)
+      (S.all_run ask k code setting call default constants bound calls xs ms each (both_run k.records (all xs).runs (handlers_run (h ∷ hs)) runs).0 n (has_front code.texts.items n (all xs).texts (handlers_texts (h ∷ hs)) texts) (inside_master s) w2 d (place + 1) armed [] c l w le front.fits opened.sees (laid_front code (place + 1) body ((InstrOf.Skip (length rest), s) ∷ rest) has.2)) on)
     where
       n1 : ℕ
       n1 = n + length (all xs).texts
@@ -267,7 +268,7 @@ module _ (ask : Ask) (k : Tables) (code : Code) (setting : Setting k code) (call
 
           first : (o : Out Done) × (by_handlers (g ∷ gs) d (in_frame master e after ks) c1 l1 w1 ≡ add 1 o) × Runs ask code (Kept k code w2) 4 4 (at d (place + 1 + length ((all xs).code (inside_master s) n) + 1) (in_frame master e after ks) [] l1 w1) c1 (arrives OutOf d (place + length ((handled (all xs) (h ∷ hs)).code (inside_master s) n)) (in_frame master e after ks) []) o
           first =
-              one_does h hs g gs each_handler.0 (both_true ((all xs).runs k.records) (handlers_run (h ∷ hs) k.records) runs).1 n1 (has_back code.texts.items n (all xs).texts (handlers_texts (h ∷ hs)) texts) 1 end place1 (length rest) s w2 d (in_frame master e after ks) c1 l1 w1 (omega (arith, lo, le)) fits1 opened.sees tail.0 far tail.2
+              one_does h hs g gs each_handler.0 (both_run k.records (all xs).runs (handlers_run (h ∷ hs)) runs).1 n1 (has_back code.texts.items n (all xs).texts (handlers_texts (h ∷ hs)) texts) 1 end place1 (length rest) s w2 d (in_frame master e after ks) c1 l1 w1 (omega (arith, lo, le)) fits1 opened.sees tail.0 far tail.2
               (λ more_run more_texts more. handlers_do hs gs each_handler.1 more_run (n1 + length h.body.texts) more_texts (1 + length (handler_lines h (inside_master s) n1) + 1) end place1 (length rest) s w2 d (in_frame master e after ks) c1 l1 w1 (omega (arith, lo, le)) fits1 opened.sees tail.0 far more)
 
       by_way : (o : Option ℕ) (y : Way) → raised_by y ≡ o → (t1 c1 : ℕ) (l1 : Log) (w1 : World) → c1 ≤ c → Since k code w2 w1 → Comes ask code 2 s0 c0 t1 c1 (transferred y armed l1 w1) (Since k code w2 w1) → IsLeft (Leaves y) t1 c1 l1 w1

@@ -15,12 +15,12 @@ use Rattle.ctl_code.specs.declared.code.Initial.TheVariants.{Constant, ByType}
 use Rattle.ctl_code.specs.declared.code.Layout.{Layout}
 use Rattle.ctl_code.specs.declared.code.Operations.{Operations}
 use Rattle.ctl_code.specs.declared.code.Code.{Code}
-use Rattle.ctl_code.specs.Table.{begun_in, begun_of, controlled_in, controlled_of, operation_in, operation_of}
-use Rattle.ctl_code.specs.Valid.{AreBegunBy, AreInScope, HasFormals, IsBegunBy, IsDeclarable, IsDeclaredIn, IsInScope, IsStorageInScope, IsValid, PositionsRise, TakesObject, TakesStorage, outermost, storage_formals}
+use Rattle.ctl_code.specs.Table.{begun_in, begun_of, called_among, controlled_in, controlled_of, operation_in, operation_of}
+use Rattle.ctl_code.specs.Valid.{AreBegunBy, AreInScope, HasFormals, IsBegunBy, IsDeclarable, IsDeclaredIn, IsInScope, IsStorageInScope, IsValid, PositionsRise, TakesObject, TakesStorage, storage_formals}
 use Rattle.ctl_code.proofs.Declarable.{layout_of}
 use Rattle.ctl_gen.proofs.Each.{IfFound}
 use Rattle.ctl_gen.proofs.Collections.{home, belongs_home}
-use Rattle.ctl_gen.proofs.Worlds.{Fits, IsInside, Settled, Since, object_fits, still_home}
+use Rattle.ctl_gen.proofs.Worlds.{Fits, IsInside, IsNested, Settled, Since, object_fits, origin_nested, still_home}
 
 -- Inside more masters -------------------------------------------------------------------------------
 
@@ -146,16 +146,14 @@ type_inside k code n w o t fits at ty =
     let h = subst (IfFound (Settled k code w.ledger.next_master w.activations w.ledger.collections)) at (object_fits k code n w fits) in
     subst (λ (d : List ℕ). IsDeclarable code (length d) t) (sym (home_is k code w o h)) (subst (λ y. IsInside code y (length (home h.master w.activations))) ty h.inside)
 
--- since an earlier world at least so many masters have been around the operations of the object of this number, whenever it existed
-abbrev pub IsSurrounded : Tables → Code → World → ℕ → ℕ → Type 0
-IsSurrounded k code w0 masters n = (w : World) (o : Object) → Since k code w0 w → object_at n w ≡ Some o → masters ≤ length (home_of o.origin w)
+-- since an earlier world the operations of the object of this number have been called among at least so many masters, whenever it existed,
+-- which are nested: those of a statement that assigns, if one does, or else its own
+abbrev pub IsSurrounded : Tables → Code → Option (List ℕ) → World → ℕ → ℕ → Type 0
+IsSurrounded k code assigning w0 masters n = (w : World) (o : Object) → Since k code w0 w → object_at n w ≡ Some o → (masters ≤ length (called_among assigning o.origin w)) × IsNested w (called_among assigning o.origin w)
 
--- those that were around them where it existed then
-pub still_surrounded : (k : Tables) (code : Code) (w0 : World) (n : ℕ) (o : Object) → Fits k code w0 → object_at n w0 ≡ Some o → IsSurrounded k code w0 (length (home_of o.origin w0)) n
-still_surrounded k code w0 n o fits was w p since at = subst (λ (d : List ℕ). length (home_of o.origin w0) ≤ length d) (sym (still_home k code n w0 w o p fits since.1 was at)) (omega arith)
-
--- and the main procedure's own master in any case
-pub outermost_surrounds : (k : Tables) (code : Code) (w0 : World) (n : ℕ) → IsSurrounded k code w0 outermost n
-outermost_surrounds k code w0 n w o since at =
-    let settled = subst (IfFound (Settled k code w.ledger.next_master w.activations w.ledger.collections)) at (object_fits k code n w since.0) in
-    subst (λ (d : List ℕ). outermost ≤ length d) (sym (home_is k code w o settled)) settled.deep
+-- its own that were around them where it existed then
+pub still_surrounded : (k : Tables) (code : Code) (w0 : World) (n : ℕ) (o : Object) → Fits k code w0 → object_at n w0 ≡ Some o → IsSurrounded k code None w0 (length (home_of o.origin w0)) n
+still_surrounded k code w0 n o fits was w p since at = (
+  subst (λ (d : List ℕ). length (home_of o.origin w0) ≤ length d) (sym (still_home k code n w0 w o p fits since.1 was at)) (omega arith),
+  origin_nested k code p.origin w since.0,
+)

@@ -1,5 +1,5 @@
 -- What the simulation of each construct stands on: the tables agree, and bodies behave when they are called.
-use Rattle.std.proofs.Common.{◌≡◌, ℕ, ◌+◌, ◌<◌, ◌≤◌, List, [], ◌∷◌, length, Option, Some, None, true, refl, ◌∙◌, subst}
+use Rattle.std.proofs.Common.{◌≡◌, ℕ, ◌+◌, ◌<◌, ◌≤◌, List, [], ◌∷◌, length, Option, Some, None, true, refl, ◌∙◌, subst, arith}
 use Rattle.std.specs.Prelude.{slice_get, option_map}
 use Rattle.ctl_program.specs.declared.program.Subprogram.{Subprogram}
 use Rattle.ctl_program.specs.declared.types.Ty.{Ty}
@@ -10,12 +10,13 @@ use Rattle.ctl_program.specs.declared.operators.SubprogramKind.{SubprogramKind}
 use Rattle.ctl_program.specs.declared.operators.SubprogramKind.TheVariants.{Procedure, Function}
 use Rattle.ctl_tree.specs.declared.event.Cause.TheVariants as CauseOf
 use Rattle.ctl_tree.specs.declared.event.Event.{Event}
-use Rattle.ctl_meaning.specs.World.{Collection, Log, World, Slot, Member}
+use Rattle.ctl_meaning.specs.World.{Collection, Log, Origin, World, Slot, Member}
 use Rattle.ctl_meaning.specs.Lists.{last_of}
+use Rattle.ctl_meaning.specs.Changes.{home_of as origin_home}
 use Rattle.ctl_meaning.specs.Choice.{Ask}
 use Rattle.ctl_meaning.specs.Outcome.{raised_by, Way, Result, Goes, Leaves, Tried, Fine, tell}
 use Rattle.ctl_meaning.specs.Types.{Tables, cells_of, offset_in, operation, placed, size_of as storage_size}
-use Rattle.ctl_meaning.specs.Names.{OfSubprogram, OfAllocator, Returned, Call, Default, Tools, scalar_of}
+use Rattle.ctl_meaning.specs.Names.{Execution, OfSubprogram, OfAllocator, Returned, Call, Default, Tools, scalar_of}
 use Rattle.ctl_meaning.specs.Finalization.{finalize_begun}
 use Rattle.ctl_meaning.proofs.Cuts.{UpTo}
 use Rattle.ctl_code.specs.declared.code.Entry.{Entry}
@@ -23,7 +24,7 @@ use Rattle.ctl_code.specs.declared.code.Instr.TheVariants as InstrOf
 use Rattle.ctl_code.specs.declared.code.Code.{Code}
 use Rattle.ctl_code.specs.declared.kinds.Kind.{Kind}
 use Rattle.ctl_code.specs.States.{Move, Word, Scalar, Handed, Complete, After, AfterBlock, AfterProcedure, AfterFunction, AfterBody, Frame, State}
-use Rattle.ctl_code.specs.Table.{Here, by_new, enter_body, new_with, offset_of, operation_of, or_complete, pool_in, set_seen, size_of, units_of, with_values}
+use Rattle.ctl_code.specs.Table.{Here, by_new, called_among, enter_body, new_with, offset_of, operation_of, or_complete, pool_in, set_seen, size_of, units_of, with_values}
 use Rattle.ctl_code.specs.Steps.{moved, step}
 use Rattle.ctl_code.specs.Valid.{IsDeclarable, IsValid, kinds_at}
 use Rattle.ctl_code.specs.Windows.{depth}
@@ -35,7 +36,7 @@ use Rattle.ctl_gen.proofs.Parted.{Agree, GivesDefaults}
 use Rattle.ctl_gen.proofs.Each.{Each}
 use Rattle.ctl_gen.proofs.Collections.{home}
 use Rattle.ctl_gen.proofs.Worlds.{IsNested, IsPlainSlot, Since, home_nested}
-use Rattle.ctl_gen.proofs.Scopes.{IsCallable}
+use Rattle.ctl_gen.proofs.Scopes.{IsCallable, IsSurrounded}
 use Rattle.ctl_gen.proofs.Follow.{IsRaise, Runs, RunsTo, at, gives, transferred}
 
 -- the first cells of the components of types that are laid out are those of the tables
@@ -71,6 +72,15 @@ pub record Setting (k : Tables) (code : Code) : Type 0 where
 abbrev pub tools_with : Ask → Tables → Call → Default → Tools
 tools_with ask k call default = record { ask = ask; tables = k; call = call; default = default }
 
+-- the same executions among the masters of a statement that assigns, if one does, whichever they are called among
+abbrev pub called : Option (List ℕ) → Call → Call
+called None call = call
+called (Some d) call = λ x home. call x d
+
+pub called_is : (assigning : Option (List ℕ)) (call : Call) (x : Execution) (o : Origin) (w : World) → called assigning call x (origin_home o w) ≡ call x (called_among assigning o w)
+called_is None call x o w = refl
+called_is (Some d) call x o w = refl
+
 -- a display is seen: that of its last master, which is older than the next one; it has as many masters as stand around, at least one
 pub record Sees (d : List ℕ) (s : List Kind) (w : World) : Type 0 where
   pub old : last_of d < w.ledger.next_master
@@ -88,6 +98,13 @@ seen sees = (sees.old, sees.home, sees.long)
 -- its masters are nested in one another, also since then
 pub seen_nested : (k : Tables) (code : Code) (d : List ℕ) (s : List Kind) (w0 w : World) → IsSeen w0 d s → Since k code w0 w → IsNested w d
 seen_nested k code d s w0 w sees since = subst (IsNested w) (since.1.homes (last_of d) sees.0 ∙ sees.1) (home_nested k code (last_of d) w since.0)
+
+-- an assignment there is among so many masters
+pub seen_surrounds : (k : Tables) (code : Code) (d : List ℕ) (s : List Kind) (w0 : World) (n : ℕ) → IsSeen w0 d s → IsSurrounded k code (Some d) w0 (depth s) n
+seen_surrounds k code d s w0 n sees w o since at =
+    let long = sees.2 in
+    let masters : depth s ≤ length d = omega (arith, long) in
+    (masters, seen_nested k code d s w0 w sees since)
 
 -- what is handed on with no value, where nothing but an exception leaves
 abbrev pub told : {A : Type 0} → Result A → Tried Handed

@@ -28,7 +28,7 @@ use Rattle.ctl_code.specs.States.{Word, After, AfterBlock, Point, Frame, State}
 use Rattle.ctl_code.specs.Table.{behind as goes_behind, caught_in, on_at, transfers}
 use Rattle.ctl_code.specs.Steps.{moved, step}
 use Rattle.ctl_code.specs.Windows.{depth}
-use Rattle.ctl_layout.specs.Around.{Line, Landing, OutOfMaster, BeforeLoop, Around, behind, land, further as further_on}
+use Rattle.ctl_layout.specs.Around.{Line, Landing, OutOfMaster, BeforeLoop, Around, among, behind, land, further as further_on}
 use Rattle.ctl_layout.specs.Parts.{Reached}
 use Rattle.ctl_layout.specs.Values.{ValueCode, copied, value_code}
 use Rattle.ctl_layout.specs.Layout.{ArmCode, ItemCode, MasterCode, StatementCode, all, all_items, arms_code, arms_run, arms_texts, block, block_code, branches, copy, in_master as in_new, inside, item_code, leaves_code, order_of, ordered_pool, turn_code, valued, with_value}
@@ -41,7 +41,7 @@ use Rattle.ctl_gen.proofs.Worlds.{IsNested, IsPlainSlot, plain_unset, Since, Kep
 use Rattle.ctl_gen.proofs.Setting.{Setting, tools_with, Sees, Told, Calls, seen, seen_nested}
 use Rattle.ctl_gen.proofs.Parted.{GivesDefaults}
 use Rattle.ctl_gen.proofs.Cells.{by_code}
-use Rattle.ctl_gen.proofs.Does.{Does}
+use Rattle.ctl_gen.proofs.Does.{Does, IsRunIn, both_run}
 use Rattle.ctl_gen.proofs.Declare.{declare_runs}
 use Rattle.ctl_gen.proofs.PoolDeclared.{pool_does, root_is}
 use Rattle.ctl_gen.proofs.Copies.{copy_does}
@@ -183,7 +183,7 @@ module _ (ask : Ask) (k : Tables) (code : Code) (setting : Setting k code) (call
 
   -- the code of a statement, where its texts stand, does what it means
   abbrev pub Performs : StatementCode → Doing → Type 0
-  Performs x m = x.runs k.records ≡ true → (n : ℕ) → HasAt code.texts.items n x.texts → Does ask k code bound (λ a. x.code a n) (m K)
+  Performs x m = IsRunIn k.records x.runs → (n : ℕ) → HasAt code.texts.items n x.texts → Does ask k code bound (λ a. x.code a n) (m K)
 
   abbrev pub EachPerforms : List StatementCode → List Doing → Type 0
   EachPerforms [] [] = Unit {0}
@@ -197,7 +197,7 @@ module _ (ask : Ask) (k : Tables) (code : Code) (setting : Setting k code) (call
   all_run (x ∷ xs) [] each runs n texts a w0 d place ks ops c l w le fits sees has = absurd each
   all_run (x ∷ xs) (m ∷ ms) each runs n texts a w0 d place ks ops c l w le fits sees has =
       let n1 = n + length x.texts in
-      let h = both_true (x.runs k.records) ((all xs).runs k.records) runs in
+      let h = both_run k.records x.runs (all xs).runs runs in
       both_do (λ b. x.code b n) (λ b. (all xs).code b n1) (m K) (λ v caught. do_each K v caught ms) (each.0 h.0 n (has_front code.texts.items n x.texts (all xs).texts texts)) (all_run xs ms each.1 h.1 n1 (has_back code.texts.items n x.texts (all xs).texts texts)) a w0 d place ks ops c l w le fits sees has
 
   -- Conditional statements -------------------------------------------------------------------
@@ -205,7 +205,7 @@ module _ (ask : Ask) (k : Tables) (code : Code) (setting : Setting k code) (call
   -- an arm, before what is done where it does not apply
   abbrev pub Guards : ArmCode → Guarding → Type 0
   Guards x m =
-      x.test.runs k.records ≡ true → x.body.runs k.records ≡ true → (n : ℕ) → HasAt code.texts.items n x.body.texts → (other : Act Done) (a : Around) (w0 : World) (d : List ℕ) (place place1 : ℕ) (ks : List Frame) (ops : List Word) (c : ℕ) (l : Log) (w : World) → c ≤ bound → Since k code w0 w → Sees d a.stack w0 →
+      x.test.runs k.records ≡ true → IsRunIn k.records x.body.runs → (n : ℕ) → HasAt code.texts.items n x.body.texts → (other : Act Done) (a : Around) (w0 : World) (d : List ℕ) (place place1 : ℕ) (ks : List Frame) (ops : List Word) (c : ℕ) (l : Log) (w : World) → c ≤ bound → Since k code w0 w → Sees d a.stack w0 →
       Laid code place (turn_code x a n) → Ends ask k code bound d (place + length (turn_code x a n)) place1 ks ops →
       ((c1 : ℕ) (l1 : Log) (w1 : World) → c1 ≤ c → Since k code w0 w1 → Runs ask code (Kept k code w0) 0 0 (at d (place + length (turn_code x a n) + 1) ks ops l1 w1) c1 (arrives (lands a place) d place1 ks ops) (other c1 l1 w1)) →
       Runs ask code (Kept k code w0) 0 0 (at d place ks ops l w) c (arrives (lands a place) d place1 ks ops) (m K d (caught_in ks) other c l w)
@@ -221,7 +221,7 @@ module _ (ask : Ask) (k : Tables) (code : Code) (setting : Setting k code) (call
   EachGuards _ _ = ⊥
 
   -- further arms, behind the end of the first one: control lands from each as from where they begin
-  further_run : (arms : List ArmCode) (ms : List Guarding) → EachGuards arms ms → arms_run arms k.records ≡ true → (n : ℕ) → HasAt code.texts.items n (arms_texts arms) → (others : Around → List Line) (act : List ℕ → ℕ → Act Done) → Does ask k code bound others act → (back end place1 size : ℕ) (a : Around) (w0 : World) (d : List ℕ) (ks : List Frame) (ops : List Word) (c : ℕ) (l : Log) (w : World) → c ≤ bound → Since k code w0 w → Sees d a.stack w0 → slice_get code.instructions.items end ≡ Some (InstrOf.Skip size) → end + 1 + size ≡ place1 → Laid code (end + back) (arms_code back arms a n ++ others (behind (length (arms_code back arms a n)) a)) → end + back + length (arms_code back arms a n) + length (others (behind (length (arms_code back arms a n)) a)) ≡ place1 → Runs ask code (Kept k code w0) 0 0 (at d (end + back) ks ops l w) c (arrives (lands a (end + back)) d place1 ks ops) (do_first K d (caught_in ks) ms (act d (caught_in ks)) c l w)
+  further_run : (arms : List ArmCode) (ms : List Guarding) → EachGuards arms ms → IsRunIn k.records (arms_run arms) → (n : ℕ) → HasAt code.texts.items n (arms_texts arms) → (others : Around → List Line) (act : List ℕ → ℕ → Act Done) → Does ask k code bound others act → (back end place1 size : ℕ) (a : Around) (w0 : World) (d : List ℕ) (ks : List Frame) (ops : List Word) (c : ℕ) (l : Log) (w : World) → c ≤ bound → Since k code w0 w → Sees d a.stack w0 → slice_get code.instructions.items end ≡ Some (InstrOf.Skip size) → end + 1 + size ≡ place1 → Laid code (end + back) (arms_code back arms a n ++ others (behind (length (arms_code back arms a n)) a)) → end + back + length (arms_code back arms a n) + length (others (behind (length (arms_code back arms a n)) a)) ≡ place1 → Runs ask code (Kept k code w0) 0 0 (at d (end + back) ks ops l w) c (arrives (lands a (end + back)) d place1 ks ops) (do_first K d (caught_in ks) ms (act d (caught_in ks)) c l w)
   unfolding do_first
   further_run [] [] each runs n texts others act does back end place1 size a w0 d ks ops c l w le fits sees here far has last =
       let e : end + back + length (others (behind 0 a)) ≡ place1 = omega (arith, last) in
@@ -233,8 +233,8 @@ module _ (ask : Ask) (k : Tables) (code : Code) (setting : Setting k code) (call
   further_run [] (m ∷ ms) each runs n texts others act does back end place1 size a w0 d ks ops c l w le fits sees here far has last = absurd each
   further_run (x ∷ rest) [] each runs n texts others act does back end place1 size a w0 d ks ops c l w le fits sees here far has last = absurd each
   further_run (x ∷ rest) (m ∷ ms) each runs n texts others act does back end place1 size a w0 d ks ops c l w le fits sees here far has last =
-      let h = both_true (x.test.runs k.records) (x.body.runs k.records && arms_run rest k.records) runs in
-      let g = both_true (x.body.runs k.records) (arms_run rest k.records) h.1 in
+      let h = both_true (x.test.runs k.records) (x.body.runs (among k.records runs.0) && arms_run rest (among k.records runs.0)) runs.1 in
+      let g = both_run k.records x.body.runs (arms_run rest) (runs.0, h.1) in
       let turn = turn_code x a n in
       let j = length turn in
       let n1 = n + length x.body.texts in
@@ -267,14 +267,14 @@ module _ (ask : Ask) (k : Tables) (code : Code) (setting : Setting k code) (call
       (further_run rest ms each.1 g.1 n1 (has_back code.texts.items n x.body.texts (arms_texts rest) texts) others act does more end place1 size a1 w0 d ks ops c1 l1 w1 (omega (arith, lo, le)) fits1 sees here far tail last2)))
 
   -- the arms of an if statement, and what stands behind `else`
-  arms_does : (arms : List ArmCode) (ms : List Guarding) → EachGuards arms ms → arms_run arms k.records ≡ true → (n : ℕ) → HasAt code.texts.items n (arms_texts arms) → (others : StatementCode) (act : List ℕ → ℕ → Act Done) → ((m : ℕ) → m ≡ n + length (arms_texts arms) → Does ask k code bound (λ a. others.code a m) act) → Does ask k code bound (λ a. (branches arms others).code a n) (λ d caught. do_first K d caught ms (act d caught))
+  arms_does : (arms : List ArmCode) (ms : List Guarding) → EachGuards arms ms → IsRunIn k.records (arms_run arms) → (n : ℕ) → HasAt code.texts.items n (arms_texts arms) → (others : StatementCode) (act : List ℕ → ℕ → Act Done) → ((m : ℕ) → m ≡ n + length (arms_texts arms) → Does ask k code bound (λ a. others.code a m) act) → Does ask k code bound (λ a. (branches arms others).code a n) (λ d caught. do_first K d caught ms (act d caught))
   unfolding do_first
   arms_does [] [] each runs n texts others act does a w0 d place ks ops c l w le fits sees has = does n (omega arith) a w0 d place ks ops c l w le fits sees has
   arms_does [] (m ∷ ms) each runs n texts others act does a w0 d place ks ops c l w le fits sees has = absurd each
   arms_does (x ∷ rest) [] each runs n texts others act does a w0 d place ks ops c l w le fits sees has = absurd each
   arms_does (x ∷ rest) (m ∷ ms) each runs n texts others act does a w0 d place ks ops c l w le fits sees has =
-      let h = both_true (x.test.runs k.records) (x.body.runs k.records && arms_run rest k.records) runs in
-      let g = both_true (x.body.runs k.records) (arms_run rest k.records) h.1 in
+      let h = both_true (x.test.runs k.records) (x.body.runs (among k.records runs.0) && arms_run rest (among k.records runs.0)) runs.1 in
+      let g = both_run k.records x.body.runs (arms_run rest) (runs.0, h.1) in
       let turn = turn_code x a n in
       let j = length turn in
       let a1 = behind (j + 1) a in
@@ -303,7 +303,7 @@ module _ (ask : Ask) (k : Tables) (code : Code) (setting : Setting k code) (call
   pub branches_run : (arms : List ArmCode) (ms : List Guarding) (xs : List StatementCode) (others : List Doing) → EachGuards arms ms → EachPerforms xs others → Performs (branches arms (all xs)) (choose_arm ms others)
   unfolding choose_arm leaving opened_outcome
   branches_run arms ms xs others each each_other runs n texts a w0 d place ks ops c l w le fits sees has =
-      let h = both_true _ _ runs in
+      let h = both_run k.records (arms_run arms) (all xs).runs runs in
       added ask code (Kept k code w0) 1 1 1 0 0 _ c _ _ (omega arith) (omega arith)
       (left_behind ask code (Kept k code w0) 0 0 1 1 _ c _ _ (omega arith) (omega arith)
       (arms_does arms ms each h.0 n (has_front code.texts.items n (arms_texts arms) (all xs).texts texts) (all xs) (λ u caught. do_each K u caught others)
@@ -321,7 +321,7 @@ module _ (ask : Ask) (k : Tables) (code : Code) (setting : Setting k code) (call
   -- the statements of a master, from where they begin: they are done, and the master is left
   abbrev pub Closes : StatementCode → Doing → Type 0
   Closes x m =
-      x.runs k.records ≡ true → (n : ℕ) → HasAt code.texts.items n x.texts → (s : List Kind) (master : ℕ) (w0 w2 : World) (d : List ℕ) → Opened w0 w2 master d s → (after : After) (ks : List Frame) (caught c0 c t : ℕ) (l : Log) (w : World) (s0 : State) (place : ℕ) → c ≤ bound →
+      IsRunIn k.records x.runs → (n : ℕ) → HasAt code.texts.items n x.texts → (s : List Kind) (master : ℕ) (w0 w2 : World) (d : List ℕ) → Opened w0 w2 master d s → (after : After) (ks : List Frame) (caught c0 c t : ℕ) (l : Log) (w : World) (s0 : State) (place : ℕ) → c ≤ bound →
       Laid code place (x.code (inside_master s) n) → slice_get code.instructions.items (place + length (x.code (inside_master s) n)) ≡ Some InstrOf.Leave → Comes ask code 1 s0 c0 t c (at d place (in_frame master caught after ks) [] l w) (Since k code w2 w) →
       Runs ask code (Told k code w0) 0 2 s0 c0 (leaves after ks) (add t (bind (m K d caught c l w) (leave K master)))
 
@@ -351,7 +351,7 @@ module _ (ask : Ask) (k : Tables) (code : Code) (setting : Setting k code) (call
   -- a master, from the step that enters it
   abbrev pub Masters : StatementCode → Doing → Type 0
   Masters x m =
-      x.runs k.records ≡ true → (n : ℕ) → HasAt code.texts.items n x.texts → (caught : ℕ) (new : Kind) (s : List Kind) (w0 : World) (env : List ℕ) (slots : List Slot) (after : After) (ks : List Frame) (c0 c : ℕ) (l : Log) (w : World) (s0 : State) (place : ℕ) → c ≤ bound → c ≤ c0 → c0 ≤ c + 1 → Since k code w0 w → length env + 1 ≡ depth (new ∷ s) → IsNested w env → Each IsPlainSlot slots → Laid code place (x.code (in_new new s) n) →
+      IsRunIn k.records x.runs → (n : ℕ) → HasAt code.texts.items n x.texts → (caught : ℕ) (new : Kind) (s : List Kind) (w0 : World) (env : List ℕ) (slots : List Slot) (after : After) (ks : List Frame) (c0 c : ℕ) (l : Log) (w : World) (s0 : State) (place : ℕ) → c ≤ bound → c ≤ c0 → c0 ≤ c + 1 → Since k code w0 w → length env + 1 ≡ depth (new ∷ s) → IsNested w env → Each IsPlainSlot slots → Laid code place (x.code (in_new new s) n) →
       step ask code s0 ≡ at (env ++ w.ledger.next_master ∷ []) place (in_frame w.ledger.next_master caught after ks) [] l (open_master env slots w) →
       Runs ask code (Told k code w0) 0 2 s0 c0 (leaves after ks) (in_master K env slots (λ inner. m K inner caught) c l w)
 
@@ -362,7 +362,7 @@ module _ (ask : Ask) (k : Tables) (code : Code) (setting : Setting k code) (call
       let front : Comes ask code 1 s0 c0 0 c (at inner place frames [] l w2) (Unit {0}) = record { n = 1; falls = lo; enough = omega (arith, hi); in_time = omega arith; comes = first; fits = tt } in
       subst (λ o. Runs ask code (Told k code w0) 0 2 s0 c0 (leaves after ks) (add 0 o)) (sym (bind_bind (elaborate K inner (last_of inner) (map elaborate_item items) c l w2) (on_goes (λ _. m K inner caught)) (leave K master)))
       (both_from ask code (Kept k code w2) (Told k code w0) 1 0 0 1 2 0 s0 (at inner place frames [] l w2) c0 c 0 (arrives OutOf inner (place + length is) frames []) (leaves after ks) _ _ (omega arith) (omega arith) front
-      (items_run items (both_true _ _ runs).0 a w2 inner place frames [] c l w2 le fits2 opened.sees (laid_front code place is js inside_it)) on)
+      (items_run items (both_true _ _ runs.1).0 a w2 inner place frames [] c l w2 le fits2 opened.sees (laid_front code place is js inside_it)) on)
     where
       master : ℕ
       master = w.ledger.next_master
@@ -414,7 +414,7 @@ module _ (ask : Ask) (k : Tables) (code : Code) (setting : Setting k code) (call
 
       on : (r : Result Done) (t c1 : ℕ) (l1 : Log) (w1 : World) → c1 ≤ c → Since k code (open_master env slots w) w1 → Comes ask code 1 s0 c0 t c1 (arrives OutOf inner (place + length is) frames [] r l1 w1) (Since k code (open_master env slots w) w1) → Runs ask code (Told k code w0) 0 2 s0 c0 (leaves after ks) (add t (bind (on_goes (λ _. m K inner caught) r c1 l1 w1) (leave K master)))
       on (Goes a1) t c1 l1 w1 lo1 fits1 there =
-          closes (both_true _ _ runs).1 n texts (new ∷ s) master w0 w2 inner opened after ks caught c0 c1 t l1 w1 s0 (place + length is) (omega (arith, lo1, le)) (laid_back code place is js inside_it) at_end there
+          closes (runs.0, (both_true _ _ runs.1).1) n texts (new ∷ s) master w0 w2 inner opened after ks caught c0 c1 t l1 w1 s0 (place + length is) (omega (arith, lo1, le)) (laid_back code place is js inside_it) at_end there
       on (Leaves y) t c1 l1 w1 lo1 fits1 there =
           subst (λ o. Runs ask code (Told k code w0) 0 2 s0 c0 (leaves after ks) (add t o)) (sym (add_none (leave K master (Leaves y) c1 l1 w1)))
           (left_after ask k code setting call default constants bound calls 1 (omega arith) (Leaves y) master after w0 ks c0 c1 t l1 w1 s0 _ opened.young (omega (arith, lo1, le)) (opened.since w1 fits1) there (steps_out ask code master caught after inner (place + length is + length js) ks at_end (Leaves y) l1 w1))
@@ -455,6 +455,6 @@ module _ (ask : Ask) (k : Tables) (code : Code) (setting : Setting k code) (call
       added ask code (Kept k code w0) 1 1 2 0 0 _ c _ _ (omega arith) (omega arith)
       (arriving ask code (Kept k code w0) 1 2 _ c _ _ _ (λ r l1 w1. ap (λ z. arrives (lands a place) d z ks ops r l1 w1) e)
       (both ask code (Told k code w0) (Kept k code w0) 0 2 1 1 1 2 _ c (leaves (AfterBlock p) ks) (arrives (lands a place) d (q + 1) ks ops) _ (on_goes (λ (y : Left). given y.result)) (omega arith) (omega arith) (omega arith)
-      (mastered.inside runs n texts (caught_in ks) (KindOf.Block x.slots) a.stack w0 d (replicate b.slots unset) (AfterBlock p) ks c c l w (at d place ks ops l w) (place + 1) le (omega arith) (omega arith) fits (ap (λ z. z + 1) sees.long) (seen_nested k code d a.stack w0 w (seen sees) fits) (plain_unset b.slots) (laid_front code (place + 1) inner out has.2)
+      (mastered.inside (runs.0 + 1, runs.1) n texts (caught_in ks) (KindOf.Block x.slots) a.stack w0 d (replicate b.slots unset) (AfterBlock p) ks c c l w (at d place ks ops l w) (place + 1) le (omega arith) (omega arith) fits (ap (λ z. z + 1) sees.long) (seen_nested k code d a.stack w0 w (seen sees) fits) (plain_unset b.slots) (laid_front code (place + 1) inner out has.2)
       (by_code ask code d place ks ops l w (InstrOf.Enter x.slots (length inner)) has.0 ∙ ap (λ j. at (d ++ w.ledger.next_master ∷ []) (place + 1) (in_frame w.ledger.next_master (caught_in ks) (AfterBlock p) ks) [] l (open_master d (replicate j unset) w)) mastered.slots))
       (λ r c1 l1 w1 lo fits1. behind_block a.landing (length inner + 1) w0 d place q ks ops at_end (laid_back code (place + 1) inner out has.2).0 r c1 l1 w1 fits1)))

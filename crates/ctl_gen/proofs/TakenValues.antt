@@ -100,7 +100,7 @@ module _ (ask : Ask) (k : Tables) (code : Code) (setting : Setting k code) (call
       adjusts_runs held c l w le fits =
           subst (Meets 5 7 (adjusting l w) c) (sym (adjust_is c l w))
           (both_to ask code (λ r v. Sure k code w1 (way_of r) v) Ends 3 3 2 4 5 7 (adjusting l w) c (hands copying) next (adjust_part K (Some birth) (suc (length k.records)) (whole_spot n) t unadjusted c l w) settles (omega arith) (omega arith) (omega arith)
-          (waiting_runs ask k code setting call default constants bound calls (Some birth) (Some owner) owned w1 (length (home_of around.0.origin w1)) (length k.records) (whole_spot n) t unadjusted copying c l w (λ path paths. refl) (still_surrounded k code w1 n around.0 fits1 around.1) (within_table k t plain) plain around.2 le fits)
+          (waiting_runs ask k code setting call default constants bound calls (Some birth) (Some owner) owned None w1 (length (home_of around.0.origin w1)) (length k.records) (whole_spot n) t unadjusted copying c l w (λ path paths. refl, λ paths. refl) (still_surrounded k code w1 n around.0 fits1 around.1) (within_table k t plain) plain around.2 le fits)
           after)
         where
           after : (x : Result Adjusted) (c1 : ℕ) (l1 : Log) (v : World) → c1 ≤ c → Sure k code w1 (way_of x) v → Meets 2 4 (hands copying x l1 v) c1 (settles x c1 l1 v)

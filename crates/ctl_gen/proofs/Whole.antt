@@ -26,7 +26,7 @@ use Rattle.ctl_code.specs.Steps.{step, steps, start, machine, end_at, end_of}
 use Rattle.ctl_code.specs.Laws.{IsPrefix, Grows}
 use Rattle.ctl_code.proofs.Logs.{obeys_none, obeys_itself, no_more_than, Stays, steps_obey, grow, stay, meet, ended_stays, agree}
 use Rattle.ctl_layout.specs.Around.{Line}
-use Rattle.ctl_layout.specs.Layout.{HasKinds, IsLaidOut, bodies, body_code, entries_from, entry_at, instructions_of, kinds_of, nowhere, operations_of, program_code}
+use Rattle.ctl_layout.specs.Layout.{HasKinds, IsLaidOut, bodies, body_code, entries_from, entry_at, instructions_of, kinds_of, nowhere, outside, operations_of, program_code}
 use Rattle.ctl_gen.proofs.Defaults.{agrees}
 use Rattle.ctl_gen.proofs.Layouts.{places, sizes, units}
 use Rattle.ctl_gen.proofs.Rows.{gives_defaults}
@@ -69,9 +69,9 @@ laid_by code place [] h g = tt
 laid_by code place (x ∷ xs) h g = (h.0, g.0, laid_by code (place + 1) xs h.1 g.1)
 
 -- each of them is run
-pub body_is_run : (records : List RecordType) (ss : List Subprogram) → (bodies ss).runs records ≡ true → (f : ℕ) (s : Subprogram) → slice_get ss f ≡ Some s → (body_code s).runs records ≡ true
+pub body_is_run : (records : List RecordType) (ss : List Subprogram) → (bodies ss).runs (outside records) ≡ true → (f : ℕ) (s : Subprogram) → slice_get ss f ≡ Some s → (body_code s).runs (outside records) ≡ true
 body_is_run records [] runs f s e = absurd (cc)
-body_is_run records (x ∷ ss) runs zero s e = let same : x ≡ s = cc e in subst (λ (y : Subprogram). (body_code y).runs records ≡ true) same (both_true _ _ runs).0
+body_is_run records (x ∷ ss) runs zero s e = let same : x ≡ s = cc e in subst (λ (y : Subprogram). (body_code y).runs (outside records) ≡ true) same (both_true _ _ runs).0
 body_is_run records (x ∷ ss) runs (suc f) s e = body_is_run records ss (both_true _ _ runs).1 f s e
 
 -- what each of them means

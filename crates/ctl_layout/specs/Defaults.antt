@@ -15,23 +15,23 @@ use Rattle.ctl_code.specs.declared.code.Layout.{Layout}
 use Rattle.ctl_code.specs.declared.code.Parts.{Parts}
 use Rattle.ctl_code.specs.declared.code.Parts.TheVariants as PartsOf
 use Rattle.ctl_code.specs.Table.{has_part, parts_in}
-use Rattle.ctl_code.specs.Valid.{outermost}
 pub use Rattle.ctl_layout.specs.Records.{constant_of, have_constants, is_plain}
 use Rattle.ctl_layout.specs.Records.{is_plain, is_run_type}
+use Rattle.ctl_layout.specs.Around.{Site}
 
 -- a type of the table whose objects are declared, or a scalar one
 abbrev pub is_declared : List RecordType → Ty → Bool
 is_declared records (Record t) = is_plain records t
 is_declared records ty = is_run_type ty
 
--- a type of the library, or of the main procedure's own declarative part: wherever an object was declared, its operations are in scope (7.6)
-abbrev pub is_outermost : Option RecordType → Bool
-is_outermost None = false
-is_outermost (Some r) = nat_le r.level outermost
+-- a type of the library, or one that is declared in one of so many masters around a place: its operations are in scope there (7.6)
+abbrev pub is_declared_in : ℕ → Option RecordType → Bool
+is_declared_in masters None = false
+is_declared_in masters (Some r) = nat_le r.level masters
 
 -- one of them whose objects are declared: a part of it takes the value of another one (5.2)
-abbrev pub is_assignable : List RecordType → ℕ → Bool
-is_assignable records t = is_plain records t && is_outermost (slice_get records t)
+abbrev pub is_assignable : Site → ℕ → Bool
+is_assignable site t = is_plain site.records t && is_declared_in site.masters (slice_get site.records t)
 
 -- Components that begin with something (3.8, 7.6) -------------------------------------------------
 

@@ -5,17 +5,17 @@
 -- Unchecked_Deallocation; calls of the library's Allocate and Deallocate; expressions over constants, variables, components and calls of functions, of scalar and access types;
 -- assignments to variables and components, also of what access values designate, and calls give these too; calls of procedures, whose
 -- actuals are values, copies of variables and parts of objects; return statements, texts with images, handlers of exceptions, and control.
--- Also objects that take the value of a part of their type, which may be any whose objects are declared, and assignments of records to one
--- another where their type is one of the main procedure's own declarative part.
+-- Also objects that take the value of a part of their type, which may be any whose objects are declared, and assignments of records of such
+-- types to one another, in whichever declarative part the type stands.
 use Rattle.std.specs.Prelude.{◌≡◌, ℕ, List, slice_get, Option, Some, None, Bool, IsTrue}
 use Rattle.ctl_program.specs.declared.program.Subprogram.{Subprogram}
 use Rattle.ctl_program.specs.declared.program.Checked.{Checked}
 use Rattle.ctl_program.specs.declared.types.RecordType.{RecordType}
-use Rattle.ctl_layout.specs.Layout.{bodies}
+use Rattle.ctl_layout.specs.Layout.{bodies, outside}
 
 -- whether this version runs each construct of a program
 abbrev pub is_run : Checked → Bool
-is_run program = (bodies program.subprograms).runs program.records
+is_run program = (bodies program.subprograms).runs (outside program.records)
 
 abbrev pub IsRun : Checked → Type 0
 IsRun program = IsTrue (is_run program)

@@ -4,6 +4,7 @@ ghost use Rattle.std.specs.Prelude.{◌≡◌, ℕ, List, [], ◌∷◌, is_some
 ghost use Rattle.ctl_program.specs.declared.operators.CopyStart.{CopyStart};
 ghost use Rattle.ctl_program.specs.declared.types.RecordType.{RecordType};
 ghost use Rattle.ctl_program.specs.declared.types.Var.{Var};
+ghost use Rattle.ctl_layout.specs.Around.{among, deeper};
 ghost use Rattle.ctl_layout.specs.Defaults as defaults;
 ghost use Rattle.ctl_layout.specs.Layout as spec;
 ghost use Rattle.ctl_layout.specs.Records as types;
@@ -21,7 +22,7 @@ use crate::typing::{copied, value_type};
 use ctl_program::expression::{Actual, Expr, Name, Operand, Step};
 use ctl_program::program::{Checked, Subprogram};
 use ctl_program::statement::{Arm, Association, Choices, Handler, Item, Master, Piece, Stmt};
-use ctl_program::types::{RecordType, Ty};
+use ctl_program::types::Ty;
 use sqlite_items::Boxed;
 use std::alloc::{AllocError, Global};
 
@@ -30,19 +31,19 @@ pub fn is_run(alloc: Global, program: &Checked) -> Result<bool, AllocError>
     ensures { IfOk result (λ runs. runs ≡ whole.is_run program.now) }
 {
     let table = Table::new(alloc, program.records.as_slice())?;
-    Ok(bodies(&table, program.subprograms.as_slice()))
+    bodies(&table, program.subprograms.as_slice())
 }
 
 /// Tells whether the bodies of these subprograms are run.
-fn bodies(table: &Table, subprograms: &[Subprogram]) -> bool
-    ensures { result ≡ (spec.bodies subprograms.now).runs table.now.records.now }
+fn bodies(table: &Table, subprograms: &[Subprogram]) -> Result<bool, AllocError>
+    ensures { IfOk result (λ runs. runs ≡ (spec.bodies subprograms.now).runs (spec.outside table.now.records.now)) }
 {
     for subprogram in subprograms {
-        if !master(&subprogram.body, table) {
-            return false;
+        if !master(&subprogram.body, table, subprogram.level)? {
+            return Ok(false);
         }
     }
-    true
+    Ok(true)
 }
 
 /// Tells whether the record types of the selectors of a name are run (RM 4.1.3).
@@ -297,22 +298,12 @@ fn pieces(pieces: &[Piece], table: &Table) -> bool
     true
 }
 
-/// How many masters every object is declared in at least: the main procedure's own.
-const OUTERMOST: usize = 1;
-
-/// Tells whether a type is one of the library, or of the main procedure's own declarative part.
-fn is_outermost(entry: &RecordType) -> bool
-    ensures { result ≡ defaults.is_outermost (Some entry.now) }
-{
-    entry.level <= OUTERMOST
-}
-
-/// Tells whether a part of the record type of this number takes the value of another one (RM 5.2).
-fn is_assignable(table: &Table, number: usize) -> bool
-    ensures { result ≡ defaults.is_assignable table.now.records.now number }
+/// Tells whether a part of the record type of this number takes the value of another one, inside so many masters (RM 5.2).
+fn is_assignable(table: &Table, masters: usize, number: usize) -> bool
+    ensures { result ≡ defaults.is_assignable (among table.now.records.now masters) number }
 {
     match table.records.get(number) {
-        Some(entry) => table.is_plain(number) && is_outermost(entry),
+        Some(entry) => table.is_plain(number) && entry.level <= masters,
         None => false,
     }
 }
@@ -384,9 +375,9 @@ fn items(table: &Table, items: &[Item]) -> bool
     true
 }
 
-/// Tells whether an assignment is run: to a variable, or to a component of what the steps of the name lead to.
+/// Tells whether an assignment is run, inside however many masters: to a variable, or to a component of what the steps of the name lead to.
 fn is_assigned(name: &Name, expression: &Expr, table: &Table) -> bool
-    ensures { result ≡ (spec.assign (values.reached_by name.now) (values.value_code expression.now)).runs table.now.records.now }
+    ensures { (masters : ℕ) → result ≡ (spec.assign (values.reached_by name.now) (values.value_code expression.now)).runs (among table.now.records.now masters) }
 {
     match reached_by(name) {
         Some(Reached::Variable(_)) => value(expression, table),
@@ -397,17 +388,23 @@ fn is_assigned(name: &Name, expression: &Expr, table: &Table) -> bool
     }
 }
 
-/// Tells whether an assignment of a record is run.
-fn is_record_assigned(name: &Name, number: usize, value: &Actual, table: &Table) -> bool
-    ensures { result ≡ (spec.assign_record (values.reached_by name.now) number (values.sourced value.now)).runs table.now.records.now }
+/// Tells whether an assignment of a record is run, inside so many masters.
+fn is_record_assigned(
+    name: &Name,
+    number: usize,
+    value: &Actual,
+    table: &Table,
+    masters: usize,
+) -> bool
+    ensures { result ≡ (spec.assign_record (values.reached_by name.now) number (values.sourced value.now)).runs (among table.now.records.now masters) }
 {
     is_part(name, reached_by(name), table)
-        && (may_be_part(sourced(value), table) && is_assignable(table, number))
+        && (may_be_part(sourced(value), table) && is_assignable(table, masters, number))
 }
 
 /// Tells whether what is freed is run: what a variable designates, or a component of what the steps of the name lead to (RM 13.11.2).
 fn is_freed(name: &Name, table: &Table) -> bool
-    ensures { (access : ℕ) → result ≡ (spec.free access (values.reached_by name.now)).runs table.now.records.now }
+    ensures { (access masters : ℕ) → result ≡ (spec.free access (values.reached_by name.now)).runs (among table.now.records.now masters) }
 {
     match reached_by(name) {
         Some(Reached::Variable(_)) => true,
@@ -418,7 +415,7 @@ fn is_freed(name: &Name, table: &Table) -> bool
 
 /// Tells whether a call of the library's Allocate is run: of a pool in a variable, whose address a variable takes (RM 13.11).
 fn is_taken(pool: &Name, address: &Name, size: &Expr, alignment: &Expr, table: &Table) -> bool
-    ensures { result ≡ (spec.library_allocate (values.reached_by pool.now) (values.reached_by address.now) (values.value_code size.now) (values.value_code alignment.now)).runs table.now.records.now }
+    ensures { (masters : ℕ) → result ≡ (spec.library_allocate (values.reached_by pool.now) (values.reached_by address.now) (values.value_code size.now) (values.value_code alignment.now)).runs (among table.now.records.now masters) }
 {
     match (reached_by(pool), reached_by(address)) {
         (Some(Reached::Variable(_)), Some(Reached::Variable(_))) => {
@@ -430,7 +427,7 @@ fn is_taken(pool: &Name, address: &Name, size: &Expr, alignment: &Expr, table: &
 
 /// Tells whether a call of the library's Deallocate is run: of a pool in a variable (RM 13.11).
 fn is_given_back(pool: &Name, address: &Expr, size: &Expr, alignment: &Expr, table: &Table) -> bool
-    ensures { result ≡ (spec.library_deallocate (values.reached_by pool.now) (values.value_code address.now) (values.value_code size.now) (values.value_code alignment.now)).runs table.now.records.now }
+    ensures { (masters : ℕ) → result ≡ (spec.library_deallocate (values.reached_by pool.now) (values.value_code address.now) (values.value_code size.now) (values.value_code alignment.now)).runs (among table.now.records.now masters) }
 {
     match reached_by(pool) {
         Some(Reached::Variable(_)) => {
@@ -442,7 +439,7 @@ fn is_given_back(pool: &Name, address: &Expr, size: &Expr, alignment: &Expr, tab
 
 /// Tells whether the condition of an exit is run, if there is one.
 fn is_exit(condition: &Option<Expr>, table: &Table) -> bool
-    ensures { result ≡ (spec.exit (option_map values.value_code condition.now)).runs table.now.records.now }
+    ensures { (masters : ℕ) → result ≡ (spec.exit (option_map values.value_code condition.now)).runs (among table.now.records.now masters) }
 {
     match condition {
         Some(expression) => value(expression, table),
@@ -452,7 +449,7 @@ fn is_exit(condition: &Option<Expr>, table: &Table) -> bool
 
 /// Tells whether a return statement is run: without a value, or with one of a scalar type (RM 6.5).
 fn is_return(given: &Option<Expr>, table: &Table) -> bool
-    ensures { result ≡ (spec.return (option_map values.value_code given.now)).runs table.now.records.now }
+    ensures { (masters : ℕ) → result ≡ (spec.return (option_map values.value_code given.now)).runs (among table.now.records.now masters) }
 {
     match given {
         Some(expression) => is_run_type(value_type(expression)) && value(expression, table),
@@ -460,75 +457,78 @@ fn is_return(given: &Option<Expr>, table: &Table) -> bool
     }
 }
 
-/// Tells whether a statement is run.
+/// Tells whether a statement is run, inside so many masters.
 #[cycle(statements)]
 #[tactic(auto, unfolding(crate::specs::Layout::statement_code, crate::specs::Layout::master_code, crate::specs::Layout::arm_code))]
-fn statement(statement: &Stmt, table: &Table) -> bool
-    ensures { result ≡ (spec.statement_code statement.now).runs table.now.records.now }
+fn statement(statement: &Stmt, table: &Table, masters: usize) -> Result<bool, AllocError>
+    ensures { IfOk result (λ runs. runs ≡ (spec.statement_code statement.now).runs (among table.now.records.now masters)) }
 {
     match statement {
-        Stmt::Null | Stmt::NewLine | Stmt::Raise(_) | Stmt::RaiseAgain => true,
-        Stmt::Assign(name, expression) => is_assigned(name, expression, table),
+        Stmt::Null | Stmt::NewLine | Stmt::Raise(_) | Stmt::RaiseAgain => Ok(true),
+        Stmt::Assign(name, expression) => Ok(is_assigned(name, expression, table)),
         Stmt::AssignRecord(name, number, value) => {
-            is_record_assigned(name, *number, value, table)
+            Ok(is_record_assigned(name, *number, value, table, masters))
         }
-        Stmt::Put(text) | Stmt::PutLine(text) => pieces(text.as_slice(), table),
-        Stmt::Exit(condition) => is_exit(condition, table),
-        Stmt::Return(value) => is_return(value, table),
-        Stmt::Call(_, actuals) => are_actuals(actuals.as_slice(), table),
-        Stmt::If(arms, otherwise) => {
-            conditional(arms.as_slice(), table) && statements(otherwise.as_slice(), table)
+        Stmt::Put(text) | Stmt::PutLine(text) => Ok(pieces(text.as_slice(), table)),
+        Stmt::Exit(condition) => Ok(is_exit(condition, table)),
+        Stmt::Return(value) => Ok(is_return(value, table)),
+        Stmt::Call(_, actuals) => Ok(are_actuals(actuals.as_slice(), table)),
+        Stmt::If(arms, otherwise) => Ok(
+            conditional(arms.as_slice(), table, masters)?
+                && statements(otherwise.as_slice(), table, masters)?,
+        ),
+        Stmt::Loop(body) => statements(body.as_slice(), table, masters),
+        Stmt::While(test, body) => {
+            Ok(value(test, table) && statements(body.as_slice(), table, masters)?)
         }
-        Stmt::Loop(body) => statements(body.as_slice(), table),
-        Stmt::While(test, body) => value(test, table) && statements(body.as_slice(), table),
-        Stmt::For(_, _, low, high, body) => {
-            value(low, table) && value(high, table) && statements(body.as_slice(), table)
-        }
-        Stmt::Block(inside) => master(inside.get(), table),
-        Stmt::Free(_, name) => is_freed(name, table),
+        Stmt::For(_, _, low, high, body) => Ok(
+            value(low, table) && value(high, table) && statements(body.as_slice(), table, masters)?,
+        ),
+        Stmt::Block(inside) => master(inside.get(), table, masters),
+        Stmt::Free(_, name) => Ok(is_freed(name, table)),
         Stmt::LibraryAllocate(pool, address, size, alignment) => {
-            is_taken(pool, address, size, alignment, table)
+            Ok(is_taken(pool, address, size, alignment, table))
         }
         Stmt::LibraryDeallocate(pool, address, size, alignment) => {
-            is_given_back(pool, address, size, alignment, table)
+            Ok(is_given_back(pool, address, size, alignment, table))
         }
-        Stmt::Nothing(_) | Stmt::Dispatch(..) | Stmt::Release(_) => false,
+        Stmt::Nothing(_) | Stmt::Dispatch(..) | Stmt::Release(_) => Ok(false),
     }
 }
 
-/// Tells whether statements are run.
+/// Tells whether statements are run, inside so many masters.
 #[cycle(statements)]
-fn statements(statements: &[Stmt], table: &Table) -> bool
-    ensures { result ≡ (spec.all (map spec.statement_code statements.now)).runs table.now.records.now }
+fn statements(statements: &[Stmt], table: &Table, masters: usize) -> Result<bool, AllocError>
+    ensures { IfOk result (λ runs. runs ≡ (spec.all (map spec.statement_code statements.now)).runs (among table.now.records.now masters)) }
 {
     for one in statements {
-        if !statement(one, table) {
-            return false;
+        if !statement(one, table, masters)? {
+            return Ok(false);
         }
     }
-    true
+    Ok(true)
 }
 
-/// Tells whether an arm is run.
+/// Tells whether an arm is run, inside so many masters.
 #[cycle(statements)]
 #[tactic(auto, unfolding(crate::specs::Layout::statement_code, crate::specs::Layout::arm_code))]
-fn arm(arm: &Arm, table: &Table) -> bool
-    ensures { result ≡ spec.arms_run (spec.arm_code arm.now ∷ []) table.now.records.now }
+fn arm(arm: &Arm, table: &Table, masters: usize) -> Result<bool, AllocError>
+    ensures { IfOk result (λ runs. runs ≡ spec.arms_run (spec.arm_code arm.now ∷ []) (among table.now.records.now masters)) }
 {
-    value(&arm.test, table) && statements(arm.body.as_slice(), table)
+    Ok(value(&arm.test, table) && statements(arm.body.as_slice(), table, masters)?)
 }
 
-/// Tells whether arms are run.
+/// Tells whether arms are run, inside so many masters.
 #[cycle(statements)]
-fn conditional(arms: &[Arm], table: &Table) -> bool
-    ensures { result ≡ spec.arms_run (map spec.arm_code arms.now) table.now.records.now }
+fn conditional(arms: &[Arm], table: &Table, masters: usize) -> Result<bool, AllocError>
+    ensures { IfOk result (λ runs. runs ≡ spec.arms_run (map spec.arm_code arms.now) (among table.now.records.now masters)) }
 {
     for one in arms {
-        if !arm(one, table) {
-            return false;
+        if !arm(one, table, masters)? {
+            return Ok(false);
         }
     }
-    true
+    Ok(true)
 }
 
 /// Tells whether a handler names an exception, or `others` (RM 11.2).
@@ -541,35 +541,39 @@ fn has_choice(choices: &Choices) -> bool
     }
 }
 
-/// Tells whether a handler is run.
+/// Tells whether a handler is run, inside so many masters.
 #[cycle(statements)]
 #[tactic(auto, unfolding(crate::specs::Layout::statement_code, crate::specs::Layout::handler_code))]
-fn handler(handler: &Handler, table: &Table) -> bool
-    ensures { result ≡ spec.handlers_run (spec.handler_code handler.now ∷ []) table.now.records.now }
+fn handler(handler: &Handler, table: &Table, masters: usize) -> Result<bool, AllocError>
+    ensures { IfOk result (λ runs. runs ≡ spec.handlers_run (spec.handler_code handler.now ∷ []) (among table.now.records.now masters)) }
 {
-    has_choice(&handler.choices) && statements(handler.body.as_slice(), table)
+    Ok(has_choice(&handler.choices) && statements(handler.body.as_slice(), table, masters)?)
 }
 
-/// Tells whether handlers are run.
+/// Tells whether handlers are run, inside so many masters.
 #[cycle(statements)]
-fn handlers(handlers: &[Handler], table: &Table) -> bool
-    ensures { result ≡ spec.handlers_run (map spec.handler_code handlers.now) table.now.records.now }
+fn handlers(handlers: &[Handler], table: &Table, masters: usize) -> Result<bool, AllocError>
+    ensures { IfOk result (λ runs. runs ≡ spec.handlers_run (map spec.handler_code handlers.now) (among table.now.records.now masters)) }
 {
     for one in handlers {
-        if !handler(one, table) {
-            return false;
+        if !handler(one, table, masters)? {
+            return Ok(false);
         }
     }
-    true
+    Ok(true)
 }
 
-/// Tells whether a master is run: its items, its statements, and its handlers.
+/// Tells whether a master is run, inside so many others: its items, its statements, and its handlers. One that cannot be counted wants
+/// memory.
 #[cycle(statements)]
 #[tactic(auto, unfolding(crate::specs::Layout::statement_code, crate::specs::Layout::master_code, crate::specs::Layout::handler_code))]
-fn master(inside: &Master, table: &Table) -> bool
-    ensures { result ≡ (spec.master_code inside.now).inside.runs table.now.records.now }
+fn master(inside: &Master, table: &Table, around: usize) -> Result<bool, AllocError>
+    ensures { IfOk result (λ runs. runs ≡ (spec.master_code inside.now).inside.runs (deeper (among table.now.records.now around))) }
 {
-    items(table, inside.items.as_slice())
-        && statements(inside.body.as_slice(), table)
-        && handlers(inside.handlers.as_slice(), table)
+    let masters = around.checked_add(1).ok_or(AllocError)?;
+    Ok(
+        items(table, inside.items.as_slice())
+            && statements(inside.body.as_slice(), table, masters)?
+            && handlers(inside.handlers.as_slice(), table, masters)?,
+    )
 }

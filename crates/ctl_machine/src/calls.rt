@@ -5,8 +5,8 @@ ghost use Rattle.ctl_code.specs.Table as Table;
 ghost use Rattle.ctl_machine.specs.declared.frame.Frame.TheVariants as FrameOf;
 ghost use Rattle.ctl_code.specs.Valid.{IsValid};
 ghost use Rattle.ctl_machine.specs.Links.{AreLinked, end_behind, first_end};
-ghost use Rattle.ctl_machine.specs.Assigning.{Called, Calls, HasRoom};
-ghost use Rattle.ctl_machine.specs.Masters.{Head, display_from, first_display};
+ghost use Rattle.ctl_machine.specs.Assigning.{Called, Calls, HasRoom, IsCaller, is_assigning};
+ghost use Rattle.ctl_machine.specs.Masters.{AreBelow, Head, display_from, first_display};
 ghost use Rattle.ctl_machine.specs.Holders.{first_formal};
 ghost use Rattle.ctl_machine.specs.Moves.{GoesOn, Makes, OpensBody, cleared};
 
@@ -201,8 +201,39 @@ impl Engine {
         self.open(master, 0, After::Body, place);
     }
 
+    /// Tells whether the newest frames finalize or adjust the target of an assignment.
+    fn is_assigning(&self) -> bool
+        ensures { result ≡ is_assigning (reverse self.now.control.items) }
+    {
+        let mut count = self.control.as_slice().len();
+        while count > 0 {
+            count -= 1;
+            match self.control[count] {
+                Frame::Assigning { .. } => return true,
+                Frame::Adjusting { .. }
+                | Frame::AdjustingOwn { .. }
+                | Frame::FinalizingOwn { .. }
+                | Frame::FinalizingParts { .. } => {}
+                _ => return false,
+            }
+        }
+        false
+    }
+
+    /// Answers whose masters an operation of an object of this master is called among: it is the newest of so many. In an assignment it is
+    /// the statement's, which sees the type of the operation, and else the object's (RM 7.6).
+    fn caller(&self, master: u64) -> usize
+        requires { (bound : ℕ) × AreBelow (reverse self.now.masters.items) bound }
+        ensures { IsCaller (is_assigning (reverse self.now.control.items)) self.now.masters.items master result }
+    {
+        if self.is_assigning() {
+            return self.count_masters();
+        }
+        master_at(self.masters.as_slice(), master)
+    }
+
     /// Calls a body that the user wrote, with what is shown of the call, for a part of an object of this master: the body is entered inside
-    /// the masters around it that the object's master sees (RM 7.6). Its window begins with this cell, and there is room for it.
+    /// the masters around it that its caller sees (RM 7.6). Its window begins with this cell, and there is room for it.
     #[inline(always)]
     pub(crate) fn call_operation(
         &mut self,
@@ -221,8 +252,8 @@ impl Engine {
         ensures { Makes code.now self.old self.new (Table.call_operation code.now t.body event t.spot t.object t.control t.world) }
     {
         let _ = code;
-        let owner = master_at(self.masters.as_slice(), master);
-        let link = self.around_from(owner, entry.level);
+        let caller = self.caller(master);
+        let link = self.around_from(caller, entry.level);
         let outer_formals = self.count_formals();
         let master = Master {
             number: self.given_masters + 1,

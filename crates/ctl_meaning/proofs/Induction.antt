@@ -257,15 +257,111 @@ module _ (t : Tables) (ask other : Ask) (call spare : Caller) (default fallback 
   abbrev pub of_expressions : OfExpressions
   of_expressions = record { Value = GoodValue; Name = GoodName; Operand = GoodOperand; Actual = GoodActual }
 
+  -- bodies are called alike
+  abbrev pub CallAlike : Caller → Caller → Type 0
+  CallAlike from to = (f : ℕ) (ss : List Slot) (env : List ℕ) → Same (from (OfSubprogram f ss) env) (to (OfSubprogram f ss) env)
+
   -- a subprogram's body, and an allocator with what it takes from the clock
   abbrev pub Calls : Type 0
-  Calls = (f : ℕ) (ss : List Slot) (env : List ℕ) → Same (call (OfSubprogram f ss) env) (spare (OfSubprogram f ss) env)
+  Calls = CallAlike call spare
 
   abbrev pub Allocates : Type 0
   Allocates = (env : List ℕ) (access : ℕ) (ty : Ty) (m n : Act (Option (List ℕ) × Option (List ℕ))) → Same m n → Same (spend (m >>= (λ p. call (OfAllocator access ty p.0 p.1) env))) (spend (n >>= (λ p. spare (OfAllocator access ty p.0 p.1) env)))
 
   abbrev pub Starts : Type 0
   Starts = (u position : ℕ) (env : List ℕ) → Same (default u position env) (fallback u position env)
+
+  -- Finalize and Adjust ---------------------------------------------------------------
+
+  k_with_home : {A : Type 0} (n : ℕ) {f g : List ℕ → Act A} → ((d : List ℕ) → Same (f d) (g d)) → Same (with_home n f) (with_home n g)
+  unfolding with_home
+  k_with_home n h = k_existing n (λ o. closed.looks (λ w. h _))
+
+  -- whichever calls they make of bodies: those of an assignment are among the masters of its statement
+  module _ (from to : Caller) (calls : CallAlike from to) where
+    abbrev one : Tools
+    one = record k { call = from }
+
+    abbrev two : Tools
+    two = record j { call = to }
+
+    k_call_operation : (s : Spot) (o : Option ℕ) (e : Event) → Same (call_operation one s o e) (call_operation two s o e)
+    unfolding call_operation
+    k_call_operation s None e = k_ticked (k_must_exist _)
+    k_call_operation s (Some f) e = k_with_home _ (λ d. k_then (k_then (closed.shows e) (calls _ _ d)) k_nothing)
+
+    k_after_finalize : (cause : Cause) (r : Tried Done) → Same (after_finalize cause r) (after_finalize cause r)
+    unfolding after_finalize
+    k_after_finalize CauseOf.TheVariants.Scope (Fine a) = k_done _
+    k_after_finalize CauseOf.TheVariants.Scope (Raised e) = k_done _
+    k_after_finalize CauseOf.TheVariants.Collection (Fine a) = k_done _
+    k_after_finalize CauseOf.TheVariants.Collection (Raised e) = k_done _
+    k_after_finalize CauseOf.TheVariants.Free (Fine a) = k_done _
+    k_after_finalize CauseOf.TheVariants.Free (Raised e) = k_done _
+    k_after_finalize CauseOf.TheVariants.Subpool (Fine a) = k_done _
+    k_after_finalize CauseOf.TheVariants.Subpool (Raised e) = k_done _
+    k_after_finalize CauseOf.TheVariants.Assign (Fine a) = k_done _
+    k_after_finalize CauseOf.TheVariants.Assign (Raised e) = k_raise _
+    k_after_finalize CauseOf.TheVariants.Failed (Fine a) = k_done _
+    k_after_finalize CauseOf.TheVariants.Failed (Raised e) = k_done _
+
+    k_own_finalize : (cause : Cause) (want : Chosen) (s : Spot) (u : ℕ) → Same (own_finalize one cause want s u) (own_finalize two cause want s u)
+    unfolding own_finalize
+    k_own_finalize cause want s u = k_either _ (k_seq (k_attempt (k_call_operation s _ _)) (λ r. k_after_finalize cause r)) (k_done _)
+
+    k_in_any_order : (f g : Placed → Act Bool) → ((p : Placed) → Same (f p) (g p)) → (n : ℕ) (left : List Placed) (b : Bool) → Same (in_any_order one f n left b) (in_any_order two g n left b)
+    unfolding in_any_order
+    k_in_any_order f g h zero left b = k_done b
+    k_in_any_order f g h (suc n) left b = k_seq (k_choose (suc n)) (λ i. k_seq (h (pull_item no_component i left)) (λ c. k_in_any_order f g h n (pull_rest i left) (b || c)))
+
+    k_finalize_part : (cause : Cause) (want : Chosen) (n : ℕ) (s : Spot) (u : ℕ) → Same (finalize_part one cause want n s u) (finalize_part two cause want n s u)
+    unfolding finalize_part own_finalize parts_to_finalize
+    k_finalize_part cause want zero s u = k_done _
+    k_finalize_part cause want (suc n) s u =
+        k_ticked (k_seq (k_own_finalize cause want s u) (λ b. k_in_any_order _ _ (λ p. k_of_record p.ty (k_done _) (λ x. k_finalize_part cause want n (component_at s p) x)) _ _ b))
+
+    k_finalize : (cause : Cause) (want : Chosen) (s : Spot) (u : ℕ) → Same (finalize one cause want s u) (finalize two cause want s u)
+    unfolding finalize
+    k_finalize cause want s u = k_finalize_part cause want (depth t) s u
+
+    k_finalize_failed : (paths : List (List ℕ)) (s : Spot) (u : ℕ) → Same (finalize_failed one paths s u) (finalize_failed two paths s u)
+    unfolding finalize_failed
+    k_finalize_failed paths s u = k_seq (k_finalize _ (These paths) s u) (λ b. k_then (k_when _ (closed.changes (ends _))) (k_done b))
+
+    k_lives : (b : Birth) (s : Spot) (u : ℕ) → Same (lives one b s u) (lives two b s u)
+    unfolding lives
+    k_lives b s u = k_either _ (closed.shows _) k_nothing
+
+    k_lives_if : (b : Option Birth) (s : Spot) (u : ℕ) → Same (lives_if one b s u) (lives_if two b s u)
+    unfolding lives_if
+    k_lives_if None s u = k_nothing
+    k_lives_if (Some b) s u = k_lives b s u
+
+    k_adjust_each : (f g : Placed → Adjusted → Act Adjusted) → ((p : Placed) (a : Adjusted) → Same (f p a) (g p a)) → (n : ℕ) (left : List Placed) (a : Adjusted) → Same (adjust_each one f n left a) (adjust_each two g n left a)
+    unfolding adjust_each
+    k_adjust_each f g h zero left a = k_done a
+    k_adjust_each f g h (suc n) left a = k_seq (k_choose (suc n)) (λ i. k_seq (k_ticked (h _ a)) (λ b. k_adjust_each f g h n (pull_rest i left) b))
+
+    k_after_adjust : (x : Option Birth) (s : Spot) (u : ℕ) (a : Adjusted) (r : Tried Done) → Same (after_adjust one x s u a r) (after_adjust two x s u a r)
+    unfolding after_adjust
+    k_after_adjust x s u a (Fine y) = k_then (k_lives_if x s u) (k_done _)
+    k_after_adjust x s u a (Raised e) = k_done _
+
+    k_own_adjust : (x : Option Birth) (s : Spot) (u : ℕ) (a : Adjusted) → Same (own_adjust one x s u a) (own_adjust two x s u a)
+    unfolding own_adjust
+    k_own_adjust x s u a = k_either _ (k_seq (k_attempt (k_call_operation s _ _)) (λ r. k_after_adjust x s u a r)) (k_done a)
+
+    k_adjust_part : (x : Option Birth) (n : ℕ) (s : Spot) (u : ℕ) (a : Adjusted) → Same (adjust_part one x n s u a) (adjust_part two x n s u a)
+    unfolding adjust_part own_adjust controlled_parts
+    k_adjust_part x zero s u a = k_done a
+    k_adjust_part x (suc n) s u a =
+        k_seq (k_adjust_each _ _ (λ p b. k_of_record p.ty (k_done b) (λ v. k_adjust_part x n (component_at s p) v b)) _ _ a) (λ b. k_own_adjust x s u b)
+
+    k_adjust : (x : Option Birth) (s : Spot) (ty : Ty) → Same (adjust one x s ty) (adjust two x s ty)
+    unfolding adjust adjust_record adjusted clean_up_copy
+    k_adjust x s ty =
+        k_of_record ty k_nothing (λ u. k_seq (k_adjust_part x (depth t) s u unadjusted)
+        (λ a. k_either a.failed (k_then (k_when _ (k_then (k_then (k_when _ (closed.changes (begins _))) (k_finalize_failed a.paths s u)) k_nothing)) (k_raise _)) k_nothing))
 
   module _ (calls : Calls) (allocates : Allocates) where
     -- Expressions ---------------------------------------------------------------
@@ -330,104 +426,22 @@ module _ (t : Tables) (ask other : Ask) (call spare : Caller) (default fallback 
       copied = λ n ty b h. (λ env. k_ticked (h (category_of ty) env), λ f. k_by_copy _ b f);
     }
 
-    -- Finalize ------------------------------------------------------------------
-
-    k_with_home : {A : Type 0} (n : ℕ) {f g : List ℕ → Act A} → ((d : List ℕ) → Same (f d) (g d)) → Same (with_home n f) (with_home n g)
-    unfolding with_home
-    k_with_home n h = k_existing n (λ o. closed.looks (λ w. h _))
-
-    k_call_operation : (s : Spot) (o : Option ℕ) (e : Event) → Same (call_operation k s o e) (call_operation j s o e)
-    unfolding call_operation
-    k_call_operation s None e = k_ticked (k_must_exist _)
-    k_call_operation s (Some f) e = k_with_home _ (λ d. k_then (k_then (closed.shows e) (calls _ _ d)) k_nothing)
-
-    k_after_finalize : (cause : Cause) (r : Tried Done) → Same (after_finalize cause r) (after_finalize cause r)
-    unfolding after_finalize
-    k_after_finalize CauseOf.TheVariants.Scope (Fine a) = k_done _
-    k_after_finalize CauseOf.TheVariants.Scope (Raised e) = k_done _
-    k_after_finalize CauseOf.TheVariants.Collection (Fine a) = k_done _
-    k_after_finalize CauseOf.TheVariants.Collection (Raised e) = k_done _
-    k_after_finalize CauseOf.TheVariants.Free (Fine a) = k_done _
-    k_after_finalize CauseOf.TheVariants.Free (Raised e) = k_done _
-    k_after_finalize CauseOf.TheVariants.Subpool (Fine a) = k_done _
-    k_after_finalize CauseOf.TheVariants.Subpool (Raised e) = k_done _
-    k_after_finalize CauseOf.TheVariants.Assign (Fine a) = k_done _
-    k_after_finalize CauseOf.TheVariants.Assign (Raised e) = k_raise _
-    k_after_finalize CauseOf.TheVariants.Failed (Fine a) = k_done _
-    k_after_finalize CauseOf.TheVariants.Failed (Raised e) = k_done _
-
-    k_own_finalize : (cause : Cause) (want : Chosen) (s : Spot) (u : ℕ) → Same (own_finalize k cause want s u) (own_finalize j cause want s u)
-    unfolding own_finalize
-    k_own_finalize cause want s u = k_either _ (k_seq (k_attempt (k_call_operation s _ _)) (λ r. k_after_finalize cause r)) (k_done _)
-
-    k_in_any_order : (f g : Placed → Act Bool) → ((p : Placed) → Same (f p) (g p)) → (n : ℕ) (left : List Placed) (b : Bool) → Same (in_any_order k f n left b) (in_any_order j g n left b)
-    unfolding in_any_order
-    k_in_any_order f g h zero left b = k_done b
-    k_in_any_order f g h (suc n) left b = k_seq (k_choose (suc n)) (λ i. k_seq (h (pull_item no_component i left)) (λ c. k_in_any_order f g h n (pull_rest i left) (b || c)))
-
-    k_finalize_part : (cause : Cause) (want : Chosen) (n : ℕ) (s : Spot) (u : ℕ) → Same (finalize_part k cause want n s u) (finalize_part j cause want n s u)
-    unfolding finalize_part own_finalize parts_to_finalize
-    k_finalize_part cause want zero s u = k_done _
-    k_finalize_part cause want (suc n) s u =
-        k_ticked (k_seq (k_own_finalize cause want s u) (λ b. k_in_any_order _ _ (λ p. k_of_record p.ty (k_done _) (λ x. k_finalize_part cause want n (component_at s p) x)) _ _ b))
-
-    k_finalize : (cause : Cause) (want : Chosen) (s : Spot) (u : ℕ) → Same (finalize k cause want s u) (finalize j cause want s u)
-    unfolding finalize
-    k_finalize cause want s u = k_finalize_part cause want (depth t) s u
+    -- Objects ----------------------------------------------------------------------
 
     -- the finalization of an object begins with no default
     pub k_finalize_begun : (cause : Cause) (m : Member) → Same (finalize_begun k cause m) (finalize_begun j cause m)
     unfolding finalize_begun
-    k_finalize_begun cause m = k_seq (k_of_record m.ty (k_done _) (λ u. k_finalize cause Every (whole m.number) u)) (λ b. k_then (closed.changes (ends _)) (k_done b))
+    k_finalize_begun cause m = k_seq (k_of_record m.ty (k_done _) (λ u. k_finalize call spare calls cause Every (whole m.number) u)) (λ b. k_then (closed.changes (ends _)) (k_done b))
 
     k_finalize_object : (cause : Cause) (m : Member) → Same (finalize_object k cause m) (finalize_object j cause m)
     unfolding finalize_object
     k_finalize_object cause m = k_then (k_then (k_must_exist _) (closed.changes (begins _))) (k_finalize_begun cause m)
 
-    k_finalize_failed : (paths : List (List ℕ)) (s : Spot) (u : ℕ) → Same (finalize_failed k paths s u) (finalize_failed j paths s u)
-    unfolding finalize_failed
-    k_finalize_failed paths s u = k_seq (k_finalize _ (These paths) s u) (λ b. k_then (k_when _ (closed.changes (ends _))) (k_done b))
-
     k_finalize_group : (cause : Cause) (g : Group) → Same (finalize_group k cause g) (finalize_group j cause g)
     k_finalize_group cause g = closed.finishes call spare default fallback cause g (k_finalize_begun cause)
 
     module _ (values : Starts) where
-      -- Adjust, Initialize --------------------------------------------------------
-
-      k_lives : (b : Birth) (s : Spot) (u : ℕ) → Same (lives k b s u) (lives j b s u)
-      unfolding lives
-      k_lives b s u = k_either _ (closed.shows _) k_nothing
-
-      k_lives_if : (b : Option Birth) (s : Spot) (u : ℕ) → Same (lives_if k b s u) (lives_if j b s u)
-      unfolding lives_if
-      k_lives_if None s u = k_nothing
-      k_lives_if (Some b) s u = k_lives b s u
-
-      k_adjust_each : (f g : Placed → Adjusted → Act Adjusted) → ((p : Placed) (a : Adjusted) → Same (f p a) (g p a)) → (n : ℕ) (left : List Placed) (a : Adjusted) → Same (adjust_each k f n left a) (adjust_each j g n left a)
-      unfolding adjust_each
-      k_adjust_each f g h zero left a = k_done a
-      k_adjust_each f g h (suc n) left a = k_seq (k_choose (suc n)) (λ i. k_seq (k_ticked (h _ a)) (λ b. k_adjust_each f g h n (pull_rest i left) b))
-
-      k_after_adjust : (x : Option Birth) (s : Spot) (u : ℕ) (a : Adjusted) (r : Tried Done) → Same (after_adjust k x s u a r) (after_adjust j x s u a r)
-      unfolding after_adjust
-      k_after_adjust x s u a (Fine y) = k_then (k_lives_if x s u) (k_done _)
-      k_after_adjust x s u a (Raised e) = k_done _
-
-      k_own_adjust : (x : Option Birth) (s : Spot) (u : ℕ) (a : Adjusted) → Same (own_adjust k x s u a) (own_adjust j x s u a)
-      unfolding own_adjust
-      k_own_adjust x s u a = k_either _ (k_seq (k_attempt (k_call_operation s _ _)) (λ r. k_after_adjust x s u a r)) (k_done a)
-
-      k_adjust_part : (x : Option Birth) (n : ℕ) (s : Spot) (u : ℕ) (a : Adjusted) → Same (adjust_part k x n s u a) (adjust_part j x n s u a)
-      unfolding adjust_part own_adjust controlled_parts
-      k_adjust_part x zero s u a = k_done a
-      k_adjust_part x (suc n) s u a =
-          k_seq (k_adjust_each _ _ (λ p b. k_of_record p.ty (k_done b) (λ v. k_adjust_part x n (component_at s p) v b)) _ _ a) (λ b. k_own_adjust x s u b)
-
-      k_adjust : (x : Option Birth) (s : Spot) (ty : Ty) → Same (adjust k x s ty) (adjust j x s ty)
-      unfolding adjust adjust_record adjusted clean_up_copy
-      k_adjust x s ty =
-          k_of_record ty k_nothing (λ u. k_seq (k_adjust_part x (depth t) s u unadjusted)
-          (λ a. k_either a.failed (k_then (k_when _ (k_then (k_then (k_when _ (closed.changes (begins _))) (k_finalize_failed a.paths s u)) k_nothing)) (k_raise _)) k_nothing))
+      -- Initialize ----------------------------------------------------------------
 
       k_begin_next : (ps more : List (List ℕ)) (f g : List (List ℕ) → Act Begun) → ((qs : List (List ℕ)) → Same (f qs) (g qs)) → (r : Tried Done) → Same (begin_next ps f more r) (begin_next ps g more r)
       unfolding begin_next
@@ -442,7 +456,7 @@ module _ (t : Tables) (ask other : Ask) (call spare : Caller) (default fallback 
 
       k_own_initialize : (s : Spot) (u : ℕ) (ps : List (List ℕ)) → Same (own_initialize k s u ps) (own_initialize j s u ps)
       unfolding own_initialize begun_with
-      k_own_initialize s u ps = k_either _ (k_seq (k_attempt (k_call_operation s _ _)) (λ r. k_begin_next ps [] _ _ (λ qs. k_done _) r)) (k_done _)
+      k_own_initialize s u ps = k_either _ (k_seq (k_attempt (k_call_operation call spare calls s _ _)) (λ r. k_begin_next ps [] _ _ (λ qs. k_done _) r)) (k_done _)
 
       k_unless_failed : (f g : List (List ℕ) → Act Begun) → ((ps : List (List ℕ)) → Same (f ps) (g ps)) → (b : Begun) → Same (unless_failed f b) (unless_failed g b)
       unfolding unless_failed
@@ -456,13 +470,13 @@ module _ (t : Tables) (ask other : Ask) (call spare : Caller) (default fallback 
       k_begun : (b : Birth) (s : Spot) (u : ℕ) (x : Begun) → Same (begun k b s u x) (begun j b s u x)
       unfolding begun clean_up
       k_begun b s u x =
-          k_on_some x.failure (k_when _ (k_lives b s u))
-          (λ e. k_seq (k_then (closed.changes (begins _)) (k_finalize_failed x.paths s u)) (λ c. k_failed_with e c))
+          k_on_some x.failure (k_when _ (k_lives call spare calls b s u))
+          (λ e. k_seq (k_then (closed.changes (begins _)) (k_finalize_failed call spare calls x.paths s u)) (λ c. k_failed_with e c))
 
       k_begin_component : (b : Birth) (f g : Spot → ℕ → Act Done) → ((s : Spot) (u : ℕ) → Same (f s u) (g s u)) → (s : Spot) (u : ℕ) (p : Placed) → Same (begin_component k b f s u p) (begin_component j b g s u p)
       unfolding begin_component
       k_begin_component b f g h s u p =
-          k_either _ (k_then (k_seq (values u _ b.home) (λ v. k_write_part _ _ v)) (k_adjust (Some b) (component_at s p) p.ty))
+          k_either _ (k_then (k_seq (values u _ b.home) (λ v. k_write_part _ _ v)) (k_adjust call spare calls (Some b) (component_at s p) p.ty))
           (k_of_record p.ty k_nothing (λ x. h _ x))
 
       k_initialize_part : (b : Birth) (n : ℕ) (s : Spot) (u : ℕ) → Same (initialize_part k b n s u) (initialize_part j b n s u)
@@ -475,7 +489,7 @@ module _ (t : Tables) (ask other : Ask) (call spare : Caller) (default fallback 
       k_fill : (b : Birth) (n : ℕ) (ty : Ty) (v : Option (List ℕ)) → Same (fill k b n ty v) (fill j b n ty v)
       unfolding fill initialize
       k_fill b n ty v =
-          k_then (k_on_some v (k_of_record ty k_nothing (λ u. k_initialize_part b (depth t) (whole n) u)) (λ x. k_then (k_write_part n 0 x) (k_adjust (Some b) (whole n) ty))) (k_must_exist n)
+          k_then (k_on_some v (k_of_record ty k_nothing (λ u. k_initialize_part b (depth t) (whole n) u)) (λ x. k_then (k_write_part n 0 x) (k_adjust call spare calls (Some b) (whole n) ty))) (k_must_exist n)
 
       -- Storage -----------------------------------------------------------------------
 
@@ -697,10 +711,16 @@ module _ (t : Tables) (ask other : Ask) (call spare : Caller) (default fallback 
       k_text env [] h = k_done _
       k_text env (p ∷ ps) h = k_seq (h.0 env) (λ v. k_join_pieces env ps h.1 v)
 
-      k_assign_record : (u : ℕ) (f g : Found) → Same (assign_record k u f g) (assign_record j u f g)
+      -- each call of a body is among the masters of the statement
+      abbrev around : Caller → List ℕ → Caller
+      around calling env = λ x home. calling x env
+
+      k_assign_record : (env : List ℕ) (u : ℕ) (f g : Found) → Same (assign_record k env u f g) (assign_record j env u f g)
       unfolding assign_record overwrite
-      k_assign_record u f g =
-          k_seq (k_read_found _ g) (λ v. k_either _ k_nothing (k_then (k_then (k_when _ (k_then (k_finalize _ Every (spot_of f) u) k_nothing)) (k_write_found f v)) (k_adjust None (spot_of f) (Record u))))
+      k_assign_record env u f g =
+          let its : CallAlike (around call env) (around spare env) = λ n ss home. calls n ss env in
+          k_seq (k_read_found _ g)
+          (λ v. k_either _ k_nothing (k_then (k_then (k_when _ (k_then (k_finalize (around call env) (around spare env) its _ Every (spot_of f) u) k_nothing)) (k_write_found f v)) (k_adjust (around call env) (around spare env) its None (spot_of f) (Record u))))
 
       k_leaving : {m n : Act Done} → Same m n → Same (leaving m) (leaving n)
       unfolding leaving
@@ -777,7 +797,7 @@ module _ (t : Tables) (ask other : Ask) (call spare : Caller) (default fallback 
         boolean_text = λ e h env. k_ticked (k_seq (h env) (λ v. k_done _));
         null = λ env e. k_ticked k_nothing;
         assign = λ n v h i env e. k_ticked (k_seq (h Elementary env) (λ f. k_seq (i env) (λ x. k_write_found f x)));
-        assign_part = λ n u a h i env e. k_ticked (k_seq (h Composite env) (λ f. k_seq (i.0 env) (λ g. k_assign_record u f g)));
+        assign_part = λ n u a h i env e. k_ticked (k_seq (h Composite env) (λ f. k_seq (i.0 env) (λ g. k_assign_record env u f g)));
         call_statement = λ f xs h env e. k_ticked (k_then (k_seq (k_pass_each env xs h no_actuals) (λ p. k_call_with env f p)) k_nothing);
         call_nothing = λ n h env e. k_ticked (k_then (h Composite env) k_nothing);
         dispatching = λ op n h env e. k_ticked (k_seq (h Composite env) (λ f. k_dispatch env op f));

@@ -43,7 +43,8 @@ no_component = record { position = 0; offset = 0; ty = Integer; defaulted = fals
 unfoldable pub with_home : {A : Type 0} → ℕ → (List ℕ → Act A) → Act A
 with_home n f = existing n (λ o. look (λ w. f (home_of o.origin w)))
 
--- a call that the rules make of an operation of a part: shown where the user wrote the operation; the library's does nothing
+-- a call that the rules make of an operation of a part: shown where the user wrote the operation; the library's does nothing. An assignment
+-- makes it with tools by which each call is among the masters of its statement
 unfoldable pub call_operation : Tools → Spot → Option ℕ → Event → Act Done
 call_operation k s None e = ticked (must_exist s.object)
 call_operation k s (Some f) e = with_home s.object (λ d. show e >> k.call (OfSubprogram f (holding (Binds s.object s.offset s.path) ∷ [])) d >> nothing)

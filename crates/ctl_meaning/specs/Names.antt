@@ -39,6 +39,10 @@ pub record Tools : Type 0 where
   pub call : Call
   pub default : Default
 
+-- each execution is among these masters, whichever it is called among
+abbrev pub among : List ℕ → Tools → Tools
+among env k = record k { call = λ x home. k.call x env }
+
 -- Objects that must exist ------------------------------------------------------
 
 -- use of what has ceased to exist (13.11.2)

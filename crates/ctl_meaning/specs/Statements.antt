@@ -25,7 +25,7 @@ use Rattle.ctl_meaning.specs.Changes.{set_value}
 use Rattle.ctl_meaning.specs.Outcome.{completes_loop, raised_by, ByExit, ByReturn, Result, Goes, Leaves, Cut, Act, Done, given, ◌>>=◌, ◌>>◌, done, nothing, leave_by, raise, counted, ticked, then_always, spend, change, show, when, either, on_some}
 use Rattle.ctl_meaning.specs.Numbers.{signed, cell_of, is_true, integer_image, boolean_image}
 use Rattle.ctl_meaning.specs.Types.{Tables, Elementary, Composite, cells_of, has_controlled, operation, record_of}
-use Rattle.ctl_meaning.specs.Names.{Tools, Found, InObject, existing, scalar_of, read_found, write_found, object_of, same_found}
+use Rattle.ctl_meaning.specs.Names.{Tools, among, Found, InObject, existing, scalar_of, read_found, write_found, object_of, same_found}
 use Rattle.ctl_meaning.specs.Expressions.{no_actuals, with_formal, by_reference, call_with, Valued, Naming, Supplied, pass_each, eval, eval_name, supply}
 use Rattle.ctl_meaning.specs.Finalization.{Spot, Every, finalize}
 use Rattle.ctl_meaning.specs.Adjustment.{adjust}
@@ -76,16 +76,17 @@ unfoldable pub spot_of : Found → Spot
 spot_of (InObject o offset path) = record { object = o; offset = offset; path = path }
 spot_of _ = record { object = 0; offset = 0; path = [] }
 
--- the target is finalized, takes the value and is adjusted, by the type at its place
-unfoldable pub overwrite : Tools → ℕ → Found → List ℕ → Act Done
-overwrite k t target v =
-    when (has_controlled k.tables (Record t)) (finalize k CauseOf.TheVariants.Assign Every (spot_of target) t >> nothing)
+-- the target is finalized, takes the value and is adjusted, by the type at its place: its operations are called among the masters of the
+-- statement, where that type is seen
+unfoldable pub overwrite : Tools → List ℕ → ℕ → Found → List ℕ → Act Done
+overwrite k env t target v =
+    when (has_controlled k.tables (Record t)) (finalize (among env k) CauseOf.TheVariants.Assign Every (spot_of target) t >> nothing)
     >> write_found target v
-    >> adjust k None (spot_of target) (Record t)
+    >> adjust (among env k) None (spot_of target) (Record t)
 
 -- the source's value is read; an object that is assigned to itself stays as it is (profile)
-unfoldable pub assign_record : Tools → ℕ → Found → Found → Act Done
-assign_record k t target source = read_found (cells_of k.tables (Record t)) source >>= (λ v. either (same_found target source) nothing (overwrite k t target v))
+unfoldable pub assign_record : Tools → List ℕ → ℕ → Found → Found → Act Done
+assign_record k env t target source = read_found (cells_of k.tables (Record t)) source >>= (λ v. either (same_found target source) nothing (overwrite k env t target v))
 
 -- Loops (5.5) -----------------------------------------------------------------------------------
 
@@ -194,7 +195,7 @@ unfoldable pub assign : Naming → Valued → Doing
 assign n e k env caught = ticked (n Elementary k env >>= (λ f. e k env >>= write_found f))
 
 unfoldable pub assign_part : Naming → ℕ → Supplied → Doing
-assign_part n t a k env caught = ticked (n Composite k env >>= (λ f. a.source k env >>= assign_record k t f))
+assign_part n t a k env caught = ticked (n Composite k env >>= (λ f. a.source k env >>= assign_record k env t f))
 
 unfoldable pub call : ℕ → List Supplied → Doing
 call f actuals k env caught = ticked (pass_each k env actuals no_actuals >>= call_with k env f >> nothing)

@@ -101,10 +101,14 @@ module _ (t : Tables) (order : InOrder t.records) (ask : Ask) (call : Caller) (d
   keeps_text env [] h = keeps_done _
   keeps_text env (p ∷ ps) h = keeps_seq (h.0 env) (λ v. keeps_join_pieces env ps h.1 v)
 
-  keeps_assign_record : (u : ℕ) (f g : Found) → Good t (assign_record k u f g)
+  -- each call of a body is among the masters of the statement
+  keeps_assign_record : (env : List ℕ) (u : ℕ) (f g : Found) → Good t (assign_record k env u f g)
   unfolding assign_record overwrite
-  keeps_assign_record u f g =
-      keeps_seq (keeps_read_found _ g) (λ v. keeps_either _ keeps_nothing (keeps_then (keeps_then (keeps_when _ (keeps_then (keeps_finalize t ask call default calls Every (spot_of f) u) keeps_nothing)) (keeps_write_found f v)) (keeps_adjust t ask call default calls (spot_of f) (Record u))))
+  keeps_assign_record env u f g =
+      let around : Caller = λ x home. call x env in
+      let its : (n : ℕ) (ss : List Slot) (home : List ℕ) → Good t (around (OfSubprogram n ss) home) = λ n ss home. calls n ss env in
+      keeps_seq (keeps_read_found _ g)
+      (λ v. keeps_either _ keeps_nothing (keeps_then (keeps_then (keeps_when _ (keeps_then (keeps_finalize t ask around default its Every (spot_of f) u) keeps_nothing)) (keeps_write_found f v)) (keeps_adjust t ask around default its (spot_of f) (Record u))))
 
   keeps_leaving : {m : Act Done} → Good t m → Good t (leaving m)
   unfolding leaving
@@ -177,7 +181,7 @@ module _ (t : Tables) (order : InOrder t.records) (ask : Ask) (call : Caller) (d
     boolean_text = λ e h env. keeps_ticked (keeps_seq (h env) (λ v. keeps_done _));
     null = λ env e. keeps_ticked keeps_nothing;
     assign = λ n v h i env e. keeps_ticked (keeps_seq (h Elementary env) (λ f. keeps_seq (i env) (λ x. keeps_write_found f x)));
-    assign_part = λ n u a h i env e. keeps_ticked (keeps_seq (h Composite env) (λ f. keeps_seq (i.0 env) (λ g. keeps_assign_record u f g)));
+    assign_part = λ n u a h i env e. keeps_ticked (keeps_seq (h Composite env) (λ f. keeps_seq (i.0 env) (λ g. keeps_assign_record env u f g)));
     call_statement = λ f xs h env e. keeps_ticked (keeps_then (keeps_seq (keeps_pass_each t ask call default calls allocates env xs h no_actuals) (λ p. keeps_call_with t ask call default calls allocates env f p)) keeps_nothing);
     call_nothing = λ n h env e. keeps_ticked (keeps_then (h Composite env) keeps_nothing);
     dispatching = λ op n h env e. keeps_ticked (keeps_seq (h Composite env) (λ f. keeps_dispatch env op f));
