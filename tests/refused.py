@@ -155,11 +155,11 @@ TEXTS = [
     (ITEM + "begin Ada.Text_IO.New_Line; end Main;", 25, 1, 25),
     # and before a broken rule on types, wherever that stands
     (ITEM + "N : Integer; begin N := True; M := 1; end Main;", 20, 1, 49),
-    # an assignment of a record is run where its type is declared in the main procedure's own part. Only types tell it apart from others:
-    # another one is told at the main procedure. A broken rule on types comes before. An object with the value of another one is run
+    # an assignment of a record is run wherever its type is declared, and so is an object with the value of another one; a broken rule on
+    # types is told
     (CONTROLLED + "type T is new Controlled with null record; X, Y : T; begin X := Y; end Main;", ACCEPTED, 1, 1),
     (CONTROLLED + "type T is new Controlled with null record; X : T; Y : T := X; begin X := Y; end Main;", ACCEPTED, 1, 1),
-    (CONTROLLED + "begin declare type T is new Controlled with null record; X, Y : T; begin X := Y; end; end Main;", 12, 1, 46),
+    (CONTROLLED + "begin declare type T is new Controlled with null record; X, Y : T; begin X := Y; end; end Main;", ACCEPTED, 1, 1),
     (CONTROLLED + "type T is new Limited_Controlled with null record; X, Y : T; begin X := Y; end Main;", 32, 1, 131),
     # procedures are run whose parameters are records, or of the types that functions give, in each mode; one with others is left out where it stands.
     # A copy goes back to a variable; of a component only types tell it, at the main procedure
