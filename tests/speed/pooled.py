@@ -1,3 +1,4 @@
+# no pool, as there is none in the language: an object is made and dropped
 class Pair:
     def __init__(self):
         self.first = 0
@@ -5,16 +6,9 @@ class Pair:
 
 
 def main():
-    # the blocks that are free
-    free = [Pair(), Pair()]
     x = None
     for _ in range(TURNS):
-        if not free:
-            raise MemoryError
-        x = free.pop()
-        x.first = 0
-        x.second = 0
-        free.append(x)
+        x = Pair()
         x = None
     print(x is None)
 
