@@ -5,7 +5,7 @@ use Rattle.std.specs.Option.{option_map_or}
 use Rattle.std.proofs.lemmas.List.{append_assoc, length-append, reverse-append}
 use Rattle.ctl_tree.specs.declared.ending.Stop.TheVariants.{BadAddress, UseAfterFree}
 use Rattle.ctl_program.specs.declared.types.Ty.TheVariants.{Integer}
-use Rattle.ctl_meaning.specs.World.{Block, BlockPool, Object, World}
+use Rattle.ctl_meaning.specs.World.{BlockPool, Object, World}
 use Rattle.ctl_meaning.specs.Changes.{is_vacant}
 use Rattle.ctl_meaning.specs.Pools.{block_at, block_pool_at}
 use Rattle.ctl_storage.specs.Calls.{is_fit_at, is_vacant_among, placing}

@@ -4,7 +4,7 @@ use Rattle.std.specs.Prelude.{◌||◌, if◌then◌else◌, nat_eq, nat_lt, not
 use Rattle.std.specs.Option.{option_map_or}
 use Rattle.ctl_tree.specs.declared.ending.Stop.{Stop}
 use Rattle.ctl_tree.specs.declared.ending.Stop.TheVariants.{UseAfterFree, BadAddress}
-use Rattle.ctl_meaning.specs.Changes.{in_pools, is_vacant, opened_changes}
+use Rattle.ctl_meaning.specs.Changes.{in_pools, opened_changes}
 use Rattle.ctl_meaning.specs.Pools.{block_at, block_pool_at, give_block, take_block}
 use Rattle.ctl_meaning.specs.World as W
 use Rattle.ctl_meaning.specs.World.{Block, BlockPool, InBlock, Object, World}

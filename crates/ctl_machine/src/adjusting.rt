@@ -336,6 +336,7 @@ impl Engine {
 
     /// Goes on behind the Adjust of the newest part, which has ended so, where an Adjust before it failed or did not: the part is adjusted,
     /// and an exception is remembered (RM 7.6.1). Unchanged where memory is refused.
+    #[inline(always)]
     pub(crate) fn resume_adjusting_own(
         &mut self,
         code: &Code,

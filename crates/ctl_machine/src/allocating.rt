@@ -306,6 +306,7 @@ impl Engine {
     /// finalization of the collection has started, an object with a controlled part is not: Program_Error is raised; and Storage_Error where
     /// the storage pool of the access type is exhausted (RM 13.11). Where the collection or the pool is gone, the program is erroneous
     /// (RM 13.11.2). Unchanged where memory is refused.
+    #[inline(always)]
     pub(crate) fn allocate(
         &mut self,
         code: &Code,
@@ -410,6 +411,7 @@ impl Engine {
 
     /// Goes on with the allocator of the object of this number behind the creation of its parts, which has ended so: the object joins its
     /// collection and is the newest operand, or it is gone and the exception is raised (RM 4.8).
+    #[inline(always)]
     pub(crate) fn resume_allocating(&mut self, code: &Code, ended: Ended, object: u64, place: usize)
         ghost s: { State }
         requires valid { IsValid code.now }

@@ -258,7 +258,7 @@ impl Engine {
 
     /// Assigns the value of the part that is the newest operand to the part below it (RM 5.2, 7.6); one that is assigned to itself stays as
     /// it is. Where the object of the newest is not there, the program is erroneous (RM 13.11.2). Unchanged where memory is refused.
-    #[inline(never)]
+    #[inline(always)]
     pub(crate) fn assign(
         &mut self,
         code: &Code,
@@ -321,6 +321,7 @@ impl Engine {
     /// Goes on with an assignment behind the finalization of its target, or behind its adjustment, which has ended so (RM 7.6): it takes the
     /// value that is saved for it, or the assignment has ended. An exception of a Finalize, and an Adjust that failed, is Program_Error
     /// (RM 7.6.1). Unchanged where memory is refused.
+    #[inline(always)]
     pub(crate) fn resume_assigning(
         &mut self,
         code: &Code,

@@ -222,6 +222,7 @@ impl Engine {
 
     /// Answers whose masters an operation of an object of this master is called among: it is the newest of so many. In an assignment it is
     /// the statement's, which sees the type of the operation, and else the object's (RM 7.6).
+    #[inline(always)]
     fn caller(&self, master: u64) -> usize
         requires { (bound : ℕ) × AreBelow (reverse self.now.masters.items) bound }
         ensures { IsCaller (is_assigning (reverse self.now.control.items)) self.now.masters.items master result }

@@ -22,6 +22,7 @@ impl Engine {
 
     /// Closes the pool that the object of this number is, whose finalization for this cause has ended, if it is declared and a pool (RM
     /// 13.11).
+    #[inline(always)]
     pub(crate) fn close_after(&mut self, cause: Cause, number: u64)
         ensures closed { ClosesAfter cause number self.old.stock self.new.stock }
         ensures same { self.new ≡ record self.old { stock = self.new.stock } }

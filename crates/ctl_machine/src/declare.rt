@@ -125,7 +125,7 @@ impl Engine {
 
     /// Declares an object of a record type without a value (RM 3.3.1): it is created, and its components are to begin (RM 7.6); unchanged
     /// where memory is refused.
-    #[inline(never)]
+    #[inline(always)]
     pub(crate) fn declare(
         &mut self,
         code: &Code,

@@ -313,6 +313,7 @@ impl Engine {
     /// Goes on with the creation of the newest part, of a record type, of an object of this owner: the last one of its components that
     /// have begun has ended so, some are left, and some are not complete (RM 7.6). A component is chosen by the order, or else the part is
     /// initialized, or its creation has failed (RM 7.6.1). Unchanged where memory is refused.
+    #[inline(always)]
     pub(crate) fn resume_filling(
         &mut self,
         code: &Code,

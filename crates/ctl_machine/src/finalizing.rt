@@ -376,6 +376,7 @@ impl Engine {
 
     /// Goes on with a part behind its own Finalize, which has ended so: its components are finalized. An exception is remembered, and in an
     /// assignment it is Program_Error at once (RM 7.6.1).
+    #[inline(always)]
     pub(crate) fn resume_finalizing_own(
         &mut self,
         code: &Code,

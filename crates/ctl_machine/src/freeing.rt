@@ -315,6 +315,7 @@ impl Engine {
 
     /// Frees the object that the access value in the variable of this slot designates, in the master so many further out (RM 13.11.2); null
     /// designates none, and nothing is done. Unchanged where memory is refused.
+    #[inline(always)]
     pub(crate) fn free_variable(
         &mut self,
         code: &Code,
@@ -527,6 +528,7 @@ impl Engine {
 
     /// Goes on with the freeing of an object behind its finalization, which has ended so: what designated it becomes null, it is gone, and
     /// its storage is given back; where a Finalize failed, Program_Error is raised (RM 13.11.2). Unchanged where memory is refused.
+    #[inline(always)]
     pub(crate) fn resume_freeing(
         &mut self,
         code: &Code,

@@ -164,6 +164,7 @@ impl Engine {
 
     /// Takes the object at this place out of the layers of the master that is left so, of which it is the newest, and begins its
     /// finalization (RM 7.6.1); there is room for its frame.
+    #[inline(always)]
     pub(crate) fn begin_layer(&mut self, departure: Departure, at: usize)
         ghost o: { Owned }
         requires found { slice_get self.old.owned.items at ≡ Some o }

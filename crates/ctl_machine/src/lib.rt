@@ -37,6 +37,7 @@ mod pool_blocks;
 mod pools;
 mod printing;
 mod procedures;
+mod resuming;
 mod showing;
 mod spots;
 mod start;

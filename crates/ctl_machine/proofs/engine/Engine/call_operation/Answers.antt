@@ -1,4 +1,4 @@
-use Rattle.std.proofs.Common.{◌+◌, ◌++◌, ◌∙◌, List, [], ◌∷◌, ap, arith, refl, sym}
+use Rattle.std.proofs.Common.{◌+◌, ◌++◌, ◌∙◌, [], ◌∷◌, ap, arith, refl, sym}
 use Rattle.std.proofs.lemmas.List.{length-append}
 use Rattle.ctl_machine.specs.declared.frame.After.TheVariants as AfterOf
 use Rattle.ctl_machine.specs.declared.frame.Master.{Master}
