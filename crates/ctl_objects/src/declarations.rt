@@ -351,7 +351,7 @@ fn first_cell(objects: &[Declaration], at: usize, end: usize) -> usize
 }
 
 /// Finds the declared object of this number; the numbers rise. It takes time in the logarithm of
-/// how many there are, and constant time for the newest.
+/// how many there are, and constant time for the newest and for what came after it.
 #[inline(always)]
 fn find(objects: &[Declaration], number: u64) -> Option<usize>
     requires { NumbersRise 0 objects.now }
@@ -362,6 +362,10 @@ fn find(objects: &[Declaration], number: u64) -> Option<usize>
     if let [.., newest] = objects {
         if newest.number == number {
             return Some(objects.len() - 1);
+        }
+        // What was allocated is most often newer than each that is declared.
+        if newest.number < number {
+            return None;
         }
     }
     let mut low = 0;

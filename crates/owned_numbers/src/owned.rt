@@ -55,12 +55,12 @@ impl OwnedNumbers {
         let _ = &self.newest;
     }
 
-    /// Gives a number to an owner that does not have it yet.
+    /// Lists a number for an owner, which does not have it yet.
     ///
     /// # Errors
     ///
     /// `AllocError` where the allocator refuses the memory. Nothing changes then.
-    pub fn add(&mut self, owner: u64, number: u64) -> Result<(), AllocError>
+    pub fn list(&mut self, owner: u64, number: u64) -> Result<(), AllocError>
         requires { owns owner number self.old ≡ false }
         ensures ok { OnOk result (OwnsAs true owner number self.old self.new) }
         ensures size { OnOk result (self.new.size ≡ self.old.size + 1) }
@@ -71,8 +71,8 @@ impl OwnedNumbers {
         Ok(())
     }
 
-    /// Takes a number from an owner, where it has it.
-    pub fn remove(&mut self, owner: u64, number: u64)
+    /// Takes a number from those of an owner, where it has it.
+    pub fn unlist(&mut self, owner: u64, number: u64)
         ensures gone { OwnsAs false owner number self.old self.new }
         ensures size { self.new.size + (if owns owner number self.old then 1 else 0) ≡ self.old.size }
     {
