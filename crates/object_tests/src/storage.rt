@@ -1,10 +1,10 @@
 //! Objects in the standard pool and in blocks, by a caller that numbers them as they come.
 
+use ctl_program::types::Ty;
 use ctl_storage::{
     Allocation, BlockReturn, Life, ObjectStorage, Place, Placing, Pool, PoolSize, PoolState, Spot,
     Stage, Step,
 };
-use ctl_program::types::Ty;
 use std::alloc::Global;
 use std::marker::Model;
 use std::test::Fail;
