@@ -436,8 +436,8 @@ impl ObjectStorage {
     }
 
     /// Closes a pool, where it is open: the objects in its blocks are gone, and its addresses are
-    /// out no more (RM 13.11). It takes time in the objects in its blocks, each with the logarithm
-    /// of how many lie in blocks, and in the blocks that are out.
+    /// out no more (RM 13.11). It takes time in the objects in its blocks, and in the blocks that are
+    /// out.
     pub fn close_pool(&mut self, number: u64)
         ensures objects { self.new.objects ≡ keep (λ o. not (lies_in_pool number o.origin)) self.old.objects }
         ensures pools { (next : ℕ) (x : W.Pools) → ArePools next x self.old → ArePools next (shut number x) self.new }
@@ -457,8 +457,7 @@ impl ObjectStorage {
         }
     }
 
-    /// Answers an object in a block of a pool. It takes time in the logarithm of how many objects lie
-    /// in blocks.
+    /// Answers an object in a block of a pool, where there is one. It takes constant time on average.
     pub fn first_in(&self, number: u64) -> Option<u64>
         ensures rise { Rise 0 self.now.objects }
         ensures some { IfSome result (λ k. number_lies_in number k self.now.objects ≡ true) }

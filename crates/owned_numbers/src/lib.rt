@@ -1,6 +1,7 @@
-//! Numbers that belong to owners, which contracts see as a finite set of pairs.
+//! Numbers that belong to owners, which contracts see as a finite map from numbers to owners.
 #![tactic(auto)]
 
+mod lists;
 mod others;
 mod owned;
 

@@ -1,21 +1,16 @@
 //! The numbers with their owners.
 
-ghost use Rattle.std.specs.Prelude.{◌≡◌, ℕ, ◌+◌, ◌<◌, ◌≤◌, ◌^◌, length, IfNone, IfSome, None, OnErr, OnOk, Some, false, true, if◌then◌else◌};
-ghost use Rattle.owned_numbers.specs.Owned.{AreApart, OwnsAs, all_of, has, is_pair, owns};
+ghost use Rattle.std.specs.Prelude.{◌≡◌, ℕ, ◌+◌, ◌<◌, ◌^◌, IfNone, IfSome, None, OnErr, OnOk, Some, false, true, if◌then◌else◌};
+ghost use Rattle.owned_numbers.specs.Owned.{IsApart, OwnsAs, is_pair, owns, with_newest};
 
-use crate::others::{Others, first_of};
+use crate::others::Others;
 use std::alloc::{AllocError, Global};
-use std::collections::BTreeSet;
 use std::marker::Model;
 
-/// More pairs than this are refused, as memory is: so that each count of them is a number.
-const MOST: usize = 1 << 62;
-
-/// Which numbers belong to which owner. Each call takes time in the logarithm of how many pairs there
-/// are.
+/// Which numbers belong to which owner. Each call takes constant time on average.
 ///
-/// The pair that came last stands apart from the others: one that is removed before the next comes
-/// takes constant time, and no memory.
+/// The number that came last stands apart from the others, with its owner: one that is taken back
+/// before the next comes is never hashed, and takes no memory.
 #[derive(Drop)]
 pub struct OwnedNumbers {
     newest: Option<(u64, u64)>,
@@ -23,45 +18,43 @@ pub struct OwnedNumbers {
 }
 
 impl Model for OwnedNumbers {
-    ghost use Rattle.std.specs.Prelude.{length};
-    ghost use Rattle.std.specs.FinSet as set;
-    ghost use Rattle.owned_numbers.specs.Owned.{AreApart, Owned, all_of, owned_code};
+    ghost use Rattle.owned_numbers.specs.Owned.{IsApart, Owned, owned_code, with_newest};
 
     ghost Value = { Owned };
 
     ghost coded = { owned_code };
 
-    ghost view = { λ m. record { pairs = set.from_list (all_of m.newest m.others.keys); size = length (all_of m.newest m.others.keys) } };
+    ghost view = { λ m. with_newest m.newest m.others };
 
-    ghost invariant = { λ m. AreApart m.newest m.others.keys };
+    ghost invariant = { λ m. IsApart m.newest m.others };
 }
 
 impl OwnedNumbers {
-    /// Makes no pair. Takes no memory.
+    /// Makes no number. Takes no memory.
     pub fn new(alloc: Global) -> OwnedNumbers
         ensures none { (p n : ℕ) → owns p n result ≡ false }
         ensures size { result.size ≡ 0 }
     {
         OwnedNumbers {
             newest: None,
-            others: BTreeSet::new(alloc),
+            others: Others::new(alloc),
         }
     }
 
-    /// Says that the pairs are not too many to be counted.
+    /// Says that the numbers are not too many to be counted.
     pub fn are_few(&self)
         ensures { self.now.size < 2 ^ 63 }
     {
-        let _ = &self.newest;
+        self.others.are_few();
     }
 
-    /// Lists a number for an owner, which does not have it yet.
+    /// Lists a number that has no owner for one.
     ///
     /// # Errors
     ///
     /// `AllocError` where the allocator refuses the memory. Nothing changes then.
     pub fn list(&mut self, owner: u64, number: u64) -> Result<(), AllocError>
-        requires { owns owner number self.old ≡ false }
+        requires { (p : ℕ) → owns p number self.old ≡ false }
         ensures ok { OnOk result (OwnsAs true owner number self.old self.new) }
         ensures size { OnOk result (self.new.size ≡ self.old.size + 1) }
         ensures err { OnErr result (self.new ≡ self.old) }
@@ -79,7 +72,7 @@ impl OwnedNumbers {
         if is_pair(self.newest, owner, number) {
             self.newest = None;
         } else {
-            let _ = self.others.remove(&(owner, number));
+            self.others.unlist(owner, number);
         }
     }
 
@@ -90,7 +83,7 @@ impl OwnedNumbers {
     {
         match number_of(self.newest, owner) {
             Some(number) => Some(number),
-            None => first_of(&self.others, owner),
+            None => self.others.any_of(owner),
         }
     }
 }
@@ -118,24 +111,18 @@ fn number_of(newest: Option<(u64, u64)>, owner: u64) -> Option<u64>
     }
 }
 
-/// Puts the pair that stood apart, where there is one, among the others.
+/// Puts the number that stood apart, where there is one, among the others.
 ///
 /// # Errors
 ///
 /// `AllocError` where the allocator refuses the memory. Nothing changes then.
 fn file(newest: Option<(u64, u64)>, others: &mut Others) -> Result<(), AllocError>
-    requires { AreApart newest others.old.keys }
-    ensures ok { OnOk result ((p n : ℕ) → has others.new.keys (p, n) ≡ has (all_of newest others.old.keys) (p, n)) }
-    ensures len { OnOk result (length others.new.keys ≡ length (all_of newest others.old.keys)) }
-    ensures few { OnOk result (length others.new.keys ≤ 2 ^ 62) }
-    ensures err { OnErr result (others.new.keys ≡ others.old.keys) }
+    requires { IsApart newest others.old }
+    ensures ok { OnOk result (others.new ≡ with_newest newest others.old) }
+    ensures err { OnErr result (others.new ≡ others.old) }
 {
-    let Some(former) = newest else {
-        return Ok(());
-    };
-    if others.len() >= MOST {
-        return Err(AllocError);
+    match newest {
+        Some((owner, number)) => others.list(owner, number),
+        None => Ok(()),
     }
-    let _ = others.insert(former)?;
-    Ok(())
 }

@@ -74,6 +74,6 @@ returns-in-Ok-clause-same c =
     subst (λ (v : Stock). stock_of c.add-2.new.self s.needs.items ≡ record v { objects = c.add-2.new.self.objects }) c.self.view_is (ap (λ (x : Storage). stock_of x s.needs.items) c.in-Ok.ensures.same)
 
 pub list-requires : goal.list-requires
-list-requires c =
+list-requires c = λ set.
     let s = c.self.inside in
-    not_listed s.objects.objects s.sets c.args.collection c.args.number c.self.invariant.listed (subst (λ (v : Stock). AreBelow c.args.number v.objects) (sym c.self.view_is) c.requires)
+    not_listed s.objects.objects s.sets set c.args.number c.self.invariant.listed (subst (λ (v : Stock). AreBelow c.args.number v.objects) (sym c.self.view_is) c.requires)

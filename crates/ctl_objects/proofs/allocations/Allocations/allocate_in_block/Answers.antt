@@ -101,6 +101,6 @@ returns-in-Ok-Refused-clause-answer c = λ next x h.
     ∙ ap (λ (v : Stock). placing (is_fit_at c.args.spot.pool c.args.spot.address c.args.size v.objects x)) c.self.view_is
 
 pub list-requires : goal.list-requires
-list-requires c =
+list-requires c = λ set.
     let s = c.self.inside in
-    not_listed s.objects.objects s.sets c.args.collection c.args.number c.self.invariant.listed (subst (λ (v : Stock). AreBelow c.args.number v.objects) (sym c.self.view_is) c.requires.below)
+    not_listed s.objects.objects s.sets set c.args.number c.self.invariant.listed (subst (λ (v : Stock). AreBelow c.args.number v.objects) (sym c.self.view_is) c.requires.below)

@@ -102,6 +102,6 @@ returns-in-Ok-None-clause-answer c = λ next x h.
     ∙ c.in-Ok-None.ensures.answer next x (subst (λ (v : Stock). ArePools next x (storage_of v)) (sym c.self.view_is) h)
 
 pub list-requires : goal.list-requires
-list-requires c =
+list-requires c = λ set.
     let s = c.self.inside in
-    not_listed s.objects.objects s.sets c.args.collection c.args.number c.self.invariant.listed (subst (λ (v : Stock). AreBelow c.args.number v.objects) (sym c.self.view_is) c.requires.below)
+    not_listed s.objects.objects s.sets set c.args.number c.self.invariant.listed (subst (λ (v : Stock). AreBelow c.args.number v.objects) (sym c.self.view_is) c.requires.below)

@@ -105,7 +105,7 @@ put_new-requires-clause-new c =
     ap (λ (m : Objects). get m c.args.number) c.reserve.ensures.values ∙ new_kept s.objects.values s.store c.args.number (subst (λ (v : Storage). AreBelow c.args.number v.objects) (sym c.self.view_is) c.requires.below)
 
 pub list-requires : goal.list-requires
-list-requires c =
+list-requires c = λ p.
     let s = c.self.inside in
     let n = c.args.number in
-    c.self.invariant.listed c.args.spot.pool n ∙ ap (lies_in c.args.spot.pool) (new_kept s.objects.values s.store n (subst (λ (v : Storage). AreBelow n v.objects) (sym c.self.view_is) c.requires.below))
+    c.self.invariant.listed p n ∙ ap (lies_in p) (new_kept s.objects.values s.store n (subst (λ (v : Storage). AreBelow n v.objects) (sym c.self.view_is) c.requires.below))

@@ -1,16 +1,14 @@
-use Rattle.std.proofs.Common.{◌≡◌, ℕ, Option, Some, None, IfNone, IfSome, Bool, true, false, sym, ap, ◌∙◌}
-use Rattle.std.specs.Prelude.{◌||◌}
-use Rattle.owned_numbers.specs.Owned.{Owned, all_of, has, is_pair, owns}
-use Rattle.owned_numbers.proofs.Pairs.{has_all, owns_is, pair_here}
+use Rattle.std.proofs.Common.{◌≡◌, ℕ, Option, Some, None, IfNone, IfSome, true, false, sym, ap, ◌∙◌}
+use Rattle.owned_numbers.specs.Owned.{Owned, owns, with_newest}
+use Rattle.owned_numbers.proofs.Newest.{none_there, other_there, own_there}
 use Rattle.owned_numbers.proofs.owned.OwnedNumbers.any_of.Goals as goal
 
 pub returns-in-Some-clause-some : goal.returns-in-Some-clause-some
 returns-in-Some-clause-some c =
-    let a = c.self.inside.newest in
-    let ks = c.self.inside.others.keys in
+    let s = c.self.inside in
     let p = c.args.owner in
     let n = c.in-Some.number in
-    sym (sym (owns_is (all_of a ks) p n) ∙ ap (λ (o : Owned). owns p n o) c.self.view_is) ∙ has_all a ks p n ∙ ap (λ b. b || has ks (p, n)) (ap (is_pair p n) c.in-Some.ensures.some ∙ pair_here p n)
+    ap (λ (o : Owned). owns p n o) (sym c.self.view_is) ∙ ap (λ (a : Option (ℕ × ℕ)). owns p n (with_newest a s.others)) c.in-Some.ensures.some ∙ own_there s.others p n
 
 each : (r : Option ℕ) (P Q : ℕ → Type 0) → ((n : ℕ) → P n → Q n) → IfSome r P → IfSome r Q
 each None P Q f h = h
@@ -20,22 +18,16 @@ where_none : (r : Option ℕ) (P Q : Type 0) → (P → Q) → IfNone r P → If
 where_none None P Q f h = f h
 where_none (Some n) P Q f h = h
 
-or_true : (b : Bool) → (b || true) ≡ true
-or_true true = cc
-or_true false = cc
-
 pub returns-in-None-clause-some : goal.returns-in-None-clause-some
 returns-in-None-clause-some c =
-    let a = c.self.inside.newest in
-    let ks = c.self.inside.others.keys in
+    let s = c.self.inside in
     let p = c.args.owner in
-    each c.first_of.result (λ n. has ks (p, n) ≡ true) (λ n. owns p n c.args.self.now ≡ true) (λ n there.
-    sym (sym (owns_is (all_of a ks) p n) ∙ ap (λ (o : Owned). owns p n o) c.self.view_is) ∙ has_all a ks p n ∙ ap (λ b. is_pair p n a || b) there ∙ or_true (is_pair p n a)) c.first_of.ensures.some
+    each c.any_of.result (λ n. owns p n s.others ≡ true) (λ n. owns p n c.args.self.now ≡ true) (λ n there.
+    ap (λ (o : Owned). owns p n o) (sym c.self.view_is) ∙ other_there s.newest s.others p n c.self.invariant there) c.any_of.ensures.some
 
 pub returns-in-None-clause-none : goal.returns-in-None-clause-none
 returns-in-None-clause-none c =
-    let a = c.self.inside.newest in
-    let ks = c.self.inside.others.keys in
+    let s = c.self.inside in
     let p = c.args.owner in
-    where_none c.first_of.result ((n : ℕ) → has ks (p, n) ≡ false) ((n : ℕ) → owns p n c.args.self.now ≡ false) (λ none n.
-    sym (sym (owns_is (all_of a ks) p n) ∙ ap (λ (o : Owned). owns p n o) c.self.view_is) ∙ has_all a ks p n ∙ ap (λ b. b || has ks (p, n)) (c.in-None.ensures.none n) ∙ none n) c.first_of.ensures.none
+    where_none c.any_of.result ((n : ℕ) → owns p n s.others ≡ false) ((n : ℕ) → owns p n c.args.self.now ≡ false) (λ none n.
+    ap (λ (o : Owned). owns p n o) (sym c.self.view_is) ∙ none_there s.newest s.others p c.in-None.ensures.none none n) c.any_of.ensures.none
