@@ -280,6 +280,14 @@ impl Allocations {
         self.objects.write_all(number, start, values)
     }
 
+    /// Answers whether an object exists.
+    #[inline(always)]
+    pub fn contains(&self, number: u64) -> bool
+        ensures { result ≡ is_some (object_in number self.now.objects) }
+    {
+        self.objects.contains(number)
+    }
+
     /// Answers what is known of an object beside its cells.
     pub fn find(&self, number: u64) -> Option<Existing>
         ensures { IsKnown number result self.now.objects }

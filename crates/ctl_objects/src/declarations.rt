@@ -241,6 +241,17 @@ impl Declarations {
         true
     }
 
+    /// Answers whether an object exists.
+    #[inline(always)]
+    pub fn contains(&self, number: u64) -> bool
+        ensures { result ≡ is_some (object_in number self.now) }
+    {
+        match find(self.objects.as_slice(), number) {
+            Some(_at) => true,
+            None => false,
+        }
+    }
+
     /// Answers what is known of an object beside its cells.
     pub fn find(&self, number: u64) -> Option<Existing>
         ensures { IsKnown number result self.now }

@@ -136,7 +136,10 @@ impl Objects {
     pub fn exists(&self, number: u64) -> bool
         ensures { result ≡ is_some (object_in number self.now.objects) }
     {
-        self.find(number).is_some()
+        if self.declared.contains(number) {
+            return true;
+        }
+        self.allocated.contains(number)
     }
 
     /// Reads a cell of an object: 0 where the object has no such cell, None where it does not

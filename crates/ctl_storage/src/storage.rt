@@ -284,6 +284,14 @@ impl ObjectStorage {
         }
     }
 
+    /// Answers whether an object exists.
+    #[inline(always)]
+    pub fn contains(&self, number: u64) -> bool
+        ensures { result ≡ is_some (object_in number self.now.objects) }
+    {
+        self.objects.contains(number)
+    }
+
     /// Answers what is known of an object beside the values of its cells, and so where it lies.
     pub fn find(&self, number: u64) -> Option<Allocation>
         ensures { IsKnown number result self.now.objects }
