@@ -2,7 +2,6 @@
 use Rattle.std.proofs.Common.{◌≡◌, ◌∙◌, ℕ, ◌+◌, ◌<◌, ◌≤◌, ◌^◌, List, [], ◌∷◌, ◌++◌, Option, Some, None, Bool, true, false, cond, refl, sym, ap, arith, subst, length}
 use Rattle.std.specs.Prelude.{nat_eq, nat_lt, not, is_some, ◌&&◌}
 use Rattle.std.specs.Option.{option_map, option_map_or, option_or}
-use Rattle.std.specs.BTreeSet.{btree_set_len}
 use Rattle.std.proofs.lemmas.Bool.Decides.{nat_tests}
 use borrow.Author.Tests.{eq-eqb}
 use Rattle.ctl_program.specs.declared.types.Ty.{Ty}
@@ -23,7 +22,8 @@ use Rattle.ctl_objects.specs.Groups.{AreAlike, AreGrouped, AreNumbers, Has, IsSa
 use Rattle.ctl_storage.specs.Allocated.{IsKnown, blank, known, place_of}
 use Rattle.ctl_objects.specs.Members.{passes}
 use Rattle.ctl_storage.specs.Order.{AreBelow, Rise}
-use Rattle.ctl_objects.specs.Sets.{AreListed, IsListedAs, Sets, is_listed}
+use Rattle.owned_numbers.specs.Owned.{OwnsAs, Owned, owns}
+use Rattle.ctl_objects.specs.Sets.{AreListed}
 use Rattle.ctl_storage.specs.Allocated.{is_member}
 use Rattle.ctl_storage.specs.Stages.{start, with_step}
 use Rattle.ctl_objects.proofs.Both.{keep_lacking}
@@ -55,7 +55,7 @@ same_changed n f os numbers k differs = in_change n f numbers k os ∙ ap (λ b.
 here_changed : (n : ℕ) (f : Object → Object) (os : List Object) → KeepsNumbers f → object_in n (change_in n f os) ≡ option_map f (object_in n os)
 here_changed n f os numbers = in_change n f numbers n os ∙ ap (λ b. cond b (option_map f (object_in n os)) (object_in n os)) (self_eq n)
 
-filed_changed : (needs : List Need) (os : List Object) (s : Sets) (g : Groups) (n : ℕ) (f : Object → Object) → KeepsNumbers f → ((o : Object) → (f o).origin ≡ o.origin) → AreGrouped needs (change_in n f os) g → AreListed os s → btree_set_len s ≡ length os → AreBelow (2 ^ 64) os
+filed_changed : (needs : List Need) (os : List Object) (s : Owned) (g : Groups) (n : ℕ) (f : Object → Object) → KeepsNumbers f → ((o : Object) → (f o).origin ≡ o.origin) → AreGrouped needs (change_in n f os) g → AreListed os s → s.size ≡ length os → AreBelow (2 ^ 64) os
     → AreFiled needs (change_in n f os) s g
 filed_changed needs os s g n f numbers origins grouped listed many below = record {
   listed = listed_changed os s n f numbers origins listed;
@@ -65,11 +65,11 @@ filed_changed needs os s g n f numbers origins grouped listed many below = recor
 }
 
 -- the first of all
-pub filed_none : (needs : List Need) (os : List Object) (s : Sets) (g : Groups) → os ≡ [] → s.keys ≡ [] → AreGrouped needs [] g → AreFiled needs os s g
-filed_none needs os s g empty none grouped = subst (λ (l : List Object). AreFiled needs l s g) (sym empty) (record { listed = none_listed [] s refl none; many = ap (λ (l : List (ℕ × ℕ)). length l) none; numbers = tt; grouped = grouped })
+pub filed_none : (needs : List Need) (os : List Object) (s : Owned) (g : Groups) → os ≡ [] → ((p n : ℕ) → owns p n s ≡ false) → s.size ≡ 0 → AreGrouped needs [] g → AreFiled needs os s g
+filed_none needs os s g empty none size grouped = subst (λ (l : List Object). AreFiled needs l s g) (sym empty) (record { listed = none_listed [] s refl none; many = size; numbers = tt; grouped = grouped })
 
 -- cells are written
-pub filed_written : (needs : List Need) (os : List Object) (s : Sets) (g : Groups) (n offset : ℕ) (v : List ℕ) → AreFiled needs os s g → AreFiled needs (change_in n (with_cells offset v) os) s g
+pub filed_written : (needs : List Need) (os : List Object) (s : Owned) (g : Groups) (n offset : ℕ) (v : List ℕ) → AreFiled needs os s g → AreFiled needs (change_in n (with_cells offset v) os) s g
 unfolding opened_objects
 filed_written needs os s g n offset v h =
     let f = with_cells offset v in
@@ -83,7 +83,7 @@ filed_written needs os s g n offset v h =
     by (Some x) g = (refl, refl)
 
 -- a step is taken
-pub filed_stepped : (needs : List Need) (os : List Object) (s : Sets) (g t : Groups) (n : ℕ) (z : Step) (a : Allocation) → IsKnown n (Some a) os → Moves needs n (Some (known n a)) (Some (with_step z (known n a))) g t → AreFiled needs os s g → AreFiled needs (change_in n (with_step z) os) s t
+pub filed_stepped : (needs : List Need) (os : List Object) (s : Owned) (g t : Groups) (n : ℕ) (z : Step) (a : Allocation) → IsKnown n (Some a) os → Moves needs n (Some (known n a)) (Some (with_step z (known n a))) g t → AreFiled needs os s g → AreFiled needs (change_in n (with_step z) os) s t
 filed_stepped needs os s g t n z a is m h =
     let f = with_step z in
     let numbers = step_keeps z in
@@ -98,7 +98,7 @@ bare_none n os is = by (object_in n os) is
     by None e = refl
     by (Some x) e = absurd (cc)
 
-pub filed_unstepped : (needs : List Need) (os : List Object) (s : Sets) (g : Groups) (n : ℕ) (z : Step) → IsKnown n None os → AreFiled needs os s g → AreFiled needs (change_in n (with_step z) os) s g
+pub filed_unstepped : (needs : List Need) (os : List Object) (s : Owned) (g : Groups) (n : ℕ) (z : Step) → IsKnown n None os → AreFiled needs os s g → AreFiled needs (change_in n (with_step z) os) s g
 filed_unstepped needs os s g n z is h = subst (λ (l : List Object). AreFiled needs l s g) (sym (change_lacking n (with_step z) os (bare_none n os is))) h
 
 -- an object exists where it is found so
@@ -126,7 +126,7 @@ known_existing n a os is = by a ∙ (ap (option_map bare) is ∙ blanked (object
     blanked (Some x) = refl
 
 -- what the groups know of it
-pub has_found : (needs : List Need) (os : List Object) (s : Sets) (g : Groups) (n : ℕ) (a : Allocation) → length os < 2 ^ 63 → IsKnown n (Some a) os → AreFiled needs os s g → Has needs n (known n a) g
+pub has_found : (needs : List Need) (os : List Object) (s : Owned) (g : Groups) (n : ℕ) (a : Allocation) → length os < 2 ^ 63 → IsKnown n (Some a) os → AreFiled needs os s g → Has needs n (known n a) g
 has_found needs os s g n a few is h = has_object needs os n (known n a) g h.listed.rise (omega (arith, few)) (alike_found needs n (Some a) os is) h.grouped
 
 -- An object comes ------------------------------------------------------------------------------------------
@@ -149,11 +149,11 @@ here_newest os x below =
 alike_none : (needs : List Need) (os : List Object) (n : ℕ) → AreBelow n os → AreAlike needs None (object_in n os)
 alike_none needs os n below = subst (λ (o : Option Object). AreAlike needs None o) (sym (none_above n os below)) (λ g. (refl, refl))
 
-not_listed : (os : List Object) (s : Sets) (set n : ℕ) → AreListed os s → AreBelow n os → is_listed set n s ≡ false
+pub not_listed : (os : List Object) (s : Owned) (set n : ℕ) → AreListed os s → AreBelow n os → owns set n s ≡ false
 not_listed os s set n h below = h.members set n ∙ ap (λ o. option_map_or (λ (x : Object). is_of_set set x.origin) o false) (none_above n os below)
 
 -- no group has the number of a new one
-pub new_in : (needs : List Need) (os : List Object) (s : Sets) (g : Groups) (n : ℕ) → AreFiled needs os s g → AreBelow n os → (h : Group) → is_in h n g ≡ false
+pub new_in : (needs : List Need) (os : List Object) (s : Owned) (g : Groups) (n : ℕ) → AreFiled needs os s g → AreBelow n os → (h : Group) → is_in h n g ≡ false
 new_in needs os s g n f below h = f.grouped.members h n ∙ ap (test (is_open needs h)) (none_above n os below)
 
 grouped_new : (needs : List Need) (os : List Object) (g t : Groups) (x y : Object) → Rise 0 os → AreBelow x.number os → AreAlike needs (Some y) (Some x) → Moves needs x.number None (Some y) g t → AreGrouped needs os g → AreGrouped needs (os ++ x ∷ []) t
@@ -169,7 +169,7 @@ alike_fresh : (needs : List Need) (n : ℕ) (ty : Ty) (set : ℕ) (place : Place
 unfolding opened_changes
 alike_fresh needs n ty set place cells v g = (refl, refl)
 
-pub filed_new : (needs : List Need) (os : List Object) (s t : Sets) (g u : Groups) (n : ℕ) (ty : Ty) (set : ℕ) (place : Place) (cells : ℕ) (v : List ℕ) → n < 2 ^ 64 → AreBelow n os → IsListedAs true set n s t → btree_set_len t + one_of (is_listed set n s) ≡ btree_set_len s + 1
+pub filed_new : (needs : List Need) (os : List Object) (s t : Owned) (g u : Groups) (n : ℕ) (ty : Ty) (set : ℕ) (place : Place) (cells : ℕ) (v : List ℕ) → n < 2 ^ 64 → AreBelow n os → OwnsAs true set n s t → t.size ≡ s.size + 1
     → Moves needs n None (Some (known n (fresh ty set place cells))) g u → AreFiled needs os s g → AreFiled needs (os ++ new_object n ty v (Allocated set (place_of place)) ∷ []) t u
 unfolding opened_changes
 filed_new needs os s t g u n ty set place cells v small below listed many m h =
@@ -177,36 +177,34 @@ filed_new needs os s t g u n ty set place cells v small below listed many m h =
     record {
       listed = listed_new os s t x set (place_of place) below refl listed h.listed;
       many =
-          let not_there : one_of (is_listed set n s) ≡ 0 = ap one_of (not_listed os s set n h.listed below) in
           let more = length_newest os x in
           let had = h.many in
-          omega (arith, many, not_there, more, had);
+          omega (arith, many, more, had);
       numbers = all_newest (λ o. o.number < 2 ^ 64) os x h.numbers small;
       grouped = grouped_new needs os g u x (known n (fresh ty set place cells)) h.listed.rise below (alike_fresh needs n ty set place cells v) m h.grouped;
     }
 
 -- What was listed is taken back ----------------------------------------------------------------------------
 
-taken_back : (needs : List Need) (os : List Object) (s t u : Sets) (g w : Groups) (set n : ℕ) → AreBelow n os → IsListedAs true set n s t → btree_set_len t + one_of (is_listed set n s) ≡ btree_set_len s + 1 → IsListedAs false set n t u
-    → btree_set_len u + one_of (is_listed set n t) ≡ btree_set_len t → AreGrouped needs os w → AreFiled needs os s g → AreFiled needs os u w
+taken_back : (needs : List Need) (os : List Object) (s t u : Owned) (g w : Groups) (set n : ℕ) → AreBelow n os → OwnsAs true set n s t → t.size ≡ s.size + 1 → OwnsAs false set n t u
+    → u.size + one_of (owns set n t) ≡ t.size → AreGrouped needs os w → AreFiled needs os s g → AreFiled needs os u w
 taken_back needs os s t u g w set n below listed many undone fewer grouped h = record {
   listed = listed_undone os s t u set n below listed undone h.listed;
   many =
-      let not_there : one_of (is_listed set n s) ≡ 0 = ap one_of (not_listed os s set n h.listed below) in
-      let there : one_of (is_listed set n t) ≡ 1 = ap one_of (listed set n ∙ (ap (λ b. cond (b && nat_eq n n) true (is_listed set n s)) (self_eq set) ∙ ap (λ b. cond b true (is_listed set n s)) (self_eq n))) in
+      let there : one_of (owns set n t) ≡ 1 = ap one_of (listed set n ∙ (ap (λ b. cond (b && nat_eq n n) true (owns set n s)) (self_eq set) ∙ ap (λ b. cond b true (owns set n s)) (self_eq n))) in
       let had = h.many in
-      omega (arith, many, fewer, not_there, there, had);
+      omega (arith, many, fewer, there, had);
   numbers = h.numbers;
   grouped = grouped;
 }
 
 -- where no group took it in
-pub filed_refused : (needs : List Need) (os : List Object) (s t u : Sets) (g w : Groups) (set n : ℕ) → AreBelow n os → IsListedAs true set n s t → btree_set_len t + one_of (is_listed set n s) ≡ btree_set_len s + 1 → IsListedAs false set n t u
-    → btree_set_len u + one_of (is_listed set n t) ≡ btree_set_len t → IsSame g w → AreFiled needs os s g → AreFiled needs os u w
+pub filed_refused : (needs : List Need) (os : List Object) (s t u : Owned) (g w : Groups) (set n : ℕ) → AreBelow n os → OwnsAs true set n s t → t.size ≡ s.size + 1 → OwnsAs false set n t u
+    → u.size + one_of (owns set n t) ≡ t.size → IsSame g w → AreFiled needs os s g → AreFiled needs os u w
 filed_refused needs os s t u g w set n below listed many undone fewer same h = taken_back needs os s t u g w set n below listed many undone fewer (grouped_same needs os g w same h.grouped) h
 
 -- where a group took it in
-pub has_new : (needs : List Need) (os : List Object) (s : Sets) (g t : Groups) (n : ℕ) (ty : Ty) (set : ℕ) (place : Place) (cells : ℕ) → AreBelow n os → length os < 2 ^ 63 → Moves needs n None (Some (known n (fresh ty set place cells))) g t → AreFiled needs os s g → Has needs n (known n (fresh ty set place cells)) t
+pub has_new : (needs : List Need) (os : List Object) (s : Owned) (g t : Groups) (n : ℕ) (ty : Ty) (set : ℕ) (place : Place) (cells : ℕ) → AreBelow n os → length os < 2 ^ 63 → Moves needs n None (Some (known n (fresh ty set place cells))) g t → AreFiled needs os s g → Has needs n (known n (fresh ty set place cells)) t
 unfolding opened_changes
 has_new needs os s g t n ty set place cells below few m h =
     let x = new_object n ty [] (Allocated set (place_of place)) in
@@ -216,8 +214,8 @@ has_new needs os s g t n ty set place cells below few m h =
     (subst (λ (o : Option Object). AreAlike needs (Some y) o) (sym (here_newest os x below)) (alike_fresh needs n ty set place cells []))
     (grouped_new needs os g t x y h.listed.rise below (alike_fresh needs n ty set place cells []) m h.grouped)
 
-pub filed_undone : (needs : List Need) (os : List Object) (s t u : Sets) (g v w : Groups) (n : ℕ) (ty : Ty) (set : ℕ) (place : Place) (cells : ℕ) → AreBelow n os → IsListedAs true set n s t → btree_set_len t + one_of (is_listed set n s) ≡ btree_set_len s + 1 → IsListedAs false set n t u
-    → btree_set_len u + one_of (is_listed set n t) ≡ btree_set_len t → Moves needs n None (Some (known n (fresh ty set place cells))) g v → Moves needs n (Some (known n (fresh ty set place cells))) None v w → AreFiled needs os s g → AreFiled needs os u w
+pub filed_undone : (needs : List Need) (os : List Object) (s t u : Owned) (g v w : Groups) (n : ℕ) (ty : Ty) (set : ℕ) (place : Place) (cells : ℕ) → AreBelow n os → OwnsAs true set n s t → t.size ≡ s.size + 1 → OwnsAs false set n t u
+    → u.size + one_of (owns set n t) ≡ t.size → Moves needs n None (Some (known n (fresh ty set place cells))) g v → Moves needs n (Some (known n (fresh ty set place cells))) None v w → AreFiled needs os s g → AreFiled needs os u w
 unfolding opened_changes
 filed_undone needs os s t u g v w n ty set place cells below listed many undone fewer came went h =
     let x = new_object n ty [] (Allocated set (place_of place)) in
@@ -242,12 +240,12 @@ length_without n low os rise =
     by None = refl
     by (Some x) = refl
 
-pub filed_gone : (needs : List Need) (os : List Object) (s t : Sets) (g u : Groups) (n : ℕ) (a : Allocation) → IsKnown n (Some a) os → ((c : ℕ) → is_member c n os ≡ nat_eq a.collection c) → IsListedAs false a.collection n s t → btree_set_len t + one_of (is_listed a.collection n s) ≡ btree_set_len s
+pub filed_gone : (needs : List Need) (os : List Object) (s t : Owned) (g u : Groups) (n : ℕ) (a : Allocation) → IsKnown n (Some a) os → ((c : ℕ) → is_member c n os ≡ nat_eq a.collection c) → OwnsAs false a.collection n s t → t.size + one_of (owns a.collection n s) ≡ s.size
     → Moves needs n (Some (known n a)) None g u → AreFiled needs os s g → AreFiled needs (keep (λ o. not (nat_eq o.number n)) os) t u
 filed_gone needs os s t g u n a is own listed many m h = record {
   listed = listed_without os s t a.collection n own listed h.listed;
   many =
-      let there : one_of (is_listed a.collection n s) ≡ 1 = ap one_of (h.listed.members a.collection n ∙ (own a.collection ∙ self_eq a.collection)) in
+      let there : one_of (owns a.collection n s) ≡ 1 = ap one_of (h.listed.members a.collection n ∙ (own a.collection ∙ self_eq a.collection)) in
       let found : one_of (is_some (object_in n os)) ≡ 1 = ap one_of (sym (exists_so n (Some a) os is)) in
       let less = length_without n 0 os h.listed.rise in
       let had = h.many in
@@ -278,7 +276,7 @@ filed_gone needs os s t g u n a is own listed many m h = record {
     gone : object_in n (keep other os) ≡ None
     gone = in_keep other 0 n os h.listed.rise ∙ kept n true (self_eq n) (object_in n os) refl
 
-pub filed_still : (needs : List Need) (os : List Object) (s : Sets) (g : Groups) (n : ℕ) → IsKnown n None os → AreFiled needs os s g → AreFiled needs (keep (λ o. not (nat_eq o.number n)) os) s g
+pub filed_still : (needs : List Need) (os : List Object) (s : Owned) (g : Groups) (n : ℕ) → IsKnown n None os → AreFiled needs os s g → AreFiled needs (keep (λ o. not (nat_eq o.number n)) os) s g
 filed_still needs os s g n is h = subst (λ (l : List Object). AreFiled needs l s g) (sym (keep_lacking n os h.listed.rise (bare_none n os is))) h
 
 -- What is known of numbers ---------------------------------------------------------------------------------
@@ -301,5 +299,5 @@ passing_below b n p os below = by (object_in n os) refl
     by None there t = absurd (cc)
     by (Some z) there t = number_below b n os z below there
 
-pub numbers_of : (needs : List Need) (os : List Object) (s : Sets) (g : Groups) → AreFiled needs os s g → AreNumbers g
+pub numbers_of : (needs : List Need) (os : List Object) (s : Owned) (g : Groups) → AreFiled needs os s g → AreNumbers g
 numbers_of needs os s g f h n is = passing_below (2 ^ 64) n (is_open needs h) os f.numbers (sym (f.grouped.members h n) ∙ is)

@@ -1,5 +1,5 @@
 -- Declared objects are found by their numbers, which rise, and changed one at a time.
-use Rattle.std.proofs.Common.{◌≡◌, ◌≢◌, ◌∙◌, ℕ, zero, suc, ◌+◌, ◌<◌, ◌≤◌, List, [], ◌∷◌, Option, Some, None, refl, sym, map, ap, arith, subst, length, drop, take}
+use Rattle.std.proofs.Common.{◌≡◌, ◌≢◌, ◌∙◌, ℕ, zero, suc, ◌+◌, ◌-◌, ◌<◌, ◌≤◌, List, [], ◌∷◌, Option, Some, None, refl, sym, map, ap, arith, subst, length, drop, take}
 use Rattle.std.specs.Prelude.{slice_get, slice_index_or, slice_set}
 use Rattle.ctl_meaning.specs.World.{Object}
 use Rattle.ctl_meaning.specs.Lists.{opened_lists}
@@ -132,6 +132,13 @@ none_between n [] low high less under over = tt
 none_between n (o ∷ os) low zero less under over = over_lacks n (o ∷ os) over
 none_between n (o ∷ os) zero (suc high) less under over = absurd (omega (arith, less))
 none_between n (o ∷ os) (suc low) (suc high) less under over = ((λ same. let f = under.0 in omega (arith, f, same)), none_between n os low high (omega (arith, less)) under.1 over)
+
+-- no object is there where the last one has a lower number
+pub none_behind : (os : List Declaration) (n : ℕ) (d : Declaration) → NumbersRise 0 os → 1 ≤ length os → (slice_index_or os (length os - 1) d).number < n → Lacks n os
+none_behind os n d rise some less =
+    let last : suc (length os - 1) ≡ length os = omega (arith, some) in
+    let under = under_front os (length os - 1) 0 n (slice_index_or os (length os - 1) d) rise (get_index os (length os - 1) d (omega (arith, some))) less in
+    none_between n os (length os) (length os) (omega arith) (subst (λ i. AreUnder n (take i os)) last under) (none_over n os)
 
 -- the search goes on behind a place, or before it
 pub goes_behind : (os : List Declaration) (at n : ℕ) (d : Declaration) → NumbersRise 0 os → at < length os → (slice_index_or os at d).number < n → AreUnder n (take (at + 1) os)

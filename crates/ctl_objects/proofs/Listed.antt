@@ -1,10 +1,7 @@
 -- Objects that are listed for their collections, and no others: what is listed first, and how the list changes.
-use Rattle.std.proofs.Common.{◌≡◌, ◌≢◌, ◌∙◌, ℕ, ◌<◌, ◌≤◌, List, [], ◌∷◌, ◌++◌, Option, Some, None, Bool, true, false, cond, refl, sym, ap, arith, subst, length}
+use Rattle.std.proofs.Common.{◌≡◌, ◌∙◌, ℕ, ◌<◌, List, [], ◌∷◌, ◌++◌, Option, Some, None, Bool, true, false, cond, refl, sym, ap, arith, subst, length}
 use Rattle.std.specs.Prelude.{nat_eq, not, IfSome, ◌&&◌, ◌||◌}
-use Rattle.std.specs.List.{list_any}
 use Rattle.std.specs.Option.{option_map, option_map_or, option_or}
-use Rattle.std.specs.Ordering.{is_eq}
-use Rattle.std.specs.declared.ops.Bound.TheVariants.{Included}
 use Rattle.std.proofs.lemmas.Bool.Decides.{nat_tests}
 use borrow.Author.Tests.{eqb-true}
 use Rattle.ctl_meaning.specs.World.{Origin, Declared, Allocated, Place, Object}
@@ -12,36 +9,29 @@ use Rattle.ctl_meaning.specs.Lists.{contains, keep, opened_lists}
 use Rattle.ctl_meaning.specs.Objects.{change_in, ends_with_master, is_of_set, object_in, opened_objects}
 use Rattle.ctl_objects.specs.Order.{IsAllocated}
 use Rattle.ctl_storage.specs.Order.{AreBelow, Rise}
-use Rattle.ctl_objects.specs.Sets.{AreListed, IsFirstListed, IsListedAs, Sets, is_listed, is_of_sets}
+use Rattle.owned_numbers.specs.Owned.{OwnsAs, Owned, owns}
+use Rattle.ctl_objects.specs.Sets.{AreListed, is_of_sets}
 use Rattle.ctl_storage.specs.Allocated.{is_member}
-use Rattle.ctl_storage.specs.Located.{pair_cmp}
 use Rattle.ctl_storage.proofs.Kept.{no_more}
-use Rattle.ctl_storage.proofs.Listed.{from_first, is_false, not_greater}
 use Rattle.ctl_storage.proofs.Rising.{KeepsNumbers, in_change, in_keep, in_more, in_newest, in_none, keep_more, keep_none, kept_one, none_above, number_found, rise_change, rise_keep, rise_newest, same_objects}
 
 -- Objects that are listed ----------------------------------------------------------------------------------
 
 -- a collection has no object
-pub no_member : (os : List Object) (s : Sets) (set : ℕ) → AreListed os s → IsFirstListed (Included (set, 0)) None s → (n : ℕ) → is_member set n os ≡ false
-no_member os s set h first n = sym (h.members set n) ∙ first set n (from_first set n)
+pub no_member : (os : List Object) (s : Owned) (set : ℕ) → AreListed os s → ((n : ℕ) → owns set n s ≡ false) → (n : ℕ) → is_member set n os ≡ false
+no_member os s set h none n = sym (h.members set n) ∙ none n
 
-pub no_other_member : (os : List Object) (s : Sets) (set : ℕ) (f : ℕ × ℕ) → AreListed os s → IsFirstListed (Included (set, 0)) (Some f) s → f.0 ≢ set → (n : ℕ) → is_member set n os ≡ false
-no_other_member os s set f h first differs n = is_false (is_member set n os) (λ is.
-    let low : set ≤ f.0 = (not_greater set 0 f.0 f.1 first.0).0 in
-    let high : f.0 ≤ set = (not_greater f.0 f.1 set n (first.2 set n (from_first set n) (h.members set n ∙ is))).0 in
-    differs (omega (arith, low, high)))
-
-listed_none : (s : Sets) → s.keys ≡ [] → AreListed [] s
+listed_none : (s : Owned) → ((p n : ℕ) → owns p n s ≡ false) → AreListed [] s
 listed_none s none = record {
   rise = tt;
   allocated = λ n. subst (λ o. IfSome o (λ z. IsAllocated z.origin)) (sym (in_none n)) tt;
-  members = λ set n. ap (λ (l : List (ℕ × ℕ)). list_any (λ q. is_eq (pair_cmp (set, n) q)) l) none ∙ sym (ap (λ o. option_map_or (λ (z : Object). is_of_set set z.origin) o false) (in_none n));
+  members = λ set n. none set n ∙ sym (ap (λ o. option_map_or (λ (z : Object). is_of_set set z.origin) o false) (in_none n));
 }
 
-pub none_listed : (os : List Object) (s : Sets) → os ≡ [] → s.keys ≡ [] → AreListed os s
+pub none_listed : (os : List Object) (s : Owned) → os ≡ [] → ((p n : ℕ) → owns p n s ≡ false) → AreListed os s
 none_listed os s empty none = subst (λ l. AreListed l s) (sym empty) (listed_none s none)
 
-pub listed_new : (os : List Object) (s t : Sets) (x : Object) (set : ℕ) (p : Place) → AreBelow x.number os → x.origin ≡ Allocated set p → IsListedAs true set x.number s t → AreListed os s → AreListed (os ++ x ∷ []) t
+pub listed_new : (os : List Object) (s t : Owned) (x : Object) (set : ℕ) (p : Place) → AreBelow x.number os → x.origin ≡ Allocated set p → OwnsAs true set x.number s t → AreListed os s → AreListed (os ++ x ∷ []) t
 unfolding opened_objects
 listed_new os s t x set p below origin listed h = record {
   rise = rise_newest 0 os x h.rise below (omega arith);
@@ -82,24 +72,24 @@ listed_new os s t x set p below origin listed h = record {
         ∙ sym (ap (λ o. test (option_or o (cond (nat_eq x.number k) (Some x) None)) c) none ∙ ap (λ a. test (option_or None (cond a (Some x) None)) c) is)))
 
 -- an object that was listed first is not there in the end
-pub listed_undone : (os : List Object) (s t u : Sets) (set n : ℕ) → AreBelow n os → IsListedAs true set n s t → IsListedAs false set n t u → AreListed os s → AreListed os u
+pub listed_undone : (os : List Object) (s t u : Owned) (set n : ℕ) → AreBelow n os → OwnsAs true set n s t → OwnsAs false set n t u → AreListed os s → AreListed os u
 listed_undone os s t u set n below listed undone h = record {
   rise = h.rise;
   allocated = h.allocated;
   members = λ c k. undone c k ∙ (ap (λ b. cond (nat_eq set c && nat_eq n k) false b) (listed c k) ∙ (by c k (nat_eq n k) refl (nat_eq set c) ∙ h.members c k));
 }
   where
-    gone : (c k : ℕ) → nat_eq n k ≡ true → false ≡ is_listed c k s
+    gone : (c k : ℕ) → nat_eq n k ≡ true → false ≡ owns c k s
     gone c k is =
         let none : object_in k os ≡ None = ap (λ m. object_in m os) (sym (eqb-true n k is)) ∙ none_above n os below in
         sym (h.members c k ∙ ap (λ o. option_map_or (λ (z : Object). is_of_set c z.origin) o false) none)
 
-    by : (c k : ℕ) (a : Bool) → nat_eq n k ≡ a → (b : Bool) → cond (b && nat_eq n k) false (cond (b && nat_eq n k) true (is_listed c k s)) ≡ is_listed c k s
+    by : (c k : ℕ) (a : Bool) → nat_eq n k ≡ a → (b : Bool) → cond (b && nat_eq n k) false (cond (b && nat_eq n k) true (owns c k s)) ≡ owns c k s
     by c k a is false = refl
-    by c k true is true = ap (λ a. cond a false (cond a true (is_listed c k s))) is ∙ gone c k is
-    by c k false is true = ap (λ a. cond a false (cond a true (is_listed c k s))) is
+    by c k true is true = ap (λ a. cond a false (cond a true (owns c k s))) is ∙ gone c k is
+    by c k false is true = ap (λ a. cond a false (cond a true (owns c k s))) is
 
-pub listed_changed : (os : List Object) (s : Sets) (n : ℕ) (f : Object → Object) → KeepsNumbers f → ((o : Object) → (f o).origin ≡ o.origin) → AreListed os s → AreListed (change_in n f os) s
+pub listed_changed : (os : List Object) (s : Owned) (n : ℕ) (f : Object → Object) → KeepsNumbers f → ((o : Object) → (f o).origin ≡ o.origin) → AreListed os s → AreListed (change_in n f os) s
 listed_changed os s n f numbers origins h = record {
   rise = rise_change n f numbers 0 os h.rise;
   allocated = λ k. subst (λ o. IfSome o (λ z. IsAllocated z.origin)) (sym (in_change n f numbers k os)) (own (nat_eq k n) (object_in k os) (h.allocated k));
@@ -117,10 +107,10 @@ listed_changed os s n f numbers origins h = record {
     by c true (Some z) = ap (λ x. is_of_set c x) (sym (origins z))
 
 -- nothing is listed any more for a number
-abbrev IsDropped : ℕ → Sets → Sets → Type 0
-IsDropped n s t = (c k : ℕ) → is_listed c k t ≡ cond (nat_eq n k) false (is_listed c k s)
+abbrev IsDropped : ℕ → Owned → Owned → Type 0
+IsDropped n s t = (c k : ℕ) → owns c k t ≡ cond (nat_eq n k) false (owns c k s)
 
-listed_dropped : (os : List Object) (s t : Sets) (n : ℕ) → IsDropped n s t → AreListed os s → AreListed (keep (λ o. not (nat_eq o.number n)) os) t
+listed_dropped : (os : List Object) (s t : Owned) (n : ℕ) → IsDropped n s t → AreListed os s → AreListed (keep (λ o. not (nat_eq o.number n)) os) t
 listed_dropped os s t n dropped h = record {
   rise = rise_keep other 0 os h.rise;
   allocated = λ k. subst (λ o. IfSome o (λ z. IsAllocated z.origin)) (sym (in_keep other 0 k os h.rise)) (own (object_in k os) (h.allocated k));
@@ -156,24 +146,24 @@ listed_dropped os s t n dropped h = record {
     by c k (Some z) there = ap (λ b. cond b false (is_of_set c z.origin)) (turned k z (number_found k os z there)) ∙ at c k z (nat_eq z.number n)
 
 -- an object goes, and is not listed for its collection any more
-pub listed_without : (os : List Object) (s t : Sets) (set n : ℕ) → ((c : ℕ) → is_member c n os ≡ nat_eq set c) → IsListedAs false set n s t → AreListed os s → AreListed (keep (λ o. not (nat_eq o.number n)) os) t
+pub listed_without : (os : List Object) (s t : Owned) (set n : ℕ) → ((c : ℕ) → is_member c n os ≡ nat_eq set c) → OwnsAs false set n s t → AreListed os s → AreListed (keep (λ o. not (nat_eq o.number n)) os) t
 listed_without os s t set n own listed h = listed_dropped os s t n (λ c k. listed c k ∙ by c k (nat_eq set c) refl (nat_eq n k) refl) h
   where
-    listed_own : (c k : ℕ) → nat_eq n k ≡ true → is_listed c k s ≡ nat_eq set c
-    listed_own c k is = ap (λ m. is_listed c m s) (sym (eqb-true n k is)) ∙ (h.members c n ∙ own c)
+    listed_own : (c k : ℕ) → nat_eq n k ≡ true → owns c k s ≡ nat_eq set c
+    listed_own c k is = ap (λ m. owns c m s) (sym (eqb-true n k is)) ∙ (h.members c n ∙ own c)
 
-    by : (c k : ℕ) (a : Bool) → nat_eq set c ≡ a → (b : Bool) → nat_eq n k ≡ b → cond (nat_eq set c && nat_eq n k) false (is_listed c k s) ≡ cond (nat_eq n k) false (is_listed c k s)
-    by c k true which b is = ap (λ a. cond (a && nat_eq n k) false (is_listed c k s)) which
-    by c k false which true is = ap (λ a. cond (a && nat_eq n k) false (is_listed c k s)) which ∙ (listed_own c k is ∙ (which ∙ sym (ap (λ b. cond b false (is_listed c k s)) is)))
-    by c k false which false is = ap (λ a. cond (a && nat_eq n k) false (is_listed c k s)) which ∙ sym (ap (λ b. cond b false (is_listed c k s)) is)
+    by : (c k : ℕ) (a : Bool) → nat_eq set c ≡ a → (b : Bool) → nat_eq n k ≡ b → cond (nat_eq set c && nat_eq n k) false (owns c k s) ≡ cond (nat_eq n k) false (owns c k s)
+    by c k true which b is = ap (λ a. cond (a && nat_eq n k) false (owns c k s)) which
+    by c k false which true is = ap (λ a. cond (a && nat_eq n k) false (owns c k s)) which ∙ (listed_own c k is ∙ (which ∙ sym (ap (λ b. cond b false (owns c k s)) is)))
+    by c k false which false is = ap (λ a. cond (a && nat_eq n k) false (owns c k s)) which ∙ sym (ap (λ b. cond b false (owns c k s)) is)
 
 -- or there was none
-pub listed_still : (os : List Object) (s : Sets) (n : ℕ) → ((c : ℕ) → is_member c n os ≡ false) → AreListed os s → AreListed (keep (λ o. not (nat_eq o.number n)) os) s
+pub listed_still : (os : List Object) (s : Owned) (n : ℕ) → ((c : ℕ) → is_member c n os ≡ false) → AreListed os s → AreListed (keep (λ o. not (nat_eq o.number n)) os) s
 listed_still os s n none h = listed_dropped os s s n (λ c k. by c k (nat_eq n k) refl) h
   where
-    by : (c k : ℕ) (b : Bool) → nat_eq n k ≡ b → is_listed c k s ≡ cond (nat_eq n k) false (is_listed c k s)
-    by c k true is = ap (λ m. is_listed c m s) (sym (eqb-true n k is)) ∙ (h.members c n ∙ (none c ∙ sym (ap (λ b. cond b false (is_listed c k s)) is)))
-    by c k false is = sym (ap (λ b. cond b false (is_listed c k s)) is)
+    by : (c k : ℕ) (b : Bool) → nat_eq n k ≡ b → owns c k s ≡ cond (nat_eq n k) false (owns c k s)
+    by c k true is = ap (λ m. owns c m s) (sym (eqb-true n k is)) ∙ (h.members c n ∙ (none c ∙ sym (ap (λ b. cond b false (owns c k s)) is)))
+    by c k false is = sym (ap (λ b. cond b false (owns c k s)) is)
 
 -- A collection goes ----------------------------------------------------------------------------------------
 
@@ -257,7 +247,7 @@ outside_none os = keep_all (λ o. not (is_of_sets [] o.origin)) (λ o. by o.orig
     by (Allocated c p) = refl
 
 -- among allocated objects, those that end with a master are those of its collections
-pub with_master : (os : List Object) (s : Sets) (m : ℕ) (sets : List ℕ) → AreListed os s → keep (λ o. not (is_of_sets sets o.origin)) os ≡ keep (λ o. not (ends_with_master m sets o.origin)) os
+pub with_master : (os : List Object) (s : Owned) (m : ℕ) (sets : List ℕ) → AreListed os s → keep (λ o. not (is_of_sets sets o.origin)) os ≡ keep (λ o. not (ends_with_master m sets o.origin)) os
 unfolding opened_objects
 with_master os s m sets h =
     let one = λ (o : Object). not (is_of_sets sets o.origin) in

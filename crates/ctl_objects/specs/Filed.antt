@@ -1,15 +1,15 @@
 -- How the allocated objects are kept: each is listed for its collection, and stands in its group, where its record type needs finalization, until this begins.
 use Rattle.std.specs.Prelude.{◌≡◌, ◌^◌, List, length}
-use Rattle.std.specs.BTreeSet.{btree_set_len}
 use Rattle.ctl_meaning.specs.World.{Object}
 use Rattle.ctl_objects.specs.declared.groups.Groups.{Groups}
 use Rattle.ctl_objects.specs.declared.needs.Need.{Need}
 use Rattle.ctl_objects.specs.Groups.{AreGrouped}
 use Rattle.ctl_storage.specs.Order.{AreBelow}
-use Rattle.ctl_objects.specs.Sets.{AreListed, Sets}
+use Rattle.owned_numbers.specs.Owned.{Owned}
+use Rattle.ctl_objects.specs.Sets.{AreListed}
 
-pub record AreFiled (needs : List Need) (os : List Object) (sets : Sets) (groups : Groups) : Type 0 where
+pub record AreFiled (needs : List Need) (os : List Object) (sets : Owned) (groups : Groups) : Type 0 where
   pub listed : AreListed os sets
-  pub many : btree_set_len sets ≡ length os
+  pub many : sets.size ≡ length os
   pub numbers : AreBelow (2 ^ 64) os
   pub grouped : AreGrouped needs os groups

@@ -26,22 +26,20 @@ use crate::declarations::Declaration;
 use crate::existing::Existing;
 use crate::groups::{Group, Groups, Start, Waiting};
 use crate::needs::Need;
-use crate::sets::{Sets, first_listed, list_object, unlist_object};
 use ctl_program::types::Ty;
 use ctl_storage::{
     Allocation, BlockReturn, ObjectStorage, Place, Placing, Pool, PoolSize, Spot, Stage, Step,
 };
+use owned_numbers::OwnedNumbers;
 use std::alloc::{AllocError, Global};
-use std::collections::BTreeSet;
 use std::marker::Model;
-use std::ops::Bound;
 
 /// The allocated objects with the collections that they belong to, and in groups of one collection
 /// and record type that needs finalization, which contracts see as a list of the meaning's objects,
 /// beside what the record types need. It ends by `close`.
 pub struct Allocations {
     objects: ObjectStorage,
-    sets: Sets,
+    sets: OwnedNumbers,
     groups: Groups,
     needs: Vec<Need>,
 }
@@ -69,7 +67,7 @@ impl Allocations {
     {
         Allocations {
             objects: ObjectStorage::new(alloc),
-            sets: BTreeSet::new(alloc),
+            sets: OwnedNumbers::new(alloc),
             groups: Groups::new(alloc),
             needs,
         }
@@ -102,17 +100,17 @@ impl Allocations {
             cells,
             stage: Stage::start(),
         };
-        list_object(&mut self.sets, collection, number)?;
+        self.sets.list(collection, number)?;
         let needs = self.needs.as_slice();
         if let Err(refused) = self.groups.add(needs, number, &object) {
-            unlist_object(&mut self.sets, collection, number);
+            self.sets.unlist(collection, number);
             return Err(refused);
         }
         match self.objects.add(number, ty, collection, cells) {
             Ok(()) => Ok(()),
             Err(refused) => {
                 self.groups.leave(needs, number, &object);
-                unlist_object(&mut self.sets, collection, number);
+                self.sets.unlist(collection, number);
                 Err(refused)
             }
         }
@@ -152,10 +150,10 @@ impl Allocations {
             cells,
             stage: Stage::start(),
         };
-        list_object(&mut self.sets, collection, number)?;
+        self.sets.list(collection, number)?;
         let needs = self.needs.as_slice();
         if let Err(refused) = self.groups.add(needs, number, &object) {
-            unlist_object(&mut self.sets, collection, number);
+            self.sets.unlist(collection, number);
             return Err(refused);
         }
         match self
@@ -165,12 +163,12 @@ impl Allocations {
             Ok(Placing::Placed) => Ok(Placing::Placed),
             Ok(Placing::Refused) => {
                 self.groups.leave(needs, number, &object);
-                unlist_object(&mut self.sets, collection, number);
+                self.sets.unlist(collection, number);
                 Ok(Placing::Refused)
             }
             Err(refused) => {
                 self.groups.leave(needs, number, &object);
-                unlist_object(&mut self.sets, collection, number);
+                self.sets.unlist(collection, number);
                 Err(refused)
             }
         }
@@ -213,10 +211,10 @@ impl Allocations {
             cells,
             stage: Stage::start(),
         };
-        list_object(&mut self.sets, collection, number)?;
+        self.sets.list(collection, number)?;
         let needs = self.needs.as_slice();
         if let Err(refused) = self.groups.add(needs, number, &object) {
-            unlist_object(&mut self.sets, collection, number);
+            self.sets.unlist(collection, number);
             return Err(refused);
         }
         match self
@@ -226,12 +224,12 @@ impl Allocations {
             Ok(Some(address)) => Ok(Some(address)),
             Ok(None) => {
                 self.groups.leave(needs, number, &object);
-                unlist_object(&mut self.sets, collection, number);
+                self.sets.unlist(collection, number);
                 Ok(None)
             }
             Err(refused) => {
                 self.groups.leave(needs, number, &object);
-                unlist_object(&mut self.sets, collection, number);
+                self.sets.unlist(collection, number);
                 Err(refused)
             }
         }
@@ -282,6 +280,14 @@ impl Allocations {
         self.objects.write_all(number, start, values)
     }
 
+    /// Answers whether an object exists.
+    #[inline(always)]
+    pub fn contains(&self, number: u64) -> bool
+        ensures { result ≡ is_some (object_in number self.now.objects) }
+    {
+        self.objects.contains(number)
+    }
+
     /// Answers what is known of an object beside its cells.
     pub fn find(&self, number: u64) -> Option<Existing>
         ensures { IsKnown number result self.now.objects }
@@ -318,7 +324,7 @@ impl Allocations {
     {
         self.are_few();
         if let Some(object) = self.objects.remove(number) {
-            unlist_object(&mut self.sets, object.collection, number);
+            self.sets.unlist(object.collection, number);
             let needs = self.needs.as_slice();
             self.groups.leave(needs, number, &object);
         }
@@ -328,7 +334,7 @@ impl Allocations {
     fn are_few(&self)
         ensures { length self.now.objects < 2 ^ 63 }
     {
-        let _ = self.sets.len();
+        self.sets.are_few();
     }
 
     /// Forgets the objects of these collections (RM 7.6.1). It takes time in how many they are.
@@ -361,16 +367,13 @@ impl Allocations {
         }
     }
 
-    /// Answers the first object of a collection.
+    /// Answers an object of a collection.
     fn first_of(&self, set: u64) -> Option<u64>
         ensures rise { Rise 0 self.now.objects }
         ensures some { IfSome result (λ n. is_member set n self.now.objects ≡ true) }
         ensures none { IsNone result → self.now.objects ≡ keep (λ o. not (is_of_set set o.origin)) self.now.objects }
     {
-        match first_listed(&self.sets, Bound::Included((set, 0))) {
-            Some((found, number)) if found == set => Some(number),
-            _ => None,
-        }
+        self.sets.any_of(set)
     }
 
     /// Answers the next group up to a collection, from a start on, with how many of its objects are
@@ -543,7 +546,7 @@ impl Allocations {
         }
     }
 
-    /// Answers the first object in a block of a pool.
+    /// Answers an object in a block of a pool.
     fn first_in(&self, number: u64) -> Option<u64>
         ensures rise { Rise 0 self.now.objects }
         ensures some { IfSome result (λ k. number_lies_in number k self.now.objects ≡ true) }

@@ -241,6 +241,17 @@ impl Declarations {
         true
     }
 
+    /// Answers whether an object exists.
+    #[inline(always)]
+    pub fn contains(&self, number: u64) -> bool
+        ensures { result ≡ is_some (object_in number self.now) }
+    {
+        match find(self.objects.as_slice(), number) {
+            Some(_at) => true,
+            None => false,
+        }
+    }
+
     /// Answers what is known of an object beside its cells.
     pub fn find(&self, number: u64) -> Option<Existing>
         ensures { IsKnown number result self.now }
@@ -351,7 +362,7 @@ fn first_cell(objects: &[Declaration], at: usize, end: usize) -> usize
 }
 
 /// Finds the declared object of this number; the numbers rise. It takes time in the logarithm of
-/// how many there are, and constant time for the newest.
+/// how many there are, and constant time for the newest and for what came after it.
 #[inline(always)]
 fn find(objects: &[Declaration], number: u64) -> Option<usize>
     requires { NumbersRise 0 objects.now }
@@ -362,6 +373,10 @@ fn find(objects: &[Declaration], number: u64) -> Option<usize>
     if let [.., newest] = objects {
         if newest.number == number {
             return Some(objects.len() - 1);
+        }
+        // What was allocated is most often newer than each that is declared.
+        if newest.number < number {
+            return None;
         }
     }
     let mut low = 0;

@@ -9,15 +9,9 @@ mod existing;
 mod groups;
 mod needs;
 mod object_list;
-mod sets;
 
 pub use ctl_storage::{BlockReturn, Life, Place, Placing, Pool, PoolSize, PoolState, Spot, Stage};
 pub use existing::{Existing, Origin};
 pub use groups::{Group, Start, Waiting};
 pub use needs::Need;
 pub use object_list::Objects;
-
-#[cfg(test)]
-mod pool_tests;
-#[cfg(test)]
-mod tests;

@@ -37,7 +37,8 @@ use std::marker::Model;
 /// pools. It ends by `close`.
 ///
 /// To find an object takes time in the logarithm of the number of declared objects, constant time
-/// where it is the newest of them, and for an allocated object one look-up by its number more.
+/// where it is the newest of them or came after it, and for an allocated object one look-up by its
+/// number more.
 pub struct Objects {
     declared: Declarations,
     allocated: Allocations,
@@ -98,7 +99,7 @@ impl Objects {
 
     /// Allocates an object for a collection in the standard pool, with so many cells, all of them 0
     /// (RM 4.8): its number is greater than all others. It takes time in the number of its cells,
-    /// and in the logarithm of the number of allocated objects.
+    /// and in the logarithm of the number of objects in groups where its type needs finalization.
     ///
     /// # Errors
     ///
@@ -135,7 +136,10 @@ impl Objects {
     pub fn exists(&self, number: u64) -> bool
         ensures { result ≡ is_some (object_in number self.now.objects) }
     {
-        self.find(number).is_some()
+        if self.declared.contains(number) {
+            return true;
+        }
+        self.allocated.contains(number)
     }
 
     /// Reads a cell of an object: 0 where the object has no such cell, None where it does not
@@ -289,8 +293,8 @@ impl Objects {
     }
 
     /// Forgets an allocated object, where it exists (RM 13.11.2): no declared object has this
-    /// number. It takes time in the logarithm of the number of allocated objects, and in the number
-    /// of its cells where the allocator does.
+    /// number. It takes time in the logarithm of the number of objects in groups where its type
+    /// needs finalization, and in the number of its cells where the allocator does.
     pub fn forget(&mut self, number: u64)
         requires { IfSome (object_in number self.old.objects) (λ o. IsAllocated o.origin) }
         ensures objects { self.new.objects ≡ keep (λ o. not (nat_eq o.number number)) self.old.objects }
@@ -351,8 +355,7 @@ impl Objects {
     /// Allocates an object for a collection in a block of an open pool whose object exists, with so
     /// many cells, all of them 0 (RM 13.11): its number is greater than all others. A block is out under
     /// the address, holds no object, and is not smaller than the size: it answers whether that is so,
-    /// and nothing changes where it is not. It takes the time of `allocate`, and time in the logarithm
-    /// of the number of objects in blocks.
+    /// and nothing changes where it is not. It takes the time of `allocate`.
     ///
     /// # Errors
     ///

@@ -26,11 +26,10 @@ use Rattle.ctl_storage.specs.declared.pools.PoolSize.{PoolSize}
 use Rattle.ctl_storage.specs.Allocated.{allocated, place_of}
 use Rattle.ctl_storage.specs.Calls.{AreOutside, number_lies_in}
 use Rattle.ctl_storage.specs.Inside.{AreStored, IsStored, LiesAs, holds, is_at, is_in, lies_at, lies_in, lot_at, seen, spot_of, words_written}
-use Rattle.ctl_storage.specs.Located.{IsLocatedAs, Located, is_located}
+use Rattle.owned_numbers.specs.Owned.{OwnsAs, Owned, owns}
 use Rattle.ctl_storage.specs.Order.{Rise}
 use Rattle.ctl_storage.specs.Storage.{exists}
 use Rattle.ctl_storage.proofs.InStore.{AreEach, each_moved, each_with, each_without, each_written, get_changed, seen_same}
-use Rattle.ctl_storage.proofs.Listed.{nothing_located}
 use Rattle.ctl_storage.proofs.Rising.{KeepsNumbers, in_change, in_keep, in_newest, keep_more, keep_none, kept_one, in_more, in_none, number_found, rise_keep, same_objects}
 use Rattle.ctl_storage.proofs.Seen.{Objects, in_seen}
 use Rattle.ctl_storage.proofs.Shown.{IsVacated, without}
@@ -93,11 +92,11 @@ exists_left n m os rise = ap (λ o. is_some o) (in_keep (λ o. not (nat_eq o.num
 
 -- Nothing is there at first --------------------------------------------------------------------------------
 
-pub nothing_kept : (os : Objects) (zs : Sizes) (l : Located) (s : Store) → os ≡ empty → l.keys ≡ [] → s ≡ S.no_store → AreStored os zs l s
-nothing_kept os zs l s none keys first = record {
+pub nothing_kept : (os : Objects) (zs : Sizes) (l : Owned) (s : Store) → os ≡ empty → ((p n : ℕ) → owns p n l ≡ false) → s ≡ S.no_store → AreStored os zs l s
+nothing_kept os zs l s none free first = record {
   each = λ n. subst (λ o. IsStored o (get s.objects n)) (sym (no_object n)) (subst (λ o. IsStored None o) (sym (ap (λ (t : Store). get t.objects n) first ∙ get-empty nat_cmp n)) tt);
   held = λ n p a. ap (λ o. holds n (option_and_then (λ b. get b.out a) o)) (no_pool p) ∙ sym (ap (lies_at p a) (no_object n));
-  listed = λ p n. nothing_located l keys p n ∙ sym (ap (lies_in p) (no_object n));
+  listed = λ p n. free p n ∙ sym (ap (lies_in p) (no_object n));
   pools = λ p. subst (λ o. IfSome o (λ b. IsSome (get zs p) × AreGiven s.given b.out)) (sym (no_pool p)) tt;
   marks = λ p. ap (λ (t : Store). get t.marks p) first ∙ get-empty nat_cmp p;
 }
@@ -110,7 +109,7 @@ nothing_kept os zs l s none keys first = record {
 
 -- An object changes ----------------------------------------------------------------------------------------
 
-pub kept_moved : (os : Objects) (zs : Sizes) (l : Located) (s : Store) (n : ℕ) (a b : Allocation) → get os n ≡ Some a → b.cells ≡ a.cells → b.place ≡ a.place → AreStored os zs l s → AreStored (insert os n b) zs l s
+pub kept_moved : (os : Objects) (zs : Sizes) (l : Owned) (s : Store) (n : ℕ) (a b : Allocation) → get os n ≡ Some a → b.cells ≡ a.cells → b.place ≡ a.place → AreStored os zs l s → AreStored (insert os n b) zs l s
 kept_moved os zs l s n a b there cells place h = record {
   each = each_moved os s n a b h.each there cells place;
   held = λ k p c. h.held k p c ∙ sym (same (lies_at p c) (ap (is_at p c) place) k);
@@ -127,7 +126,7 @@ kept_moved os zs l s n a b there cells place h = record {
         by false is = refl
 
 -- only cells change
-kept_cells : (os : Objects) (zs : Sizes) (l : Located) (s t : Store) → AreEach os t → t.blocks ≡ s.blocks → t.given ≡ s.given → t.marks ≡ s.marks → AreStored os zs l s → AreStored os zs l t
+kept_cells : (os : Objects) (zs : Sizes) (l : Owned) (s t : Store) → AreEach os t → t.blocks ≡ s.blocks → t.given ≡ s.given → t.marks ≡ s.marks → AreStored os zs l s → AreStored os zs l t
 kept_cells os zs l s t each blocks given marks h = record {
   each = each;
   held = λ n p a. ap (λ (m : Blocks). holds n (option_and_then (λ b. get b.out a) (get m p))) blocks ∙ h.held n p a;
@@ -142,7 +141,7 @@ blocks_written n place x s = refl
 pub given_written : (n place x : ℕ) (s : Store) → (S.with_word n place x s).given ≡ s.given
 given_written n place x s = refl
 
-pub kept_written : (os : Objects) (zs : Sizes) (l : Located) (s : Store) (n place x : ℕ) → AreStored os zs l s → AreStored os zs l (S.with_word n place x s)
+pub kept_written : (os : Objects) (zs : Sizes) (l : Owned) (s : Store) (n place x : ℕ) → AreStored os zs l s → AreStored os zs l (S.with_word n place x s)
 kept_written os zs l s n place x h = kept_cells os zs l s (S.with_word n place x s) (each_written os s n place x h.each) refl refl refl h
 
 pub blocks_all : (n offset : ℕ) (v : List ℕ) (s : Store) → (words_written n offset v s).blocks ≡ s.blocks
@@ -153,7 +152,7 @@ pub given_all : (n offset : ℕ) (v : List ℕ) (s : Store) → (words_written n
 given_all n offset [] s = refl
 given_all n offset (x ∷ v) s = given_all n (offset + 1) v (S.with_word n offset x s)
 
-pub kept_all : (os : Objects) (zs : Sizes) (l : Located) (s : Store) (n offset : ℕ) (v : List ℕ) → AreStored os zs l s → AreStored os zs l (words_written n offset v s)
+pub kept_all : (os : Objects) (zs : Sizes) (l : Owned) (s : Store) (n offset : ℕ) (v : List ℕ) → AreStored os zs l s → AreStored os zs l (words_written n offset v s)
 kept_all os zs l s n offset [] h = h
 kept_all os zs l s n offset (x ∷ v) h = kept_all os zs l (S.with_word n offset x s) n (offset + 1) v (kept_written os zs l s n offset x h)
 
@@ -167,7 +166,7 @@ new_same os n a test none nothing fails k = ap test (get_put os n k a) ∙ by (n
     by true is = fails ∙ sym (ap test (ap (get os) (eqb-true k n is) ∙ none) ∙ nothing)
     by false is = refl
 
-pub kept_new : (os : Objects) (zs : Sizes) (l : Located) (s : Store) (n : ℕ) (a : Allocation) → get os n ≡ None → a.place ≡ Standard → AreStored os zs l s → AreStored (insert os n a) zs l (S.with_object n a.cells s)
+pub kept_new : (os : Objects) (zs : Sizes) (l : Owned) (s : Store) (n : ℕ) (a : Allocation) → get os n ≡ None → a.place ≡ Standard → AreStored os zs l s → AreStored (insert os n a) zs l (S.with_object n a.cells s)
 kept_new os zs l s n a none place h = record {
   each = each_with os s (S.with_object n a.cells s) n a (ap (λ z. insert s.objects n (record { spot = spot_of z; site = None; words = replicate a.cells 0 })) (sym place)) h.each;
   held = λ k p c. h.held k p c ∙ sym (new_same os n a (lies_at p c) none refl (ap (is_at p c) place) k);
@@ -208,7 +207,7 @@ given_of : (zs : Sizes) (s : Store) (n : ℕ) (b : BlockPool) → ((p : ℕ) →
 given_of zs s n b h there = (subst (λ o. IfSome o (λ c. IsSome (get zs n) × AreGiven s.given c.out)) there (h n)).1
 
 -- a block goes out
-pub kept_taken : (os : Objects) (zs : Sizes) (l : Located) (s : Store) (n : ℕ) → AreStored os zs l s → AreStored os zs l (S.take_block n s)
+pub kept_taken : (os : Objects) (zs : Sizes) (l : Owned) (s : Store) (n : ℕ) → AreStored os zs l s → AreStored os zs l (S.take_block n s)
 kept_taken os zs l s n h = record {
   each = h.each;
   held = λ k p a. held_changed n (S.with_block_out (s.given + 1)) s (S.take_block n s) refl (λ b there k a. same b (given_of zs s n b h.pools there) k a) k p a ∙ h.held k p a;
@@ -228,7 +227,7 @@ kept_taken os zs l s n h = record {
     given b i k more = get_put b.out (s.given + 1) k None ∙ (ap (λ c. cond c (Some None) (get b.out k)) (ne_eqb k (s.given + 1) (λ same. omega (arith, more, same))) ∙ i k (omega (arith, more)))
 
 -- a block that holds no object comes back
-pub kept_back : (os : Objects) (zs : Sizes) (l : Located) (s : Store) (n a : ℕ) → S.is_vacant_in n a s ≡ true → AreStored os zs l s → AreStored os zs l (S.give_block n a s)
+pub kept_back : (os : Objects) (zs : Sizes) (l : Owned) (s : Store) (n a : ℕ) → S.is_vacant_in n a s ≡ true → AreStored os zs l s → AreStored os zs l (S.give_block n a s)
 kept_back os zs l s n a vacant h = record {
   each = h.each;
   held = λ k p c. held_changed n (S.with_block_back a) s (S.give_block n a s) refl (λ b there k c. same b (sym (ap (λ o. option_map_or (S.is_vacant a) o false) there) ∙ vacant) k c) k p c ∙ h.held k p c;
@@ -297,7 +296,7 @@ fit_lot (Some b) a units e = by (get b.out a) (both_first (S.is_vacant a b) _ e)
     by (Some None) e = refl
     by (Some (Some m)) e = absurd (cc)
 
-pub kept_held : (os : Objects) (zs : Sizes) (l m : Located) (s : Store) (n units : ℕ) (x : Spot) (a : Allocation) → get os n ≡ None → a.place ≡ InBlock x → S.is_fit_in x.pool x.address units s ≡ true → IsLocatedAs true x.pool n l m
+pub kept_held : (os : Objects) (zs : Sizes) (l m : Owned) (s : Store) (n units : ℕ) (x : Spot) (a : Allocation) → get os n ≡ None → a.place ≡ InBlock x → S.is_fit_in x.pool x.address units s ≡ true → OwnsAs true x.pool n l m
     → AreStored os zs l s → AreStored (insert os n a) zs m (S.hold_block x.pool x.address n a.cells s)
 kept_held os zs l m s n units x a none place fit located h = record {
   each = each_with os s t n a (ap (λ z. insert s.objects n (record { spot = spot_of z; site = None; words = replicate a.cells 0 })) (sym place)) h.each;
@@ -354,7 +353,7 @@ kept_held os zs l m s n units x a none place fit located h = record {
         by false is = i k more
 
 -- an object that was listed first is not in the end
-pub unlisted : (os : Objects) (zs : Sizes) (l m u : Located) (s : Store) (n pool : ℕ) → get os n ≡ None → IsLocatedAs true pool n l m → IsLocatedAs false pool n m u → AreStored os zs l s → AreStored os zs u s
+pub unlisted : (os : Objects) (zs : Sizes) (l m u : Owned) (s : Store) (n pool : ℕ) → get os n ≡ None → OwnsAs true pool n l m → OwnsAs false pool n m u → AreStored os zs l s → AreStored os zs u s
 unlisted os zs l m u s n pool none located undone h = record {
   each = h.each;
   held = h.held;
@@ -363,7 +362,7 @@ unlisted os zs l m u s n pool none located undone h = record {
   marks = h.marks;
 }
   where
-    by : (p k : ℕ) (b : Bool) → (nat_eq pool p && nat_eq n k) ≡ b → cond b false (cond b true (is_located p k l)) ≡ is_located p k l
+    by : (p k : ℕ) (b : Bool) → (nat_eq pool p && nat_eq n k) ≡ b → cond b false (cond b true (owns p k l)) ≡ owns p k l
     by p k true is =
         let number = eqb-true n k (both_second (nat_eq pool p) (nat_eq n k) is) in
         sym (h.listed p k ∙ ap (lies_in p) (ap (get os) (sym number) ∙ none))
@@ -459,7 +458,7 @@ holds_without n k (Some (Some m)) = by (nat_eq m n) refl (nat_eq k n) refl
     by false is true same = ap (nat_eq m) (eqb-true k n same) ∙ is
     by false is false differs = refl
 
-pub kept_without : (os : Objects) (zs : Sizes) (l m : Located) (s : Store) (n : ℕ) (r : Option Allocation) → r ≡ get os n → ((p k : ℕ) → is_located p k m ≡ cond (lies_in p r && nat_eq n k) false (is_located p k l)) → AreStored os zs l s
+pub kept_without : (os : Objects) (zs : Sizes) (l m : Owned) (s : Store) (n : ℕ) (r : Option Allocation) → r ≡ get os n → ((p k : ℕ) → owns p k m ≡ cond (lies_in p r && nat_eq n k) false (owns p k l)) → AreStored os zs l s
     → AreStored (remove os n) zs m (S.without_object n s)
 kept_without os zs l m s n r removed located h = record {
   each = each_without os s (S.without_object n s) n refl h.each;
@@ -504,7 +503,7 @@ kept_without os zs l m s n r removed located h = record {
 
 -- Pools open and close -------------------------------------------------------------------------------------
 
-pub kept_opened : (os : Objects) (zs : Sizes) (l : Located) (s : Store) (n units count : ℕ) (z : PoolSize) → get zs n ≡ None → AreStored os zs l s → AreStored os (insert zs n z) l (S.with_pool n units count s)
+pub kept_opened : (os : Objects) (zs : Sizes) (l : Owned) (s : Store) (n units count : ℕ) (z : PoolSize) → get zs n ≡ None → AreStored os zs l s → AreStored os (insert zs n z) l (S.with_pool n units count s)
 kept_opened os zs l s n units count z none h = record {
   each = h.each;
   held = λ k p a. ap (λ o. holds k (option_and_then (λ b. get b.out a) o)) (get_put s.blocks n p new) ∙ (own k a p (nat_eq p n) refl ∙ h.held k p a);
@@ -539,7 +538,7 @@ kept_opened os zs l s n units count z none h = record {
     pool p false is (Some b) i = (sized p false is i.0, i.1)
 
 -- a pool is not open yet where it has no discriminants
-pub not_open : (os : Objects) (zs : Sizes) (l : Located) (s : Store) (n : ℕ) → get zs n ≡ None → AreStored os zs l s → get s.blocks n ≡ None
+pub not_open : (os : Objects) (zs : Sizes) (l : Owned) (s : Store) (n : ℕ) → get zs n ≡ None → AreStored os zs l s → get s.blocks n ≡ None
 not_open os zs l s n none h = by (get s.blocks n) (h.pools n)
   where
     by : (o : Option BlockPool) → IfSome o (λ b. IsSome (get zs n) × AreGiven s.given b.out) → o ≡ None
@@ -547,7 +546,7 @@ not_open os zs l s n none h = by (get s.blocks n) (h.pools n)
     by (Some b) i = let there = i.0 in let no : is_some (get zs n) ≡ false = ap (λ o. is_some o) none in absurd (cc)
 
 -- where no object lies in a pool, none goes as it closes
-pub none_goes : (os : Objects) (zs : Sizes) (l : Located) (s : Store) (n : ℕ) → ((k : ℕ) → lies_in n (get os k) ≡ false) → AreStored os zs l s → (k : ℕ) → get (S.without_pool n s).objects k ≡ get s.objects k
+pub none_goes : (os : Objects) (zs : Sizes) (l : Owned) (s : Store) (n : ℕ) → ((k : ℕ) → lies_in n (get os k) ≡ false) → AreStored os zs l s → (k : ℕ) → get (S.without_pool n s).objects k ≡ get s.objects k
 none_goes os zs l s n none h k = get_kept (λ o. not (S.lies_in n o)) s.objects k ∙ by (get os k) (get s.objects k) (h.each k) (none k)
   where
     spot : (z : Place) → option_map_or (λ (x : Spot). nat_eq x.pool n) (spot_of z) false ≡ is_in n z
@@ -563,7 +562,7 @@ none_goes os zs l s n none h k = get_kept (λ o. not (S.lies_in n o)) s.objects 
     by (Some a) None i out = absurd i
     by (Some a) (Some o) i out = ap (λ b. cond (not b) (Some o) None) (stays a o i out)
 
-pub seen_left : (os : Objects) (zs : Sizes) (l : Located) (s : Store) (n : ℕ) → ((k : ℕ) → lies_in n (get os k) ≡ false) → AreStored os zs l s → seen os (S.without_pool n s) ≡ seen os s
+pub seen_left : (os : Objects) (zs : Sizes) (l : Owned) (s : Store) (n : ℕ) → ((k : ℕ) → lies_in n (get os k) ≡ false) → AreStored os zs l s → seen os (S.without_pool n s) ≡ seen os s
 seen_left os zs l s n none h = seen_same os s (S.without_pool n s) (equal_maps (S.without_pool n s).objects s.objects (none_goes os zs l s n none h))
 
 pub not_open_is : (s : Store) (n : ℕ) → S.is_open n s ≡ false → get s.blocks n ≡ None
@@ -588,7 +587,7 @@ blocks_left m n none k = by (nat_eq k n) refl
     by true is = ap (get m) (eqb-true k n is) ∙ none
     by false is = refl
 
-pub kept_closed : (os : Objects) (zs : Sizes) (l : Located) (s : Store) (n : ℕ) → ((k : ℕ) → lies_in n (get os k) ≡ false) → AreStored os zs l s → AreStored os zs l (S.without_pool n s)
+pub kept_closed : (os : Objects) (zs : Sizes) (l : Owned) (s : Store) (n : ℕ) → ((k : ℕ) → lies_in n (get os k) ≡ false) → AreStored os zs l s → AreStored os zs l (S.without_pool n s)
 kept_closed os zs l s n none h = record {
   each = λ k. subst (λ o. IsStored (get os k) o) (sym (none_goes os zs l s n none h k)) (h.each k);
   held = λ k p a. ap (λ o. holds k (option_and_then (λ b. get b.out a) o)) (get_dropped s.blocks n p) ∙ own k p a (nat_eq p n) refl;
@@ -618,7 +617,7 @@ kept_closed os zs l s n none h = record {
     mark p false = h.marks p
 
 -- the discriminants of a pool that is not open are forgotten
-pub kept_sizes : (os : Objects) (zs : Sizes) (l : Located) (s : Store) (n : ℕ) → get s.blocks n ≡ None → AreStored os zs l s → AreStored os (remove zs n) l s
+pub kept_sizes : (os : Objects) (zs : Sizes) (l : Owned) (s : Store) (n : ℕ) → get s.blocks n ≡ None → AreStored os zs l s → AreStored os (remove zs n) l s
 kept_sizes os zs l s n closed h = record {
   each = h.each;
   held = h.held;
@@ -661,7 +660,7 @@ seen_outside os n k none = by (object_in k os) (none k)
     by (Some x) e = e
 
 -- an object in a block lies in a pool that is open
-pub none_closed : (os : Objects) (zs : Sizes) (l : Located) (s : Store) (n : ℕ) → get s.blocks n ≡ None → AreStored os zs l s → AreOutside n (seen os s)
+pub none_closed : (os : Objects) (zs : Sizes) (l : Owned) (s : Store) (n : ℕ) → get s.blocks n ≡ None → AreStored os zs l s → AreOutside n (seen os s)
 none_closed os zs l s n closed h = outside_seen (seen os s) n (λ k. lies_seen os s n k ∙ by k (get os k) refl)
   where
     own : (k : ℕ) (a : Allocation) (z : Place) → get os k ≡ Some a → a.place ≡ z → (b : Bool) → is_in n z ≡ b → is_in n z ≡ false

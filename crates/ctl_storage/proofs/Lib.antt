@@ -2,7 +2,6 @@ pub mod Rising
 pub mod Cells
 pub mod Seen
 pub mod InStore
-pub mod Listed
 pub mod Items
 pub mod Shown
 pub mod Kept

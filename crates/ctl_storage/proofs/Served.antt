@@ -16,7 +16,7 @@ use Rattle.ctl_storage.specs.declared.existing.Place.TheVariants.{InBlock}
 use Rattle.ctl_storage.specs.declared.pools.PoolSize.{PoolSize}
 use Rattle.ctl_storage.specs.Calls.{is_exhausted_at}
 use Rattle.ctl_storage.specs.Inside.{AreStored}
-use Rattle.ctl_storage.specs.Located.{IsLocatedAs, Located}
+use Rattle.owned_numbers.specs.Owned.{OwnsAs, Owned}
 use Rattle.ctl_storage.specs.Storage.{ArePools, IsShown, Storage, size_of}
 use Rattle.ctl_storage.proofs.Calls.{exhausted_of}
 use Rattle.ctl_storage.proofs.InStore.{get_changed}
@@ -48,7 +48,7 @@ taken_fit s n stands =
     by true is None i = absurd (cc)
     by true is (Some b) i = ap (λ o. option_map_or is_none o false && nat_le 0 b.size) (get_here b.out (s.given + 1) None) ∙ none_less b.size
 
-pub kept_served : (os : Objects) (zs : Sizes) (l m : Located) (s : Store) (n p : ℕ) (a : Allocation) → get os n ≡ None → a.place ≡ InBlock (record { pool = p; address = s.given + 1 }) → IsSome (get s.blocks p) → IsLocatedAs true p n l m
+pub kept_served : (os : Objects) (zs : Sizes) (l m : Owned) (s : Store) (n p : ℕ) (a : Allocation) → get os n ≡ None → a.place ≡ InBlock (record { pool = p; address = s.given + 1 }) → IsSome (get s.blocks p) → OwnsAs true p n l m
     → AreStored os zs l s → AreStored (insert os n a) zs m (S.hold_block p (s.given + 1) n a.cells (S.take_block p s))
 kept_served os zs l m s n p a none place stands located h =
     kept_held os zs l m (S.take_block p s) n 0 (record { pool = p; address = s.given + 1 }) a none place (taken_fit s p stands) located (kept_taken os zs l s p h)

@@ -14,7 +14,7 @@ use Rattle.ctl_storage.specs.declared.existing.Place.TheVariants.{Standard, InBl
 use Rattle.ctl_storage.specs.declared.existing.Step.{Step}
 use Rattle.ctl_storage.specs.declared.pools.PoolSize.{PoolSize}
 use Rattle.ctl_storage.specs.Allocated.{allocated}
-use Rattle.ctl_storage.specs.Located.{Located, is_located}
+use Rattle.owned_numbers.specs.Owned.{Owned, owns}
 use Rattle.ctl_storage.specs.Stages.{after}
 use Rattle.ctl_storage.specs.Storage.{Storage}
 
@@ -71,12 +71,12 @@ IsStored None (Some s) = ⊥
 IsStored (Some a) None = ⊥
 IsStored (Some a) (Some s) = LiesAs a s
 
-pub record AreStored (objects : FinMap nat_cmp Allocation) (sizes : FinMap nat_cmp PoolSize) (located : Located) (store : Store) : Type 0 where
+pub record AreStored (objects : FinMap nat_cmp Allocation) (sizes : FinMap nat_cmp PoolSize) (located : Owned) (store : Store) : Type 0 where
   pub each : (n : ℕ) → IsStored (get objects n) (get store.objects n)
   -- a block holds exactly the object that lies in it
   pub held : (n p a : ℕ) → holds n (lot_at p a store) ≡ lies_at p a (get objects n)
   -- the objects in the blocks of each pool are listed for it
-  pub listed : (p n : ℕ) → is_located p n located ≡ lies_in p (get objects n)
+  pub listed : (p n : ℕ) → owns p n located ≡ lies_in p (get objects n)
   -- an open pool has its discriminants, and no address above those given
   pub pools : (p : ℕ) → IfSome (get store.blocks p) (λ b. IsSome (get sizes p) × AreGiven store.given b.out)
   pub marks : (p : ℕ) → get store.marks p ≡ None

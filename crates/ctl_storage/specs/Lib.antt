@@ -4,6 +4,5 @@ pub mod Allocated
 pub mod Storage
 pub mod Codes
 pub mod Calls
-pub mod Located
 pub mod Inside
 pub mod Sizes

@@ -13,6 +13,3 @@ pub use existing::{Allocation, Life, Place, Stage, Step};
 pub use pool_store::Spot;
 pub use pools::{BlockReturn, Placing, Pool, PoolSize, PoolState};
 pub use storage::ObjectStorage;
-
-#[cfg(test)]
-mod tests;

@@ -17,23 +17,22 @@ ghost use Rattle.ctl_storage.specs.Stages.{with_step};
 ghost use Rattle.ctl_storage.specs.Storage.{ArePools, KeepsPools};
 
 use crate::existing::{Allocation, Place, Stage, Step};
-use crate::located::{Located, first_located, list_object, unlist_gone, unlist_object};
+use crate::located::unlist_gone;
 use crate::pools::{BlockReturn, Placing, Pool, PoolSize, PoolState};
 use crate::sizes::PoolSizes;
 use crate::words::{read_word, save_words, write_word, write_words};
 use ctl_program::types::Ty;
 use number_map::NumberMap;
+use owned_numbers::OwnedNumbers;
 use pool_store::{Address, PoolStore, Spot, StoreFault};
 use std::alloc::{AllocError, Global};
-use std::collections::BTreeSet;
 use std::marker::Model;
-use std::ops::Bound;
 
 /// The allocated objects and the block pools. It ends by `close`.
 pub struct ObjectStorage {
     objects: NumberMap<Allocation>,
     sizes: PoolSizes,
-    located: Located,
+    located: OwnedNumbers,
     store: PoolStore,
 }
 
@@ -60,7 +59,7 @@ impl ObjectStorage {
         ObjectStorage {
             objects: NumberMap::new(alloc),
             sizes: PoolSizes::new(alloc),
-            located: BTreeSet::new(alloc),
+            located: OwnedNumbers::new(alloc),
             store: PoolStore::new(alloc),
         }
     }
@@ -94,7 +93,7 @@ impl ObjectStorage {
                     cells,
                     stage: Stage::start(),
                 };
-                self.objects.put(number, object);
+                self.objects.put_new(number, object);
                 Ok(())
             }
             Err(_refused) => Err(AllocError),
@@ -130,7 +129,7 @@ impl ObjectStorage {
             return Ok(Placing::Refused);
         }
         self.objects.reserve()?;
-        list_object(&mut self.located, spot.pool, number)?;
+        self.located.list(spot.pool, number)?;
         match occupy(&mut self.store, spot, number, cells) {
             Ok(Placing::Placed) => {
                 let object = Allocation {
@@ -140,15 +139,15 @@ impl ObjectStorage {
                     cells,
                     stage: Stage::start(),
                 };
-                self.objects.put(number, object);
+                self.objects.put_new(number, object);
                 Ok(Placing::Placed)
             }
             Ok(Placing::Refused) => {
-                unlist_object(&mut self.located, spot.pool, number);
+                self.located.unlist(spot.pool, number);
                 Ok(Placing::Refused)
             }
             Err(refused) => {
-                unlist_object(&mut self.located, spot.pool, number);
+                self.located.unlist(spot.pool, number);
                 Err(refused)
             }
         }
@@ -185,7 +184,7 @@ impl ObjectStorage {
             return Ok(None);
         }
         self.objects.reserve()?;
-        list_object(&mut self.located, pool, number)?;
+        self.located.list(pool, number)?;
         match allocate_for(&mut self.store, pool, number, cells) {
             Ok(Some(address)) => {
                 let object = Allocation {
@@ -195,15 +194,15 @@ impl ObjectStorage {
                     cells,
                     stage: Stage::start(),
                 };
-                self.objects.put(number, object);
+                self.objects.put_new(number, object);
                 Ok(Some(address))
             }
             Ok(None) => {
-                unlist_object(&mut self.located, pool, number);
+                self.located.unlist(pool, number);
                 Ok(None)
             }
             Err(refused) => {
-                unlist_object(&mut self.located, pool, number);
+                self.located.unlist(pool, number);
                 Err(refused)
             }
         }
@@ -283,6 +282,14 @@ impl ObjectStorage {
             }
             None => false,
         }
+    }
+
+    /// Answers whether an object exists.
+    #[inline(always)]
+    pub fn contains(&self, number: u64) -> bool
+        ensures { result ≡ is_some (object_in number self.now.objects) }
+    {
+        self.objects.contains(number)
     }
 
     /// Answers what is known of an object beside the values of its cells, and so where it lies.
@@ -437,8 +444,8 @@ impl ObjectStorage {
     }
 
     /// Closes a pool, where it is open: the objects in its blocks are gone, and its addresses are
-    /// out no more (RM 13.11). It takes time in the objects in its blocks, each with the logarithm
-    /// of how many lie in blocks, and in the blocks that are out.
+    /// out no more (RM 13.11). It takes time in the objects in its blocks, and in the blocks that are
+    /// out.
     pub fn close_pool(&mut self, number: u64)
         ensures objects { self.new.objects ≡ keep (λ o. not (lies_in_pool number o.origin)) self.old.objects }
         ensures pools { (next : ℕ) (x : W.Pools) → ArePools next x self.old → ArePools next (shut number x) self.new }
@@ -458,17 +465,13 @@ impl ObjectStorage {
         }
     }
 
-    /// Answers the first object in a block of a pool. It takes time in the logarithm of how many
-    /// objects lie in blocks.
+    /// Answers an object in a block of a pool, where there is one. It takes constant time on average.
     pub fn first_in(&self, number: u64) -> Option<u64>
         ensures rise { Rise 0 self.now.objects }
         ensures some { IfSome result (λ k. number_lies_in number k self.now.objects ≡ true) }
         ensures none { IsNone result → AreOutside number self.now.objects }
     {
-        match first_located(&self.located, Bound::Included((number, 0))) {
-            Some((pool, object)) if pool == number => Some(object),
-            _ => None,
-        }
+        self.located.any_of(number)
     }
 
     /// Closes a pool in whose blocks no object lies, where it is open, and frees it. It takes time in

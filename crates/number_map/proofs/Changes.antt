@@ -40,3 +40,15 @@ insert_again t k v w = equal_maps (insert (insert t k v) k w) (insert t k w) (λ
     by : (q : ℕ) (b : Bool) → nat_eq q k ≡ b → cond b (Some w) (get (insert t k v) q) ≡ cond b (Some w) (get t q)
     by q true e = refl
     by q false e = get_put t k q v ∙ ap (λ b. cond b (Some v) (get t q)) e
+
+-- a value that is written where one was removed
+pub insert_removed : {V : Type 0} (t : FinMap nat_cmp V) (k : ℕ) (v : V) → insert (remove t k) k v ≡ insert t k v
+insert_removed t k v = equal_maps (insert (remove t k) k v) (insert t k v) (λ q.
+    get_put (remove t k) k q v ∙ by q (nat_eq q k) refl ∙ sym (get_put t k q v))
+  where
+    by : (q : ℕ) (b : Bool) → nat_eq q k ≡ b → cond b (Some v) (get (remove t k) q) ≡ cond b (Some v) (get t q)
+    by q true e = refl
+    by q false e = get_dropped t k q ∙ ap (λ b. cond b None (get t q)) e
+
+pub get_gone : {V : Type 0} (t : FinMap nat_cmp V) (k : ℕ) → get (remove t k) k ≡ None
+get_gone t k = get_dropped t k k ∙ ap (λ b. cond b None (get t k)) (eq-eqb k k refl)

@@ -1,3 +1,4 @@
+pub mod Apart
 pub mod Changes
 pub mod Mapped
 pub mod Tables

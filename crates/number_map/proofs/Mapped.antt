@@ -1,5 +1,5 @@
 -- Finite maps by number, with each value as another one.
-use Rattle.std.proofs.Common.{◌≡◌, ℕ, Bool, true, false, cond, List, [], ◌∷◌, map, None, Some, refl, sym, ap, ◌∙◌}
+use Rattle.std.proofs.Common.{◌≡◌, ℕ, Bool, true, false, cond, List, [], ◌∷◌, map, Option, None, Some, refl, sym, ap, ◌∙◌}
 use Rattle.std.specs.Prelude.{nat_eq}
 use Rattle.std.specs.Ordering.{nat_cmp, eq_by_cmp}
 use Rattle.std.specs.Option.{option_map, option_map_or}
@@ -56,3 +56,11 @@ mapped_changed f t k v w g there same =
 pub mapped_unchanged : {V W : Type 0} (f : V → W) (t : FinMap nat_cmp V) (k : ℕ) (g : W → W) → get t k ≡ None → mapped f t ≡ change k g (mapped f t)
 mapped_unchanged f t k g none =
     sym (ap (λ o. option_map_or (λ x. insert (mapped f t) k (g x)) o (mapped f t)) (get_mapped f t k ∙ ap (option_map f) none))
+
+-- where the other value of a number is none, it has none
+pub unmapped : {V W : Type 0} (f : V → W) (t : FinMap nat_cmp V) (q : ℕ) → get (mapped f t) q ≡ None → get t q ≡ None
+unmapped {V} f t q none = by (get t q) (sym (get_mapped f t q) ∙ none)
+  where
+    by : (o : Option V) → option_map f o ≡ None → o ≡ None
+    by None e = refl
+    by (Some v) e = absurd (cc)

@@ -2,5 +2,6 @@
 #![tactic(auto)]
 
 mod map;
+mod newest;
 
 pub use map::NumberMap;

@@ -156,6 +156,13 @@ not_left s t n apart held = by (get s n) (apart n)
     by None h = refl
     by (Some x) h = let no : true ≡ false = sym held ∙ ap is_some h in absurd (cc)
 
+pub not_other : (s t : Objects) (n : ℕ) → IsApart s t → is_some (get s n) ≡ true → get t n ≡ None
+not_other s t n apart held = by (get s n) (apart n) held
+  where
+    by : (o : Option Stored) → IfSome o (λ x. get t n ≡ None) → is_some o ≡ true → get t n ≡ None
+    by None h is = absurd (cc)
+    by (Some x) h is = h
+
 pub not_right : (t : Objects) (n : ℕ) → is_some (get t n) ≡ false → get t n ≡ None
 not_right t n held = by (get t n) held
   where

@@ -79,7 +79,7 @@ impl<A: Allocator + Copy> BlockStore<A> {
     {
         self.objects.reserve()?;
         let words = Object::new(self.alloc, words)?;
-        self.objects.put(object, Entry::Standard(words));
+        self.objects.put_new(object, Entry::Standard(words));
         Ok(())
     }
 
@@ -160,7 +160,7 @@ impl<A: Allocator + Copy> BlockStore<A> {
         area.occupy(address, object, (units / 8) as usize);
         self.given += 1;
         self.objects
-            .put(object, Entry::InBlock(Spot { pool, address }));
+            .put_new(object, Entry::InBlock(Spot { pool, address }));
         Ok(Address(address))
     }
 
@@ -193,7 +193,7 @@ impl<A: Allocator + Copy> BlockStore<A> {
         };
         area.occupy(address, object, (units / 8) as usize);
         self.objects
-            .put(object, Entry::InBlock(Spot { pool, address }));
+            .put_new(object, Entry::InBlock(Spot { pool, address }));
         Ok(())
     }
 }

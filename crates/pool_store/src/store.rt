@@ -269,10 +269,11 @@ impl<A: Allocator> PoolStore<A> {
         ensures store { self.new ≡ without_object object self.old }
         ensures err { OnErr result (self.new ≡ self.old) }
     {
-        if self.marks.is_held(object) {
-            self.marks.vacate(object)
-        } else {
+        // Most objects lie in the standard pool or in blocks.
+        if self.blocks.is_held(object) {
             self.blocks.vacate(object)
+        } else {
+            self.marks.vacate(object)
         }
     }
 

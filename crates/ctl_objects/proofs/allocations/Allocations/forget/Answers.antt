@@ -24,8 +24,8 @@ pub invariant_of-self : goal.invariant_of-self
 invariant_of-self c =
     let s = c.self.inside in
     let went = subst (λ (l : List Need). Moves l c.args.number (Some (known c.args.number c.in-Some.object)) None s.groups c.leave.new.self) c.as_slice-needs.ensures.value c.leave.ensures in
-    subst (λ (l : List Object). AreFiled s.needs.items l c.unlist_object.new.sets c.leave.new.self) (sym c.in-Some.ensures.gone)
-    (filed_gone s.needs.items s.objects.objects s.sets c.unlist_object.new.sets s.groups c.leave.new.self c.args.number c.in-Some.object c.in-Some.ensures.before c.in-Some.ensures.collection c.unlist_object.ensures.gone c.unlist_object.ensures.len went c.self.invariant)
+    subst (λ (l : List Object). AreFiled s.needs.items l c.unlist.new.self c.leave.new.self) (sym c.in-Some.ensures.gone)
+    (filed_gone s.needs.items s.objects.objects s.sets c.unlist.new.self s.groups c.leave.new.self c.args.number c.in-Some.object c.in-Some.ensures.before c.in-Some.ensures.collection c.unlist.ensures.gone c.unlist.ensures.size went c.self.invariant)
 
 pub invariant_of-self-in_default : goal.invariant_of-self-in_default
 invariant_of-self-in_default c =

@@ -1,5 +1,5 @@
 use Rattle.std.proofs.Common.{◌≡◌, ◌∙◌, ◌*◌, ◌++◌, [], ◌∷◌, List, ap, arith, replicate, refl, subst, sym}
-use Rattle.std.specs.FinMap.{insert}
+use Rattle.std.specs.FinMap.{get, insert}
 use Rattle.pool_store.specs.Store.{Store, is_fit_in}
 use Rattle.ctl_meaning.specs.World as W
 use Rattle.ctl_meaning.specs.World.{Object}
@@ -8,7 +8,7 @@ use Rattle.ctl_storage.specs.declared.existing.Allocation.{Allocation}
 use Rattle.ctl_storage.specs.declared.existing.Place.TheVariants.{InBlock}
 use Rattle.ctl_storage.specs.Calls.{placing}
 use Rattle.ctl_storage.specs.Order.{AreBelow}
-use Rattle.ctl_storage.specs.Inside.{AreStored, seen, view_of}
+use Rattle.ctl_storage.specs.Inside.{AreStored, lies_in, seen, view_of}
 use Rattle.ctl_storage.specs.Storage.{Storage, exists}
 use Rattle.ctl_storage.proofs.Calls.{fit_of, held_blocks, placed_is, placed_then, refused_fit, refused_then}
 use Rattle.ctl_storage.proofs.InStore.{new_kept, new_number, seen_with}
@@ -30,12 +30,12 @@ invariant_of-self-in-Ok-Placed c =
     let s = c.self.inside in
     let a = c.args in
     let x : Allocation = record { ty = a.ty; collection = a.collection; place = InBlock a.spot; cells = a.cells; stage = c.start.result } in
-    let objects : c.put.new.self.values ≡ insert s.objects.values a.number x = c.put.ensures.values ∙ ap (λ (m : Objects). insert m a.number x) c.reserve.ensures.values in
+    let objects : c.put_new.new.self.values ≡ insert s.objects.values a.number x = c.put_new.ensures.values ∙ ap (λ (m : Objects). insert m a.number x) c.reserve.ensures.values in
     let below = subst (λ (v : Storage). AreBelow a.number v.objects) (sym c.self.view_is) c.requires.below in
     let fit = placed_is (is_fit_in a.spot.pool a.spot.address (8 * a.cells) s.store) (sym c.in-Ok-Placed.field-0-is ∙ c.in-Ok-Placed.ensures.answer) in
-    subst (λ (m : Objects). AreStored m s.sizes.values c.list_object.new.located c.occupy.new.store) (sym objects)
-    (subst (λ (t : Store). AreStored (insert s.objects.values a.number x) s.sizes.values c.list_object.new.located t) (sym (placed_then _ c.in-Ok-Placed.field-0 c.in-Ok-Placed.field-0-is c.in-Ok-Placed.ensures.placed))
-    (kept_held s.objects.values s.sizes.values s.located c.list_object.new.located s.store a.number (8 * a.cells) a.spot x (new_kept s.objects.values s.store a.number below) refl fit c.in_ok-list_object.ensures.ok c.self.invariant))
+    subst (λ (m : Objects). AreStored m s.sizes.values c.list.new.self c.occupy.new.store) (sym objects)
+    (subst (λ (t : Store). AreStored (insert s.objects.values a.number x) s.sizes.values c.list.new.self t) (sym (placed_then _ c.in-Ok-Placed.field-0 c.in-Ok-Placed.field-0-is c.in-Ok-Placed.ensures.placed))
+    (kept_held s.objects.values s.sizes.values s.located c.list.new.self s.store a.number (8 * a.cells) a.spot x (new_kept s.objects.values s.store a.number below) refl fit c.in_ok-list.ensures.ok c.self.invariant))
 
 pub returns-in-Ok-Placed-clause-answer : goal.returns-in-Ok-Placed-clause-answer
 returns-in-Ok-Placed-clause-answer c = λ next x h.
@@ -50,7 +50,7 @@ returns-in-Ok-Placed-clause-objects c =
     let s = c.self.inside in
     let a = c.args in
     let x : Allocation = record { ty = a.ty; collection = a.collection; place = InBlock a.spot; cells = a.cells; stage = c.start.result } in
-    let objects : c.put.new.self.values ≡ insert s.objects.values a.number x = c.put.ensures.values ∙ ap (λ (m : Objects). insert m a.number x) c.reserve.ensures.values in
+    let objects : c.put_new.new.self.values ≡ insert s.objects.values a.number x = c.put_new.ensures.values ∙ ap (λ (m : Objects). insert m a.number x) c.reserve.ensures.values in
     ap (λ (m : Objects). seen m c.occupy.new.store) objects
     ∙ (seen_with s.objects.values s.store c.occupy.new.store a.number x (ap (λ (t : Store). t.objects) (placed_then _ c.in-Ok-Placed.field-0 c.in-Ok-Placed.field-0-is c.in-Ok-Placed.ensures.placed)) (subst (λ (v : Storage). AreBelow a.number v.objects) (sym c.self.view_is) c.requires.below) c.start.ensures
     ∙ ap (λ (v : Storage). v.objects ++ new_object a.number a.ty (replicate a.cells 0) (W.Allocated a.collection (W.InBlock a.spot.pool a.spot.address)) ∷ []) c.self.view_is)
@@ -62,7 +62,7 @@ returns-in-Ok-Placed-clause-pools c = λ x h.
     let a = c.args in
     let o = new_object a.number a.ty (replicate a.cells 0) (W.Allocated a.collection (W.InBlock a.spot.pool a.spot.address)) in
     let objects = returns-in-Ok-Placed-clause-objects c in
-    put_in a.number a.spot.pool a.spot.address x a.self.now (view_of c.put.new.self.values s.sizes.values c.occupy.new.store)
+    put_in a.number a.spot.pool a.spot.address x a.self.now (view_of c.put_new.new.self.values s.sizes.values c.occupy.new.store)
     (ap (λ (l : List Object). exists a.number l) objects ∙ newest_exists a.self.now.objects o)
     (λ m less. ap (λ (l : List Object). exists m l) objects ∙ exists_newest a.self.now.objects o m less)
     (ap (λ (v : Storage). v.sizes) c.self.view_is)
@@ -78,9 +78,9 @@ invariant_of-self-in-Ok-Refused c =
     let s = c.self.inside in
     let a = c.args in
     let below = subst (λ (v : Storage). AreBelow a.number v.objects) (sym c.self.view_is) c.requires.below in
-    subst (λ (m : Objects). AreStored m s.sizes.values c.unlist_object.new.located c.occupy.new.store) (sym c.reserve.ensures.values)
-    (subst (λ (t : Store). AreStored s.objects.values s.sizes.values c.unlist_object.new.located t) (sym (refused_then _ c.in-Ok-Refused.field-0 c.in-Ok-Refused.field-0-is c.in-Ok-Refused.ensures.refused))
-    (unlisted s.objects.values s.sizes.values s.located c.list_object.new.located c.unlist_object.new.located s.store a.number a.spot.pool (new_kept s.objects.values s.store a.number below) c.in_ok-list_object.ensures.ok c.unlist_object.ensures c.self.invariant))
+    subst (λ (m : Objects). AreStored m s.sizes.values c.unlist.new.self c.occupy.new.store) (sym c.reserve.ensures.values)
+    (subst (λ (t : Store). AreStored s.objects.values s.sizes.values c.unlist.new.self t) (sym (refused_then _ c.in-Ok-Refused.field-0 c.in-Ok-Refused.field-0-is c.in-Ok-Refused.ensures.refused))
+    (unlisted s.objects.values s.sizes.values s.located c.list.new.self c.unlist.new.self s.store a.number a.spot.pool (new_kept s.objects.values s.store a.number below) c.in_ok-list.ensures.ok c.unlist.ensures.gone c.self.invariant))
 
 pub returns-in-Ok-Refused-clause-answer : goal.returns-in-Ok-Refused-clause-answer
 returns-in-Ok-Refused-clause-answer c = λ next x h.
@@ -95,6 +95,17 @@ invariant_of-self-in-Err c =
     let s = c.self.inside in
     let a = c.args in
     let below = subst (λ (v : Storage). AreBelow a.number v.objects) (sym c.self.view_is) c.requires.below in
-    subst (λ (m : Objects). AreStored m s.sizes.values c.unlist_object-in-Err.new.located c.occupy.new.store) (sym c.reserve.ensures.values)
-    (subst (λ (t : Store). AreStored s.objects.values s.sizes.values c.unlist_object-in-Err.new.located t) (sym c.in-Err.ensures.err)
-    (unlisted s.objects.values s.sizes.values s.located c.list_object.new.located c.unlist_object-in-Err.new.located s.store a.number a.spot.pool (new_kept s.objects.values s.store a.number below) c.in_ok-list_object.ensures.ok c.unlist_object-in-Err.ensures c.self.invariant))
+    subst (λ (m : Objects). AreStored m s.sizes.values c.unlist-in-Err.new.self c.occupy.new.store) (sym c.reserve.ensures.values)
+    (subst (λ (t : Store). AreStored s.objects.values s.sizes.values c.unlist-in-Err.new.self t) (sym c.in-Err.ensures.err)
+    (unlisted s.objects.values s.sizes.values s.located c.list.new.self c.unlist-in-Err.new.self s.store a.number a.spot.pool (new_kept s.objects.values s.store a.number below) c.in_ok-list.ensures.ok c.unlist-in-Err.ensures.gone c.self.invariant))
+
+pub put_new-requires-clause-new : goal.put_new-requires-clause-new
+put_new-requires-clause-new c =
+    let s = c.self.inside in
+    ap (λ (m : Objects). get m c.args.number) c.reserve.ensures.values ∙ new_kept s.objects.values s.store c.args.number (subst (λ (v : Storage). AreBelow c.args.number v.objects) (sym c.self.view_is) c.requires.below)
+
+pub list-requires : goal.list-requires
+list-requires c = λ p.
+    let s = c.self.inside in
+    let n = c.args.number in
+    c.self.invariant.listed p n ∙ ap (lies_in p) (new_kept s.objects.values s.store n (subst (λ (v : Storage). AreBelow n v.objects) (sym c.self.view_is) c.requires.below))

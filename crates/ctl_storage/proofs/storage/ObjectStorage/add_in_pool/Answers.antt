@@ -11,7 +11,7 @@ use Rattle.ctl_storage.specs.declared.existing.Allocation.{Allocation}
 use Rattle.ctl_storage.specs.declared.existing.Place.TheVariants.{InBlock}
 use Rattle.ctl_storage.specs.Calls.{is_exhausted_at}
 use Rattle.ctl_storage.specs.Order.{AreBelow}
-use Rattle.ctl_storage.specs.Inside.{AreStored, seen, view_of}
+use Rattle.ctl_storage.specs.Inside.{AreStored, lies_in, seen, view_of}
 use Rattle.ctl_storage.specs.Storage.{ArePools, Storage, exists}
 use Rattle.ctl_storage.proofs.Calls.{exhausted_of}
 use Rattle.ctl_storage.proofs.InStore.{new_kept, new_number, seen_same, seen_with}
@@ -40,14 +40,14 @@ invariant_of-self-in-Ok-Some c =
     let s = c.self.inside in
     let a = c.args in
     let x : Allocation = record { ty = a.ty; collection = a.collection; place = InBlock (record { pool = a.pool; address = c.in-Ok-Some.address }); cells = a.cells; stage = c.start.result } in
-    let objects : c.put.new.self.values ≡ insert s.objects.values a.number x = c.put.ensures.values ∙ ap (λ (m : Objects). insert m a.number x) c.reserve.ensures.values in
+    let objects : c.put_new.new.self.values ≡ insert s.objects.values a.number x = c.put_new.ensures.values ∙ ap (λ (m : Objects). insert m a.number x) c.reserve.ensures.values in
     let below = subst (λ (v : Storage). AreBelow a.number v.objects) (sym c.self.view_is) c.requires.below in
     let served = some_then _ _ c.in-Ok-Some.field-0 c.in-Ok-Some.address c.in-Ok-Some.field-0-is c.in-Ok-Some.ensures.answer in
     let store : c.allocate_for.new.store ≡ S.hold_block a.pool (s.store.given + 1) a.number a.cells (S.take_block a.pool s.store) = served.2 ∙ ap (λ d. S.hold_block a.pool d a.number a.cells (S.take_block a.pool s.store)) served.1 in
-    subst (λ (m : Objects). AreStored m s.sizes.values c.list_object.new.located c.allocate_for.new.store) (sym objects)
-    (subst (λ (t : Store). AreStored (insert s.objects.values a.number x) s.sizes.values c.list_object.new.located t) (sym store)
-    (kept_served s.objects.values s.sizes.values s.located c.list_object.new.located s.store a.number a.pool x (new_kept s.objects.values s.store a.number below) (ap (λ d. InBlock (record { pool = a.pool; address = d })) served.1)
-    (subst (λ (v : Storage). IsSome (get v.blocks a.pool)) (sym c.self.view_is) c.requires.open) c.in_ok-list_object.ensures.ok c.self.invariant))
+    subst (λ (m : Objects). AreStored m s.sizes.values c.list.new.self c.allocate_for.new.store) (sym objects)
+    (subst (λ (t : Store). AreStored (insert s.objects.values a.number x) s.sizes.values c.list.new.self t) (sym store)
+    (kept_served s.objects.values s.sizes.values s.located c.list.new.self s.store a.number a.pool x (new_kept s.objects.values s.store a.number below) (ap (λ d. InBlock (record { pool = a.pool; address = d })) served.1)
+    (subst (λ (v : Storage). IsSome (get v.blocks a.pool)) (sym c.self.view_is) c.requires.open) c.in_ok-list.ensures.ok c.self.invariant))
 
 pub returns-in-Ok-Some-clause-answer : goal.returns-in-Ok-Some-clause-answer
 returns-in-Ok-Some-clause-answer c = λ next x h.
@@ -64,7 +64,7 @@ returns-in-Ok-Some-clause-objects c =
     let s = c.self.inside in
     let a = c.args in
     let x : Allocation = record { ty = a.ty; collection = a.collection; place = InBlock (record { pool = a.pool; address = c.in-Ok-Some.address }); cells = a.cells; stage = c.start.result } in
-    let objects : c.put.new.self.values ≡ insert s.objects.values a.number x = c.put.ensures.values ∙ ap (λ (m : Objects). insert m a.number x) c.reserve.ensures.values in
+    let objects : c.put_new.new.self.values ≡ insert s.objects.values a.number x = c.put_new.ensures.values ∙ ap (λ (m : Objects). insert m a.number x) c.reserve.ensures.values in
     let served = some_then _ _ c.in-Ok-Some.field-0 c.in-Ok-Some.address c.in-Ok-Some.field-0-is c.in-Ok-Some.ensures.answer in
     ap (λ (m : Objects). seen m c.allocate_for.new.store) objects
     ∙ (seen_with s.objects.values s.store c.allocate_for.new.store a.number x (ap (λ (t : Store). t.objects) served.2) (subst (λ (v : Storage). AreBelow a.number v.objects) (sym c.self.view_is) c.requires.below) c.start.ensures
@@ -81,7 +81,7 @@ returns-in-Ok-Some-clause-pools c = λ x h.
     let objects = returns-in-Ok-Some-clause-objects c in
     let v = view_of s.objects.values s.sizes.values s.store in
     let between = view_of s.objects.values s.sizes.values (S.take_block a.pool s.store) in
-    let t = view_of c.put.new.self.values s.sizes.values c.allocate_for.new.store in
+    let t = view_of c.put_new.new.self.values s.sizes.values c.allocate_for.new.store in
     let same : between.objects ≡ v.objects = seen_same s.objects.values s.store (S.take_block a.pool s.store) refl in
     let large = sym c.has_blocks_of.ensures ∙ c.if-not-has_blocks_of.false in
     let free : is_exhausted_at a.pool a.size x ≡ false =
@@ -104,9 +104,9 @@ invariant_of-self-in-Ok-None c =
     let a = c.args in
     let below = subst (λ (v : Storage). AreBelow a.number v.objects) (sym c.self.view_is) c.requires.below in
     let none = none_then _ _ c.in-Ok-None.field-0 c.in-Ok-None.field-0-is c.in-Ok-None.ensures.answer in
-    subst (λ (m : Objects). AreStored m s.sizes.values c.unlist_object.new.located c.allocate_for.new.store) (sym c.reserve.ensures.values)
-    (subst (λ (t : Store). AreStored s.objects.values s.sizes.values c.unlist_object.new.located t) (sym none.1)
-    (unlisted s.objects.values s.sizes.values s.located c.list_object.new.located c.unlist_object.new.located s.store a.number a.pool (new_kept s.objects.values s.store a.number below) c.in_ok-list_object.ensures.ok c.unlist_object.ensures c.self.invariant))
+    subst (λ (m : Objects). AreStored m s.sizes.values c.unlist.new.self c.allocate_for.new.store) (sym c.reserve.ensures.values)
+    (subst (λ (t : Store). AreStored s.objects.values s.sizes.values c.unlist.new.self t) (sym none.1)
+    (unlisted s.objects.values s.sizes.values s.located c.list.new.self c.unlist.new.self s.store a.number a.pool (new_kept s.objects.values s.store a.number below) c.in_ok-list.ensures.ok c.unlist.ensures.gone c.self.invariant))
 
 pub returns-in-Ok-None-clause-answer : goal.returns-in-Ok-None-clause-answer
 returns-in-Ok-None-clause-answer c = λ next x h.
@@ -122,6 +122,17 @@ invariant_of-self-in-Err c =
     let s = c.self.inside in
     let a = c.args in
     let below = subst (λ (v : Storage). AreBelow a.number v.objects) (sym c.self.view_is) c.requires.below in
-    subst (λ (m : Objects). AreStored m s.sizes.values c.unlist_object-in-Err.new.located c.allocate_for.new.store) (sym c.reserve.ensures.values)
-    (subst (λ (t : Store). AreStored s.objects.values s.sizes.values c.unlist_object-in-Err.new.located t) (sym c.in-Err.ensures.err)
-    (unlisted s.objects.values s.sizes.values s.located c.list_object.new.located c.unlist_object-in-Err.new.located s.store a.number a.pool (new_kept s.objects.values s.store a.number below) c.in_ok-list_object.ensures.ok c.unlist_object-in-Err.ensures c.self.invariant))
+    subst (λ (m : Objects). AreStored m s.sizes.values c.unlist-in-Err.new.self c.allocate_for.new.store) (sym c.reserve.ensures.values)
+    (subst (λ (t : Store). AreStored s.objects.values s.sizes.values c.unlist-in-Err.new.self t) (sym c.in-Err.ensures.err)
+    (unlisted s.objects.values s.sizes.values s.located c.list.new.self c.unlist-in-Err.new.self s.store a.number a.pool (new_kept s.objects.values s.store a.number below) c.in_ok-list.ensures.ok c.unlist-in-Err.ensures.gone c.self.invariant))
+
+pub put_new-requires-clause-new : goal.put_new-requires-clause-new
+put_new-requires-clause-new c =
+    let s = c.self.inside in
+    ap (λ (m : Objects). get m c.args.number) c.reserve.ensures.values ∙ new_kept s.objects.values s.store c.args.number (subst (λ (v : Storage). AreBelow c.args.number v.objects) (sym c.self.view_is) c.requires.below)
+
+pub list-requires : goal.list-requires
+list-requires c = λ p.
+    let s = c.self.inside in
+    let n = c.args.number in
+    c.self.invariant.listed p n ∙ ap (lies_in p) (new_kept s.objects.values s.store n (subst (λ (v : Storage). AreBelow n v.objects) (sym c.self.view_is) c.requires.below))

@@ -7,7 +7,7 @@ use Rattle.ctl_storage.proofs.Shown.{none_shown}
 use Rattle.ctl_storage.proofs.storage.ObjectStorage.new.Goals as goal
 
 pub invariant_of-result : goal.invariant_of-result
-invariant_of-result c = nothing_kept c.new.result.values c.new-2.result.values c.new-3.result c.new-4.result c.new.ensures.values c.new-3.ensures.empty c.new-4.ensures
+invariant_of-result c = nothing_kept c.new.result.values c.new-2.result.values c.new-3.result c.new-4.result c.new.ensures.values c.new-3.ensures.none c.new-4.ensures
 
 pub returns-clause-objects : goal.returns-clause-objects
 returns-clause-objects c = none_seen c.new.result.values c.new-4.result c.new.ensures.values

@@ -1,17 +1,20 @@
 use Rattle.std.proofs.Common.{sym, ap, ◌∙◌}
-use Rattle.std.specs.Prelude.{slice_get}
-use Rattle.std.specs.Option.{option_copied}
 use Rattle.std.specs.FinMap.{get}
-use Rattle.number_map.proofs.Tables.{get_is_lookup, same_value}
+use Rattle.number_map.specs.Newest.{all_of}
+use Rattle.number_map.proofs.Tables.{get_is_lookup}
+use Rattle.number_map.proofs.Apart.{own_apart, other_apart}
 use Rattle.number_map.proofs.map.NumberMap.get.Goals as goal
 
--- the entry stands at its index
-pub returns : goal.returns
-returns g c =
+pub returns-then-is_of : goal.returns-then-is_of
+returns-then-is_of g c =
+    let n = c.args.number in
+    let a = c.self.inside.newest in
     let es = c.self.inside.entries.entries in
-    let at = c.in_ok-index.ensures.found in
-    same_value (slice_get es c.in_ok-index.index) c.args.number at.value c.in-Some.field-0-0.now c.in-Some.value.now at.entry c.in-Some.ensures.entry ∙ (sym at.found ∙ (sym (get_is_lookup es c.args.number) ∙ ap (λ m. get m.values c.args.number) c.self.view_is))
+    c.value.ensures ∙ sym (own_apart a es n (sym c.is_of.ensures ∙ c.if-is_of.true)) ∙ sym (get_is_lookup (all_of a es) n) ∙ ap (λ m. get m.values n) c.self.view_is
 
--- there is none
-pub returns-in_err-index : goal.returns-in_err-index
-returns-in_err-index g c = ap option_copied c.from_residual.ensures ∙ (sym c.in_err-index.ensures.absent ∙ (sym (get_is_lookup c.self.inside.entries.entries c.args.number) ∙ ap (λ m. get m.values c.args.number) c.self.view_is))
+pub returns-else-is_of : goal.returns-else-is_of
+returns-else-is_of g c =
+    let n = c.args.number in
+    let a = c.self.inside.newest in
+    let es = c.self.inside.entries.entries in
+    c.value_among.ensures ∙ sym (other_apart a es n (sym c.is_of.ensures ∙ c.if-is_of.false)) ∙ sym (get_is_lookup (all_of a es) n) ∙ ap (λ m. get m.values n) c.self.view_is

@@ -1,12 +1,11 @@
-use Rattle.std.proofs.Common.{sym, ap, subst, ◌∙◌, ◌<◌}
-use Rattle.std.specs.FinMap.{insert}
-use Rattle.std.specs.HashMap.{spare}
-use Rattle.number_map.proofs.Tables.{put_is_insert, by_success}
+use Rattle.std.proofs.Common.{ap, ◌∙◌}
+use Rattle.std.specs.FinMap.{get, insert}
+use Rattle.number_map.proofs.Changes.{get_gone, insert_removed}
 use Rattle.number_map.proofs.map.NumberMap.put.Goals as goal
+
+pub put_new-requires-clause-new : goal.put_new-requires-clause-new
+put_new-requires-clause-new g c = ap (λ t. get t c.args.number) c.remove.ensures.values ∙ get_gone c.args.self.now.values c.args.number
 
 pub returns-clause-values : goal.returns-clause-values
 returns-clause-values g c =
-    let fits : 0 < spare c.self.inside.entries = subst (λ t. 0 < t.room) (sym c.self.view_is) c.requires in
-    put_is_insert c.self.inside.entries.entries c.insert.new.self.entries c.args.number c.args.value
-    (by_success c.insert.result _ (c.insert.ensures.succeeds fits) c.insert.ensures.updates).0
-    ∙ ap (λ t. insert t.values c.args.number c.args.value) c.self.view_is
+    c.put_new.ensures.values ∙ ap (λ t. insert t c.args.number c.args.value) c.remove.ensures.values ∙ insert_removed c.args.self.now.values c.args.number c.args.value

@@ -7,11 +7,12 @@ use Rattle.pool_area.specs.Blocks as area
 use Rattle.pool_area.specs.Blocks.{Blocks}
 use Rattle.pool_store.specs.declared.entry.Entry.{Entry}
 use Rattle.pool_store.specs.declared.entry.Entry.TheVariants.{InBlock}
-use Rattle.pool_store.specs.Entries.{BlockPool, pool_of, Ties}
+use Rattle.pool_store.specs.Entries.{BlockPool, pool_of, stored_in, Ties}
 use Rattle.pool_store.specs.Store as store
 use Rattle.pool_store.specs.Store.{Store}
 use Rattle.pool_store.proofs.Areas.{pool_here, no_pool_here, has_free, has_size}
 use Rattle.pool_store.proofs.Steps.{seen, on_err, not_out, holding_ties, holding_seen}
+use Rattle.number_map.proofs.Mapped.{unmapped}
 use Rattle.pool_store.proofs.block_store.BlockStore.allocate_for.Goals as goal
 
 pub unreachable-requires : goal.unreachable-requires
@@ -71,7 +72,7 @@ invariant_of-self-2 g c =
     let b = c.in-Some.area.now in
     let there = sym c.in-Some.ensures.value in
     let entry : Entry g.row.A.Denot = InBlock (record { pool = a.pool; address = s.given + 1 }) in
-    let put = c.put.ensures.values ∙ ap (λ t. insert t a.object entry) c.reserve.ensures.values in
+    let put = c.put_new.ensures.values ∙ ap (λ t. insert t a.object entry) c.reserve.ensures.values in
     let out = c.occupy.ensures ∙ ap (area.with_holder (s.given + 1) a.object (a.units / 8)) c.in_ok-allocate.ensures.ok in
     subst (λ o. Ties o (insert s.blocks.values a.pool c.occupy.new.self) (s.given + 1)) (sym put)
     (subst (λ d. Ties (insert s.objects.values a.object entry) (insert s.blocks.values a.pool d) (s.given + 1)) (sym out)
@@ -84,7 +85,7 @@ returns-clause-ok g c =
     let b = c.in-Some.area.now in
     let there = sym c.in-Some.ensures.value in
     let entry : Entry g.row.A.Denot = InBlock (record { pool = a.pool; address = s.given + 1 }) in
-    let put = c.put.ensures.values ∙ ap (λ t. insert t a.object entry) c.reserve.ensures.values in
+    let put = c.put_new.ensures.values ∙ ap (λ t. insert t a.object entry) c.reserve.ensures.values in
     let out = c.occupy.ensures ∙ ap (area.with_holder (s.given + 1) a.object (a.units / 8)) c.in_ok-allocate.ensures.ok in (
       sym c.is_exhausted.ensures ∙ c.if-is_exhausted.false,
       ap (λ v. v.given + 1) c.self.view_is,
@@ -93,3 +94,9 @@ returns-clause-ok g c =
           ∙ holding_seen s.objects.values s.blocks.values s.given c.self.invariant a.pool a.object (a.units / 8) b there
           ∙ ap (λ v. store.hold_block a.pool (s.given + 1) a.object (a.units / 8) (store.take_block a.pool v)) c.self.view_is,
     )
+
+pub put_new-requires-clause-new : goal.put_new-requires-clause-new
+put_new-requires-clause-new g c =
+    let s = c.self.inside in
+    let n = c.args.object in
+    ap (λ t. get t n) c.reserve.ensures.values ∙ unmapped (stored_in s.blocks.values) s.objects.values n (ap (λ (v : Store). get v.objects n) c.self.view_is ∙ c.requires.new)

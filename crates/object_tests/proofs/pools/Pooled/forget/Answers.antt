@@ -1,0 +1,10 @@
+use Rattle.std.proofs.Common.{List, subst, sym}
+use Rattle.std.specs.Prelude.{nat_eq, not}
+use Rattle.ctl_meaning.specs.World.{Object}
+use Rattle.ctl_objects.proofs.Conditions.{AreNumbered, numbered_kept}
+use Rattle.object_tests.proofs.pools.Pooled.forget.Goals as goal
+
+pub invariant_of-self : goal.invariant_of-self
+invariant_of-self c =
+    let s = c.self.inside in
+    subst (λ (l : List Object). AreNumbered s.next 1 l) (sym c.forget.ensures.objects) (numbered_kept s.next 1 (λ o. not (nat_eq o.number c.args.number)) s.objects.objects c.self.invariant)

@@ -1,0 +1,9 @@
+//! Tests the crates that keep allocated and declared objects, each through its public calls.
+#![tactic(auto)]
+
+#[cfg(test)]
+mod objects;
+#[cfg(test)]
+mod pools;
+#[cfg(test)]
+mod storage;

@@ -1,0 +1,128 @@
+//! The numbers with their owners.
+
+ghost use Rattle.std.specs.Prelude.{◌≡◌, ℕ, ◌+◌, ◌<◌, ◌^◌, IfNone, IfSome, None, OnErr, OnOk, Some, false, true, if◌then◌else◌};
+ghost use Rattle.owned_numbers.specs.Owned.{IsApart, OwnsAs, is_pair, owns, with_newest};
+
+use crate::others::Others;
+use std::alloc::{AllocError, Global};
+use std::marker::Model;
+
+/// Which numbers belong to which owner. Each call takes constant time on average.
+///
+/// The number that came last stands apart from the others, with its owner: one that is taken back
+/// before the next comes is never hashed, and takes no memory.
+#[derive(Drop)]
+pub struct OwnedNumbers {
+    newest: Option<(u64, u64)>,
+    others: Others,
+}
+
+impl Model for OwnedNumbers {
+    ghost use Rattle.owned_numbers.specs.Owned.{IsApart, Owned, owned_code, with_newest};
+
+    ghost Value = { Owned };
+
+    ghost coded = { owned_code };
+
+    ghost view = { λ m. with_newest m.newest m.others };
+
+    ghost invariant = { λ m. IsApart m.newest m.others };
+}
+
+impl OwnedNumbers {
+    /// Makes no number. Takes no memory.
+    pub fn new(alloc: Global) -> OwnedNumbers
+        ensures none { (p n : ℕ) → owns p n result ≡ false }
+        ensures size { result.size ≡ 0 }
+    {
+        OwnedNumbers {
+            newest: None,
+            others: Others::new(alloc),
+        }
+    }
+
+    /// Says that the numbers are not too many to be counted.
+    pub fn are_few(&self)
+        ensures { self.now.size < 2 ^ 63 }
+    {
+        self.others.are_few();
+    }
+
+    /// Lists a number that has no owner for one.
+    ///
+    /// # Errors
+    ///
+    /// `AllocError` where the allocator refuses the memory. Nothing changes then.
+    pub fn list(&mut self, owner: u64, number: u64) -> Result<(), AllocError>
+        requires { (p : ℕ) → owns p number self.old ≡ false }
+        ensures ok { OnOk result (OwnsAs true owner number self.old self.new) }
+        ensures size { OnOk result (self.new.size ≡ self.old.size + 1) }
+        ensures err { OnErr result (self.new ≡ self.old) }
+    {
+        file(self.newest, &mut self.others)?;
+        self.newest = Some((owner, number));
+        Ok(())
+    }
+
+    /// Takes a number from those of an owner, where it has it.
+    pub fn unlist(&mut self, owner: u64, number: u64)
+        ensures gone { OwnsAs false owner number self.old self.new }
+        ensures size { self.new.size + (if owns owner number self.old then 1 else 0) ≡ self.old.size }
+    {
+        if is_pair(self.newest, owner, number) {
+            self.newest = None;
+        } else {
+            self.others.unlist(owner, number);
+        }
+    }
+
+    /// Returns some number of an owner, or `None` if it has none.
+    pub fn any_of(&self, owner: u64) -> Option<u64>
+        ensures some { IfSome result (λ n. owns owner n self.now ≡ true) }
+        ensures none { IfNone result ((n : ℕ) → owns owner n self.now ≡ false) }
+    {
+        match number_of(self.newest, owner) {
+            Some(number) => Some(number),
+            None => self.others.any_of(owner),
+        }
+    }
+}
+
+/// Returns whether the pair apart is this one.
+#[inline(always)]
+fn is_pair(newest: Option<(u64, u64)>, owner: u64, number: u64) -> bool
+    ensures { result ≡ is_pair owner number newest }
+{
+    match newest {
+        Some((own, last)) => own == owner && last == number,
+        None => false,
+    }
+}
+
+/// Returns the number of the pair apart, where it has this owner.
+#[inline(always)]
+fn number_of(newest: Option<(u64, u64)>, owner: u64) -> Option<u64>
+    ensures some { IfSome result (λ n. newest ≡ Some (owner, n)) }
+    ensures none { IfNone result ((n : ℕ) → is_pair owner n newest ≡ false) }
+{
+    match newest {
+        Some((own, number)) if own == owner => Some(number),
+        _ => None,
+    }
+}
+
+/// Puts the number that stood apart, where there is one, among the others.
+///
+/// # Errors
+///
+/// `AllocError` where the allocator refuses the memory. Nothing changes then.
+fn file(newest: Option<(u64, u64)>, others: &mut Others) -> Result<(), AllocError>
+    requires { IsApart newest others.old }
+    ensures ok { OnOk result (others.new ≡ with_newest newest others.old) }
+    ensures err { OnErr result (others.new ≡ others.old) }
+{
+    match newest {
+        Some((owner, number)) => others.list(owner, number),
+        None => Ok(()),
+    }
+}
