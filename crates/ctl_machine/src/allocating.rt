@@ -164,6 +164,7 @@ impl Engine {
     /// Finds the collection of an access type where that is seen, for which an object of a record type is allocated, and answers its number;
     /// else what comes next: where the finalization of the collection has started, an object with a controlled part is not allocated, and
     /// Program_Error is raised (RM 4.8); where the collection is gone, the program is erroneous (RM 13.11.2).
+    #[inline(always)]
     pub(crate) fn set_for(&self, code: &Code, access: usize, record: usize) -> Result<u64, Mode>
         ghost s: { State }
         requires holds { Holds code.now (kept self.now) s.control s.operands s.world }
@@ -182,6 +183,7 @@ impl Engine {
 
     /// Lets the object of a record type that was allocated last, for the collection of this number, begin, for which there is room: its
     /// components are to begin (RM 4.8, 7.6). Its allocator goes on at this place.
+    #[inline(always)]
     fn begin_member(&mut self, code: &Code, set: u64, record: usize, place: usize)
         ghost t: { Member }
         requires added { IsAdded code.now self.old set «record» place t }
@@ -271,6 +273,7 @@ impl Engine {
     /// Allocates an object of a record type for the collection of this number, with storage of the pool of an access type (RM 4.8, 13.11): it
     /// is created, and its components are to begin (RM 7.6); or the Allocate is called that the user wrote for the type of the pool. Where
     /// there is no storage, Storage_Error is raised, or the program is erroneous (RM 13.11.2). Unchanged where memory is refused.
+    #[inline(always)]
     fn create_member(
         &mut self,
         code: &Code,
@@ -388,6 +391,7 @@ impl Engine {
     /// Goes on at this place behind the creation of the allocated object of this number, which has ended so: the object joins its collection
     /// and is the newest operand, or it is gone and the exception is raised (RM 4.8). Where it has ceased to be a new one, the program is
     /// erroneous (RM 13.11.2).
+    #[inline(always)]
     pub(crate) fn end_allocation(&mut self, code: &Code, ended: Ended, object: u64, place: usize)
         ghost s: { State }
         requires valid { IsValid code.now }

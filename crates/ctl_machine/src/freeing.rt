@@ -276,6 +276,7 @@ impl Engine {
     }
 
     /// Frees an object by an instruction (RM 13.11.2): it is finalized, if it is still to be, and its frame waits for that. There is room.
+    #[inline(always)]
     fn release(&mut self, code: &Code, access: usize, release: Release, doubles: Doubles)
         ghost t: { Freed }
         requires valid { IsValid code.now }
@@ -471,6 +472,7 @@ impl Engine {
 
     /// Gives back the storage of an object that is gone, and goes on behind its freeing (RM 13.11.2); there is room for the call of a
     /// Deallocate.
+    #[inline(always)]
     fn return_storage(&mut self, code: &Code, ending: Ending)
         ghost t: { Gone }
         requires valid { IsValid code.now }

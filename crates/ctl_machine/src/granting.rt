@@ -138,6 +138,7 @@ impl Engine {
     }
 
     /// Answers who grants storage to the allocators of an access type, where it is seen (RM 13.11).
+    #[inline(always)]
     pub(crate) fn grantor(&self, code: &Code, access: usize) -> Grantor
         ghost s: { State }
         requires holds { Holds code.now (kept self.now) s.control s.operands s.world }
@@ -216,6 +217,7 @@ impl Engine {
     /// 13.11), and reserves room for two frames that wait for it and for the part that it is. Answers what comes next where there is no
     /// storage: Storage_Error is raised where the pool is exhausted; where the pool is gone, the program is erroneous (RM 13.11.2), and so it
     /// counts where an Allocate of the user's is to be asked. Unchanged then, and where memory is refused.
+    #[inline(always)]
     pub(crate) fn add_member(
         &mut self,
         code: &Code,

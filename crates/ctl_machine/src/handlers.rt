@@ -51,6 +51,7 @@ impl Engine {
     }
 
     /// Begins the statements of the newest master whose exceptions go to its handlers, behind so many instructions (RM 11.2).
+    #[inline(always)]
     pub(crate) fn handle(&mut self, code: &Code, length: usize, place: usize)
         ghost s: { State }
         requires before { Before code.now self.old place (InstrOf.Handle length) s }

@@ -134,6 +134,7 @@ impl Engine {
 
     /// Goes on with the newest part, of which no component is left that is to begin: it is initialized if it is controlled (RM 7.6);
     /// unchanged where memory is refused.
+    #[inline(always)]
     pub(crate) fn initialize(&mut self, code: &Code, creation: Creation) -> Result<(), AllocError>
         ghost t: { Grown }
         requires valid { IsValid code.now }
