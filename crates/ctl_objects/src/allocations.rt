@@ -289,6 +289,7 @@ impl Allocations {
     }
 
     /// Answers what is known of an object beside its cells.
+    #[inline(always)]
     pub fn find(&self, number: u64) -> Option<Existing>
         ensures { IsKnown number result self.now.objects }
     {
@@ -480,6 +481,7 @@ impl Allocations {
     }
 
     /// Answers the discriminants of a pool, and whether it is open.
+    #[inline(always)]
     pub fn pool(&self, number: u64) -> Option<Pool>
         ensures known { IsPoolOf number result (storage_of self.now) }
         ensures shown { (next : ℕ) (x : W.Pools) → ArePools next x (storage_of self.now) → result ≡ option_map pool_of (block_pool_at number x) }

@@ -253,6 +253,7 @@ impl Declarations {
     }
 
     /// Answers what is known of an object beside its cells.
+    #[inline(always)]
     pub fn find(&self, number: u64) -> Option<Existing>
         ensures { IsKnown number result self.now }
     {

@@ -72,6 +72,7 @@ impl Groups {
     /// # Errors
     ///
     /// `AllocError` where the allocator refuses the memory. No object is added then.
+    #[inline(always)]
     pub(crate) fn add(
         &mut self,
         needs: &[Need],
@@ -105,6 +106,7 @@ impl Groups {
     }
 
     /// Takes an object out, in the same time.
+    #[inline(always)]
     pub(crate) fn leave(&mut self, needs: &[Need], number: u64, object: &Allocation)
         requires { Has needs.now number (known number object.now) self.old }
         ensures { Moves needs.now number (Some (known number object.now)) None self.old self.new }

@@ -123,6 +123,8 @@ impl Objects {
 
     /// Answers what is known of an object beside its cells, where it exists. It takes the time to
     /// find the object.
+    // Inlined, so that nothing is made of it that the caller does not read.
+    #[inline(always)]
     pub fn find(&self, number: u64) -> Option<Existing>
         ensures { IsKnown number result self.now.objects }
     {
@@ -281,6 +283,7 @@ impl Objects {
         self.step(number, Step::Join);
     }
 
+    #[inline(always)]
     fn step(&mut self, number: u64, step: Step)
         ensures objects { self.new.objects ≡ change_in number (with_step step) self.old.objects }
         ensures needs { self.new.needs ≡ self.old.needs }
@@ -465,6 +468,7 @@ impl Objects {
     }
 
     /// Answers the discriminants of a pool, and whether it is open.
+    #[inline(always)]
     pub fn pool(&self, number: u64) -> Option<Pool>
         ensures known { IsPoolOf number result (storage_of self.now) }
         ensures shown { (next : ℕ) (x : W.Pools) → ShowsPools next x self.now → exists number self.now.objects ≡ true → result ≡ option_map pool_of (block_pool_at number x) }
@@ -501,6 +505,7 @@ impl Objects {
 
     /// Gives a block back to an open pool whose object exists (RM 13.11): where it is out under the
     /// address and holds no object. It answers whether that is so; nothing changes where it is not.
+    #[inline(always)]
     pub fn give_block(&mut self, pool: u64, address: u64) -> BlockReturn
         requires open { IsOpen pool (storage_of self.old) }
         requires exists { is_some (object_in pool self.old.objects) ≡ true }

@@ -293,6 +293,7 @@ impl ObjectStorage {
     }
 
     /// Answers what is known of an object beside the values of its cells, and so where it lies.
+    #[inline(always)]
     pub fn find(&self, number: u64) -> Option<Allocation>
         ensures { IsKnown number result self.now.objects }
     {
@@ -359,6 +360,7 @@ impl ObjectStorage {
     }
 
     /// Answers the discriminants of a pool, and whether it is open.
+    #[inline(always)]
     pub fn pool(&self, number: u64) -> Option<Pool>
         ensures known { IsPoolOf number result self.now }
         ensures shown { (next : ℕ) (x : W.Pools) → ArePools next x self.now → result ≡ option_map pool_of (block_pool_at number x) }

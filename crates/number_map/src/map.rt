@@ -190,6 +190,7 @@ impl<V, A: Allocator> NumberMap<V, A> {
     }
 
     /// Inserts a value for this number, which has none yet and for which there is room.
+    #[inline(always)]
     pub fn put_new(&mut self, number: u64, value: V)
         requires room { 0 < self.old.room }
         requires new { map.get self.old.values number ≡ None }
@@ -204,6 +205,7 @@ impl<V, A: Allocator> NumberMap<V, A> {
     }
 
     /// Removes the value of this number and returns it, or returns `None` if it has none.
+    #[inline(always)]
     pub fn remove(&mut self, number: u64) -> Option<V>
         ensures value { result ≡ map.get self.old.values number }
         ensures values { self.new.values ≡ map.remove self.old.values number }

@@ -53,6 +53,7 @@ impl OwnedNumbers {
     /// # Errors
     ///
     /// `AllocError` where the allocator refuses the memory. Nothing changes then.
+    #[inline(always)]
     pub fn list(&mut self, owner: u64, number: u64) -> Result<(), AllocError>
         requires { (p : ℕ) → owns p number self.old ≡ false }
         ensures ok { OnOk result (OwnsAs true owner number self.old self.new) }
@@ -65,6 +66,7 @@ impl OwnedNumbers {
     }
 
     /// Takes a number from those of an owner, where it has it.
+    #[inline(always)]
     pub fn unlist(&mut self, owner: u64, number: u64)
         ensures gone { OwnsAs false owner number self.old self.new }
         ensures size { self.new.size + (if owns owner number self.old then 1 else 0) ≡ self.old.size }

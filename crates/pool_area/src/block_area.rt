@@ -60,6 +60,7 @@ impl<A: Allocator + Copy> BlockArea<A> {
     }
 
     /// Takes a free block out, under this address.
+    #[inline(always)]
     pub fn allocate(&mut self, address: u64) -> Result<(), AllocError>
         requires free { 0 < self.old.free }
         requires new { get self.old.out address ≡ None }

@@ -441,6 +441,7 @@ impl<A: Allocator> PoolStore<A> {
     }
 
     /// Returns whether a pool of this number is open.
+    #[inline(always)]
     pub fn is_open(&self, pool: u64) -> bool
         ensures { result ≡ is_open pool self.now }
     {
