@@ -42,7 +42,7 @@ use Rattle.ctl_code.specs.declared.kinds.Kind.{Kind}
 use Rattle.ctl_code.specs.declared.kinds.Kind.TheVariants.{Operand}
 use Rattle.ctl_code.specs.States.{Move, Word, Scalar, Located, Complete, Point, After, AfterFunction, AfterProcedure, ByAllocator, Frame, Creating, Filling, State, whole_spot}
 use Rattle.ctl_code.specs.Table as Table
-use Rattle.ctl_code.specs.Table.{AllocateOf, Exhausted, Grant, Granted, Here, NotPassed, Passed, Test, UnknownPool, address_test, begun_of, come_to_life, first_value, grant, is_refused, joins, newborn, operation_for, operation_of, own_grant, pool_in, set_seen, size_of as code_size, units_of, with_member}
+use Rattle.ctl_code.specs.Table.{AllocateOf, Exhausted, Grant, Granted, Here, NotPassed, Passed, Test, UnknownPool, address_test, begun_of, come_to_life, first_value, grant, is_refused, joins, newborn, operation_for, operation_of, own_grant, pool_in, set_seen, size_of as code_size, units_of, with_member, is_made_at_once, parts_of}
 use Rattle.ctl_code.proofs.Storage.{OnGrant, granted_keeps}
 use Rattle.ctl_code.specs.Steps.{moved, step}
 use Rattle.ctl_code.specs.Valid.{IsAllocable, IsDeclarable, storage_formals}
@@ -58,7 +58,7 @@ use Rattle.ctl_gen.proofs.Parted.{GivesDefaults}
 use Rattle.ctl_gen.proofs.Collections.{found_number, home, of_gathered}
 use Rattle.ctl_gen.proofs.Worlds.{Fits, IsNoCopy, IsPlainSlot, Settled, Since, allocated_there, keeps_itself, no_copy_at, object_fits, origin_nested, since_allocate, since_forget, since_granted, since_join, since_on, still_of}
 use Rattle.ctl_gen.proofs.Scopes.{allocate_in, type_inside}
-use Rattle.ctl_gen.proofs.CreatedParts.{IsAround, parts_run}
+use Rattle.ctl_gen.proofs.CreatedParts.{IsAround, parts_run, at_once_is}
 use Rattle.ctl_gen.proofs.Allocable.{may_allocate}
 use Rattle.ctl_gen.proofs.Setting.{Setting, Allocates, Calls, IsSeen, IsServed, MayAllocate, Told, allocator_steps, allocator_takes, behind_allocator, by_allocator, enter_shows, returned_to, returns, tools_with}
 use Rattle.ctl_gen.proofs.Cells.{Any, OneCell, by_code, here, landed, landed_leaves}
@@ -71,7 +71,7 @@ use Rattle.ctl_gen.proofs.Parts.{given_by}
 use Rattle.ctl_gen.proofs.Begun.{OnTime, Starts}
 use Rattle.ctl_gen.proofs.Walked.{start_of}
 use Rattle.ctl_gen.proofs.TakenValues as T
-use Rattle.ctl_gen.proofs.Follow.{RunsTo, add_none, at, bind_add, bind_bind, both_to, by_raise, gives, last_step_to, no_step_to, one_step_to, stop_step_to, transferred, way_of, within_to}
+use Rattle.ctl_gen.proofs.Follow.{RunsTo, add_none, at, bind_add, bind_bind, both_to, by_raise, gives, last_step_to, no_step_to, one_step_to, stop_step_to, transferred, way_of, within_to, added_to}
 
 -- the object that is found has the number that was looked for
 found_object : (n : ℕ) (w : World) (o : Object) → object_at n w ≡ Some o → o.number ≡ n
@@ -426,13 +426,13 @@ module _ (ask : Ask) (k : Tables) (code : Code) (setting : Setting k code) (call
 
     -- the step of the creation, for a collection that is there
     abbrev creates : Option (List ℕ) → ℕ → Place → Point → List Frame → World → Move
-    creates None set place p ks w = Table.begin_part code (newborn w.ledger.next_object t (OwnerOf.Collection set)) (Creating ByAllocator w.ledger.next_object t p ∷ ks) (with_member code set t place w)
+    creates None set place p ks w = Table.create_object code ByAllocator (newborn w.ledger.next_object t (OwnerOf.Collection set)) p ks (with_member code set t place w)
     creates (Some v) set place p ks w = Table.take_value code ByAllocator (newborn w.ledger.next_object t (OwnerOf.Collection set)) v (object_at w.ledger.next_object (with_member code set t place w)) p ks (with_member code set t place w)
 
     -- the creation, from that step
     created_runs : (value : Option (List ℕ)) (set : ℕ) (x : Collection) (place : Place) (p : Point) (ks : List Frame) (s0 : State) (c0 c : ℕ) (l : Log) (w : World) → c ≤ bound → c ≤ c0 → c0 ≤ c + 1 → MayStand set x w → Since k code w0 w → step ask code s0 ≡ moved l (creates value set place p ks w)
         → Gets 6 (allocator_steps value) s0 c0 p ks (bind (created K set (Record t) value place c l w) (on_goes completed))
-    unfolding birth_of owner_of
+    unfolding birth_of owner_of opened_outcome
     created_runs value set x place p ks s0 c0 c l w le lo hi may fits first = subst (Gets 6 (allocator_steps value) s0 c0 p ks) (sym (created_is value set place c l w)) (by value first)
       where
         n : ℕ
@@ -444,14 +444,26 @@ module _ (ask : Ask) (k : Tables) (code : Code) (setting : Setting k code) (call
         fits1 : Since k code w0 w1
         fits1 = member_fits set x place w may fits
 
-        by : (v : Option (List ℕ)) → step ask code s0 ≡ moved l (creates v set place p ks w) → Gets 6 (allocator_steps v) s0 c0 p ks (bind (begins v set place c l w) (stands n))
-        by None go =
+        -- without a value, where something is executed for its creation
+        fills_runs : step ask code s0 ≡ moved l (Table.begin_part code (newborn n t (OwnerOf.Collection set)) (Creating ByAllocator n t p ∷ ks) w1) → Gets 6 (allocator_steps None) s0 c0 p ks (bind (begins None set place c l w) (stands n))
+        fills_runs go =
             let mid = Creating ByAllocator n t p ∷ ks in
             let s1 = gives (Filling (newborn n t (OwnerOf.Collection set)) (begun_of code t) (begun_of code t) ∷ mid) (Fine Complete) l w1 in
             one_step_to ask code (Allocates k code w0) 5 6 6 7 s0 s1 c0 c (returned_to (AfterFunction p) ks) (bind (begins None set place c l w) (stands n)) (omega arith) (omega arith) lo hi go
             (both_to ask code (λ r v. Told k code w1 (way_of r) v) (Allocates k code w0) 3 3 1 3 5 6 s1 c (returns mid) (returned_to (AfterFunction p) ks) (begins None set place c l w) (stands n) (omega arith) (omega arith) (omega arith)
             (parts_run ask k code setting call default constants bound calls (suc (length k.records)) t (let within = slice_get_within k.records t plain.0 plain.1 in omega (arith, within)) plain (whole_spot n) (OwnerOf.Collection set) (birth_of (Allocated set place) w) refl w1 fits1.0 (member_around set place w fits fits1) mid c l w1 le (fits1.0, keeps_itself k code w1))
             (λ r c1 l1 w2 lo1 told1. stands_runs w1 n p ks fits1 r c1 l1 w2 told1))
+
+        empty : (once : Bool) → is_made_at_once (parts_of code t) (begun_of code t) ≡ once
+            → step ask code s0 ≡ moved l (if once then come_to_life ByAllocator n (object_at n w1) p ks w1 else Table.begin_part code (newborn n t (OwnerOf.Collection set)) (Creating ByAllocator n t p ∷ ks) w1)
+            → Gets 6 (allocator_steps None) s0 c0 p ks (bind (begins None set place c l w) (stands n))
+        empty true is go =
+            subst (λ o. Gets 6 (allocator_steps None) s0 c0 p ks (bind o (stands n))) (sym (at_once_is ask k code setting call default constants bound calls (length k.records) (birth_of (Allocated set place) w) (whole_spot n) t c l w1 plain is))
+            (added_to ask code (Allocates k code w0) 0 1 3 6 (allocator_steps None) s0 c0 (returned_to (AfterFunction p) ks) (stands n (Goes tt) c l w1) (omega arith) (omega arith) (lives_on n p ks s0 c0 c l w1 lo hi fits1 go))
+        empty false is go = fills_runs go
+
+        by : (v : Option (List ℕ)) → step ask code s0 ≡ moved l (creates v set place p ks w) → Gets 6 (allocator_steps v) s0 c0 p ks (bind (begins v set place c l w) (stands n))
+        by None go = empty (is_made_at_once (parts_of code t) (begun_of code t)) refl go
         by (Some v) go =
             T.taken_runs ask k code setting call default constants bound calls t plain ByAllocator n (OwnerOf.Collection set) (birth_of (Allocated set place) w) refl p ks w1 fits1.0 (member_around set place w fits fits1) (Allocates k code w0) (returned_to (AfterFunction p) ks) (stands n)
             (λ s1 d0 d l1 w2 lo1 hi1 fits2 go1. lives_on n p ks s1 d0 d l1 w2 lo1 hi1 (since_on k code w0 w1 w2 fits1 fits2) go1)

@@ -27,7 +27,7 @@ use Rattle.ctl_code.specs.declared.code.Parts.{Parts}
 use Rattle.ctl_code.specs.declared.code.Parts.TheVariants.{Plain, Within, Controlled}
 use Rattle.ctl_code.specs.States.{Complete, Giving, AfterBody, Frame, Newborn, Filling, Initializing, State}
 use Rattle.ctl_code.specs.Table as Table
-use Rattle.ctl_code.specs.Table.{begun_in, begun_of, birth, complete_of, completed, component_of, controlled_of, fail, initialize_by, initialize_own, is_one_of, operation_of, part_at, parts_of, showing, take_default}
+use Rattle.ctl_code.specs.Table.{begun_in, begun_of, birth, complete_of, completed, component_of, controlled_of, fail, initialize_by, initialize_own, is_one_of, operation_of, part_at, parts_of, showing, take_default, is_made_at_once}
 use Rattle.ctl_code.specs.Steps.{moved, step, stepped}
 use Rattle.ctl_code.specs.Valid.{AreBegunBy, IsBegunBy, IsDeclarable, IsValid, PositionsRise}
 use Rattle.ctl_code.proofs.Declarable.{layout_of}
@@ -215,6 +215,21 @@ module _ (ask : Ask) (k : Tables) (code : Code) (setting : Setting k code) (call
   unfolding own_initialize begun begun_with opened_outcome
   none_is born s t paths c l w free =
       ap (λ b. bind (either b (attempt (call_operation K s (operation (λ x. x.initialize) k t) (EventOf.Initialize (part_of s))) >>= begin_next paths begun_with []) (begun_with paths) c l w) (on_goes (λ x. on_some x.failure (when b (lives K born s t)) (clean_up K s t x.paths)))) free
+
+  -- nothing is executed for a part of a type whose objects are made at once
+  pub at_once_is : (m : ℕ) (born : Birth) (s : Spot) (t c : ℕ) (l : Log) (w : World) → IsPlainType k (Record t) → is_made_at_once (parts_of code t) (begun_of code t) ≡ true → initialize_part K born (suc m) s t c l w ≡ Gives (Goes tt) 0 c l w
+  unfolding opened_outcome
+  at_once_is m born s t c l w plain once = part_is m born s t c l w ∙ by (initialized_parts k t) (begun_of code t) (parts_of code t) agrees.begun agrees.itself once
+    where
+      agrees : AgreesOn k code default t
+      agrees = setting.agrees default constants t plain
+
+      by : (left : List Placed) (items : List Begun) (q : Parts) → AreBegun k default t left items → is_controlled k t ≡ is_itself q → is_made_at_once q items ≡ true → bind (each m born s t (length left) left [] c l w) (after born s t) ≡ Gives (Goes tt) 0 c l w
+      by [] [] Plain are itself once = each_over m born s t c [] [] l w ∙ ap (add 0) (none_is born s t [] c l w itself)
+      by (p ∷ ps) [] Plain are itself once = absurd are
+      by left (b ∷ bs) Plain are itself once = absurd (let bad : false ≡ true = once in cc)
+      by left items Within are itself once = absurd (let bad : false ≡ true = once in cc)
+      by left items Controlled are itself once = absurd (let bad : false ≡ true = once in cc)
 
   -- what follows it where it raised nothing, and where it raised
   own_done : (born : Birth) (s : Spot) (t : ℕ) (paths : List (List ℕ)) (c : ℕ) (l : Log) (w : World) → own_then born s t paths (Goes tt) c l w ≡ add 0 (alive (operation (λ x. x.finalize) k t) born s c l w)

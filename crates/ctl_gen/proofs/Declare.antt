@@ -16,7 +16,7 @@ use Rattle.ctl_meaning.specs.Outcome.{ByRaise, Result, Goes, Leaves, Out, Gives,
 use Rattle.ctl_meaning.specs.Types.{Tables, Composite, begin_cells, cells_of, depth, of_record}
 use Rattle.ctl_meaning.specs.Names.{Call, Default, Tools, gone, existing, must_exist}
 use Rattle.ctl_meaning.specs.Finalization.{whole}
-use Rattle.ctl_meaning.specs.Adjustment.{birth_of}
+use Rattle.ctl_meaning.specs.Adjustment.{birth_of, Birth}
 use Rattle.ctl_meaning.specs.Initialization.{initialize, initialize_part, fill}
 use Rattle.ctl_meaning.specs.Masters.{declare}
 use Rattle.ctl_code.specs.declared.code.Instr.TheVariants as InstrOf
@@ -24,7 +24,7 @@ use Rattle.ctl_code.specs.declared.code.Code.{Code}
 use Rattle.ctl_code.specs.States.{Word, Complete, Point, ByDeclaration, Frame, Creating, Filling, State, whole_spot}
 use Rattle.ctl_code.specs.declared.kinds.Kind.{Kind}
 use Rattle.ctl_code.specs.Valid.{IsDeclarable}
-use Rattle.ctl_code.specs.Table.{begun_of, come_to_life, size_of, with_object}
+use Rattle.ctl_code.specs.Table.{begun_of, come_to_life, size_of, with_object, is_made_at_once, parts_of, begin_part}
 use Rattle.ctl_code.specs.Steps.{moved, step}
 use Rattle.ctl_gen.proofs.Known.{IsPlain}
 use Rattle.ctl_gen.proofs.Parted.{GivesDefaults}
@@ -32,11 +32,11 @@ use Rattle.ctl_gen.proofs.Each.{Each}
 use Rattle.ctl_gen.proofs.Collections.{home}
 use Rattle.ctl_gen.proofs.Worlds.{Since, Kept, keeps_itself, keeps_on, since_create, since_slot, since_layer}
 use Rattle.ctl_gen.proofs.Scopes.{type_inside}
-use Rattle.ctl_gen.proofs.CreatedParts.{IsAround, new_part, parts_run}
+use Rattle.ctl_gen.proofs.CreatedParts.{IsAround, new_part, parts_run, at_once_is}
 use Rattle.ctl_gen.proofs.Setting.{Setting, tools_with, returns, Told, Sees, Calls}
 use Rattle.ctl_gen.proofs.Cells.{by_code}
 use Rattle.ctl_gen.proofs.Place.{Laid}
-use Rattle.ctl_gen.proofs.Follow.{by_raise, gives, way_of, Runs, add_none, bind_bind, both, end_step, no_step, one_step, Target, at, arrives, stop_step}
+use Rattle.ctl_gen.proofs.Follow.{by_raise, gives, way_of, Runs, add_none, bind_bind, both, end_step, no_step, one_step, Target, at, arrives, stop_step, added}
 
 -- the newest object is found by its number
 found_newest : (n : ℕ) (os : List Object) (x : Object) → Each (λ o. o.number < n) os → x.number ≡ n → first_with (λ o. nat_eq o.number n) (os ++ x ∷ []) ≡ Some x
@@ -127,18 +127,49 @@ module _ (ask : Ask) (k : Tables) (code : Code) (setting : Setting k code) (call
     -- a declaration: its operations are in scope, as the code is well formed
     pub declare_runs : (slot : ℕ) (e : Target) (s : List Kind) (w0 : World) (d : List ℕ) (place : ℕ) (ks : List Frame) (ops : List Word) (c : ℕ) (l : Log) (w : World) → c ≤ bound → Since k code w0 w → Sees d s w0 → Laid code place ((InstrOf.Declare slot t, s) ∷ [])
         → Runs ask code (Kept k code w0) 5 7 (at d place ks ops l w) c (arrives e d (place + 1) ks ops) (declare Composite K (last_of d) slot (Record t) None c l w)
-    unfolding birth_of owner_of
+    unfolding birth_of owner_of opened_outcome
     declare_runs slot e s w0 d place ks ops c l w le fits sees has =
-        let n = w.ledger.next_object in
-        let p : Point = record { display = d; place = place + 1; operands = ops } in
-        let w1 = with_object code d slot t w in
-        let fits1 = created_fits slot s w0 d w (subst (λ x. IsDeclarable code x t) (sym sees.long) (setting.valid.each place (InstrOf.Declare slot t) s has.0 has.1).0) fits sees in
-        let born = birth_of (Declared (last_of d)) w in
-        let mid = Creating ByDeclaration n t p ∷ ks in
-        let s1 = gives (Filling (new_part (whole_spot n) t (OwnerOf.Master (last_of d))) (begun_of code t) (begun_of code t) ∷ mid) (Fine Complete) l w1 in
-        let created = initialize_part K born (suc (length k.records)) (whole_spot n) t c l w1 in
-        subst (λ o. Runs ask code (Kept k code w0) 5 7 (at d place ks ops l w) c (arrives e d (place + 1) ks ops) o) (sym (declare_is (last_of d) slot c l w ∙ standing_is n (last_of d) created))
-        (one_step ask code (Kept k code w0) 4 6 5 7 (at d place ks ops l w) s1 c c (arrives e d (place + 1) ks ops) (bind created (stands n (last_of d))) (omega arith) (omega arith) (omega arith) (omega arith) (by_code ask code d place ks ops l w (InstrOf.Declare slot t) has.0)
-        (both ask code (Told k code w1) (Kept k code w0) 3 3 1 3 4 6 s1 c (returns mid) (arrives e d (place + 1) ks ops) created (stands n (last_of d)) (omega arith) (omega arith) (omega arith)
-        (parts_run ask k code setting call default constants bound calls (suc (length k.records)) t (let within = slice_get_within k.records t r here in omega (arith, within)) (r, here, plain) (whole_spot n) (OwnerOf.Master (last_of d)) born refl w1 fits1.0 (created_around slot w0 d w fits fits1) mid c l w1 le (fits1.0, keeps_itself k code w1))
-        (λ x c1 l1 w2 lo told1. stands_runs w0 w1 n e p ks fits1 x c1 l1 w2 told1)))
+        subst (Runs ask code (Kept k code w0) 5 7 s0 c next) (sym (declare_is (last_of d) slot c l w ∙ standing_is n (last_of d) created))
+        (by (is_made_at_once (parts_of code t) (begun_of code t)) refl (by_code ask code d place ks ops l w (InstrOf.Declare slot t) has.0))
+      where
+        n : ℕ
+        n = w.ledger.next_object
+
+        p : Point
+        p = record { display = d; place = place + 1; operands = ops }
+
+        s0 : State
+        s0 = at d place ks ops l w
+
+        next : Result Done → Log → World → State
+        next = arrives e d (place + 1) ks ops
+
+        w1 : World
+        w1 = with_object code d slot t w
+
+        fits1 : Since k code w0 w1
+        fits1 = created_fits slot s w0 d w (subst (λ x. IsDeclarable code x t) (sym sees.long) (setting.valid.each place (InstrOf.Declare slot t) s has.0 has.1).0) fits sees
+
+        born : Birth
+        born = birth_of (Declared (last_of d)) w
+
+        created : Out Done
+        created = initialize_part K born (suc (length k.records)) (whole_spot n) t c l w1
+
+        -- where something is executed for its creation
+        begins : step ask code s0 ≡ moved l (begin_part code (new_part (whole_spot n) t (OwnerOf.Master (last_of d))) (Creating ByDeclaration n t p ∷ ks) w1) → Runs ask code (Kept k code w0) 5 7 s0 c next (bind created (stands n (last_of d)))
+        begins go =
+            let mid = Creating ByDeclaration n t p ∷ ks in
+            let s1 = gives (Filling (new_part (whole_spot n) t (OwnerOf.Master (last_of d))) (begun_of code t) (begun_of code t) ∷ mid) (Fine Complete) l w1 in
+            one_step ask code (Kept k code w0) 4 6 5 7 s0 s1 c c next (bind created (stands n (last_of d))) (omega arith) (omega arith) (omega arith) (omega arith) go
+            (both ask code (Told k code w1) (Kept k code w0) 3 3 1 3 4 6 s1 c (returns mid) next created (stands n (last_of d)) (omega arith) (omega arith) (omega arith)
+            (parts_run ask k code setting call default constants bound calls (suc (length k.records)) t (let within = slice_get_within k.records t r here in omega (arith, within)) (r, here, plain) (whole_spot n) (OwnerOf.Master (last_of d)) born refl w1 fits1.0 (created_around slot w0 d w fits fits1) mid c l w1 le (fits1.0, keeps_itself k code w1))
+            (λ x c1 l1 w2 lo told1. stands_runs w0 w1 n e p ks fits1 x c1 l1 w2 told1))
+
+        by : (once : Bool) → is_made_at_once (parts_of code t) (begun_of code t) ≡ once
+            → step ask code s0 ≡ moved l (if once then come_to_life ByDeclaration n (object_at n w1) p ks w1 else begin_part code (new_part (whole_spot n) t (OwnerOf.Master (last_of d))) (Creating ByDeclaration n t p ∷ ks) w1)
+            → Runs ask code (Kept k code w0) 5 7 s0 c next (bind created (stands n (last_of d)))
+        by true is go =
+            subst (λ o. Runs ask code (Kept k code w0) 5 7 s0 c next (bind o (stands n (last_of d)))) (sym (at_once_is ask k code setting call default constants bound calls (length k.records) born (whole_spot n) t c l w1 (r, here, plain) is))
+            (added ask code (Kept k code w0) 0 1 3 5 7 s0 c next (stands n (last_of d) (Goes tt) c l w1) (omega arith) (omega arith) (lives_on w0 n e p ks s0 c c l w1 (omega arith) (omega arith) fits1 go))
+        by false is go = begins go

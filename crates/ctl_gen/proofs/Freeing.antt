@@ -321,29 +321,33 @@ module _ (ask : Ask) (k : Tables) (code : Code) (setting : Setting k code) (call
     unfolding is_due
     due_alike o same = ap (λ b. o.joined && (is_untouched o.state && b)) same
 
-    -- it is finalized where it is due
-    finalizes : (n : ℕ) (o : Object) (ks : List Frame) (s0 : State) (c : ℕ) (l : Log) (w : World) → c ≤ bound → Since k code w0 w → object_at n w ≡ Some o → step ask code s0 ≡ moved l (finalize_freed code o ks w) → Runs ask code (Sure k code w0) 1 1 s0 c (tells ks) (finalize_unfinalized K o c l w)
-    unfolding finalize_unfinalized opened_outcome
-    finalizes n o ks s0 c l w le fits there first = subst (λ b. Runs ask code (Sure k code w0) 1 1 s0 c (tells ks) (either b (finalize_object K CauseOf.Free (member_of o)) (done false) c l w)) (sym (due_alike o (part_alike ask k code setting call default constants bound calls o.ty settled.plain))) (by (o.joined && (is_untouched o.state && has_part_in code o.ty)) refl first)
+    -- an object that is due is finalized before
+    frees_due : (nulled : Nulled) (n : ℕ) (o : Object) (e : Target) (p : Point) (ks : List Frame) (s0 : State) (c : ℕ) (l : Log) (w : World) → c ≤ bound → Since k code w0 w → object_at n w ≡ Some o → Raises code p.place → step ask code s0 ≡ moved l (finalize_freed code nulled o p ks w) → Frees 4 4 s0 c e p ks ((finalize_unfinalized K o >>= freed K (place_of p.display nulled) o) c l w)
+    unfolding picked finalize_unfinalized opened_outcome
+    frees_due nulled n o e p ks s0 c l w le fits there raises first =
+        subst goal (sym (due_alike o (part_alike ask k code setting call default constants bound calls o.ty settled.plain))) (by (o.joined && (is_untouched o.state && has_part_in code o.ty)) refl first)
       where
         settled : Settled k code w.ledger.next_master w.activations w.ledger.collections o
         settled = settled_there n w o fits there
 
-        by : (b : Bool) → (o.joined && (is_untouched o.state && has_part_in code o.ty)) ≡ b → step ask code s0 ≡ moved l (if b then finalize_typed code CauseOf.Free o.number o.ty ks w else Table.gives (Fine Complete) ks w) → Runs ask code (Sure k code w0) 1 1 s0 c (tells ks) (either b (finalize_object K CauseOf.Free (member_of o)) (done false) c l w)
-        by true is go = typed_runs ask k code setting call default constants bound calls CauseOf.Free (λ m v. refl) (λ y sure. sure) o w0 ks c l w s0 le fits (found_itself n w o there) settled.plain (both_true _ _ (both_true _ _ is).1).1 go
-        by false is go = last_step ask code (Sure k code w0) 1 1 s0 c 0 (tells ks) (Goes false) l w (omega arith) (tt, fits) go
+        k1 : List Frame
+        k1 = Freeing nulled o.number (storage_of o.origin) (units_for code o.ty) p ∷ ks
 
-    -- behind its finalization
-    frees_due : (nulled : Nulled) (n : ℕ) (o : Object) (e : Target) (p : Point) (ks : List Frame) (s0 : State) (c : ℕ) (l : Log) (w : World) → c ≤ bound → Since k code w0 w → object_at n w ≡ Some o → Raises code p.place → step ask code s0 ≡ moved l (finalize_freed code o (Freeing nulled o.number (storage_of o.origin) (units_for code o.ty) p ∷ ks) w) → Frees 4 4 s0 c e p ks ((finalize_unfinalized K o >>= freed K (place_of p.display nulled) o) c l w)
-    unfolding picked opened_outcome
-    frees_due nulled n o e p ks s0 c l w le fits there raises first =
-        both ask code (Sure k code w0) (Kept k code w0) 1 1 1 3 4 4 s0 c (tells (Freeing nulled o.number (storage_of o.origin) (units_for code o.ty) p ∷ ks)) (arrives e p.display (p.place + 1) ks p.operands) (finalize_unfinalized K o c l w) (on_goes (freed K (place_of p.display nulled) o)) (omega arith) (omega arith) (omega arith)
-        (finalizes n o (Freeing nulled o.number (storage_of o.origin) (units_for code o.ty) p ∷ ks) s0 c l w le fits there first)
-        after
-      where
-        after : (r : Result Bool) (c1 : ℕ) (l1 : Log) (w1 : World) → c1 ≤ c → Sure k code w0 (way_of r) w1 → Frees 1 3 (tells (Freeing nulled o.number (storage_of o.origin) (units_for code o.ty) p ∷ ks) r l1 w1) c1 e p ks (on_goes (freed K (place_of p.display nulled) o) r c1 l1 w1)
-        after (Goes b) c1 l1 w1 lo sure = freed_runs nulled o b e p ks _ c1 l1 w1 (omega (arith, lo, le)) sure.1 (settled_there n w o fits there).plain raises (ap (λ f. moved l1 (freed_in code nulled o.number (storage_of o.origin) (units_for code o.ty) f p ks w1)) (heard b))
+        goal : Bool → Type 0
+        goal b = Frees 4 4 s0 c e p ks ((either b (finalize_object K CauseOf.Free (member_of o)) (done false) >>= freed K (place_of p.display nulled) o) c l w)
+
+        after : (r : Result Bool) (c1 : ℕ) (l1 : Log) (w1 : World) → c1 ≤ c → Sure k code w0 (way_of r) w1 → Frees 1 3 (tells k1 r l1 w1) c1 e p ks (on_goes (freed K (place_of p.display nulled) o) r c1 l1 w1)
+        after (Goes b) c1 l1 w1 lo sure = freed_runs nulled o b e p ks _ c1 l1 w1 (omega (arith, lo, le)) sure.1 settled.plain raises (ap (λ f. moved l1 (freed_in code nulled o.number (storage_of o.origin) (units_for code o.ty) f p ks w1)) (heard b))
         after (Leaves y) c1 l1 w1 lo sure = absurd sure.0
+
+        by : (b : Bool) → (o.joined && (is_untouched o.state && has_part_in code o.ty)) ≡ b → step ask code s0 ≡ moved l (if b then finalize_typed code CauseOf.Free o.number o.ty k1 w else freed_in code nulled o.number (storage_of o.origin) (units_for code o.ty) false p ks w) → goal b
+        by true is go =
+            both ask code (Sure k code w0) (Kept k code w0) 1 1 1 3 4 4 s0 c (tells k1) (arrives e p.display (p.place + 1) ks p.operands) (finalize_object K CauseOf.Free (member_of o) c l w) (on_goes (freed K (place_of p.display nulled) o)) (omega arith) (omega arith) (omega arith)
+            (typed_runs ask k code setting call default constants bound calls CauseOf.Free (λ m v. refl) (λ y sure. sure) o w0 k1 c l w s0 le fits (found_itself n w o there) settled.plain (both_true _ _ (both_true _ _ is).1).1 go)
+            after
+        by false is go =
+            added ask code (Kept k code w0) 0 1 3 4 4 s0 c (arrives e p.display (p.place + 1) ks p.operands) (freed K (place_of p.display nulled) o false c l w) (omega arith) (omega arith)
+            (freed_runs nulled o false e p ks s0 c l w le fits settled.plain raises go)
 
     -- an object of this collection, unless it is being finalized
     frees_member : (nulled : Nulled) (set n : ℕ) (o : Object) (e : Target) (p : Point) (ks : List Frame) (s0 : State) (c : ℕ) (l : Log) (w : World) → c ≤ bound → Since k code w0 w → object_at n w ≡ Some o → Raises code p.place → step ask code s0 ≡ moved l (free_member code nulled set o p ks w) → Frees 4 4 s0 c e p ks (free_object K (place_of p.display nulled) set o c l w)
@@ -353,11 +357,11 @@ module _ (ask : Ask) (k : Tables) (code : Code) (setting : Setting k code) (call
         frees : Act Done
         frees = finalize_unfinalized K o >>= freed K (place_of p.display nulled) o
 
-        finalizing : (b : Bool) → step ask code s0 ≡ moved l (if b then Table.stopped FreeWhileFinalizing ks w else finalize_freed code o (Freeing nulled o.number (storage_of o.origin) (units_for code o.ty) p ∷ ks) w) → Frees 4 4 s0 c e p ks (either b (stop FreeWhileFinalizing) frees c l w)
+        finalizing : (b : Bool) → step ask code s0 ≡ moved l (if b then Table.stopped FreeWhileFinalizing ks w else finalize_freed code nulled o p ks w) → Frees 4 4 s0 c e p ks (either b (stop FreeWhileFinalizing) frees c l w)
         finalizing true go = stop_step ask code (Kept k code w0) 4 4 s0 _ c 0 (arrives e p.display (p.place + 1) ks p.operands) FreeWhileFinalizing l (omega arith) go refl refl
         finalizing false go = frees_due nulled n o e p ks s0 c l w le fits there raises go
 
-        foreign : (b : Bool) → step ask code s0 ≡ moved l (if b then Table.stopped ForeignFree ks w else if is_finalizing o.state then Table.stopped FreeWhileFinalizing ks w else finalize_freed code o (Freeing nulled o.number (storage_of o.origin) (units_for code o.ty) p ∷ ks) w) → Frees 4 4 s0 c e p ks (either b (stop ForeignFree) (either (is_finalizing o.state) (stop FreeWhileFinalizing) frees) c l w)
+        foreign : (b : Bool) → step ask code s0 ≡ moved l (if b then Table.stopped ForeignFree ks w else if is_finalizing o.state then Table.stopped FreeWhileFinalizing ks w else finalize_freed code nulled o p ks w) → Frees 4 4 s0 c e p ks (either b (stop ForeignFree) (either (is_finalizing o.state) (stop FreeWhileFinalizing) frees) c l w)
         foreign true go = stop_step ask code (Kept k code w0) 4 4 s0 _ c 0 (arrives e p.display (p.place + 1) ks p.operands) ForeignFree l (omega arith) go refl refl
         foreign false go = finalizing (is_finalizing o.state) go
 

@@ -34,7 +34,7 @@ use Rattle.ctl_code.specs.States.{Word, Scalar, Complete, Point, ByPoolDeclarati
 use Rattle.ctl_code.specs.Valid.{IsDeclarable}
 use Rattle.ctl_code.specs.Windows.{height}
 use Rattle.ctl_code.specs.Table as Table
-use Rattle.ctl_code.specs.Table.{begun_of, come_to_life, pool_size, size_of, with_object, with_pool}
+use Rattle.ctl_code.specs.Table.{begun_of, come_to_life, pool_size, size_of, with_object, with_pool, is_made_at_once, parts_of}
 use Rattle.ctl_code.specs.Steps.{moved, step}
 use Rattle.ctl_layout.specs.Around.{Line, new_operand}
 use Rattle.ctl_layout.specs.Records.{descends_from_pool, is_block_pool}
@@ -43,7 +43,7 @@ use Rattle.ctl_layout.specs.Layout.{order_of, pool_code, with_discriminants}
 use Rattle.ctl_gen.proofs.Known.{IsPlain}
 use Rattle.ctl_gen.proofs.Parted.{GivesDefaults}
 use Rattle.ctl_gen.proofs.Worlds.{Since, Kept, keeps_itself, since_closed, since_layer, since_on, since_pools}
-use Rattle.ctl_gen.proofs.CreatedParts.{IsAround, new_part, parts_run}
+use Rattle.ctl_gen.proofs.CreatedParts.{IsAround, new_part, parts_run, at_once_is}
 use Rattle.ctl_gen.proofs.Setting.{Setting, tools_with, returns, Told, Sees, Calls, seen}
 use Rattle.ctl_gen.proofs.Cells.{Any, by_code, here, landed}
 use Rattle.ctl_gen.proofs.Worth.{both_cell}
@@ -204,21 +204,46 @@ module _ (ask : Ask) (k : Tables) (code : Code) (setting : Setting k code) (call
 
     -- a pool of this size, from the step that creates its object
     opens_runs : (slot : ℕ) (size : ℕ × ℕ) (e : Target) (s : List Kind) (w0 : World) (d : List ℕ) (place : ℕ) (ks : List Frame) (ops : List Word) (c : ℕ) (l : Log) (w : World) (s0 : State) → c ≤ bound → Since k code w0 w → Sees d s w0 → IsDeclarable code (length d) t
-        → (let n = w.ledger.next_object in step ask code s0 ≡ moved l (Table.begin_part code (new_part (whole_spot n) t (OwnerOf.Master (last_of d))) (Creating ByPoolDeclaration n t (record { display = d; place = place; operands = ops }) ∷ ks) (with_pool code d slot t size w)))
+        → (let n = w.ledger.next_object in step ask code s0 ≡ moved l (Table.create_object code ByPoolDeclaration (new_part (whole_spot n) t (OwnerOf.Master (last_of d))) (record { display = d; place = place; operands = ops }) ks (with_pool code d slot t size w)))
         → Runs ask code (Kept k code w0) 5 7 s0 c (arrives e d place ks ops) (opens (last_of d) slot size c l w)
-    unfolding birth_of owner_of
-    opens_runs slot size e s w0 d place ks ops c l w s0 le fits sees declarable first =
-        let n = w.ledger.next_object in
-        let m = last_of d in
-        let p : Point = record { display = d; place = place; operands = ops } in
-        let w1 = with_pool code d slot t size w in
-        let fits1 = opened_fits slot size s w0 d w declarable fits sees in
-        let mid = Creating ByPoolDeclaration n t p ∷ ks in
-        let s1 = gives (Filling (new_part (whole_spot n) t (OwnerOf.Master m)) (begun_of code t) (begun_of code t) ∷ mid) (Fine Complete) l w1 in
-        one_step ask code (Kept k code w0) 4 6 5 7 s0 s1 c c (arrives e d place ks ops) (bind (begins n m w c l w1) (stands n m)) (omega arith) (omega arith) (omega arith) (omega arith) first
-        (both ask code (Told k code w1) (Kept k code w0) 3 3 1 3 4 6 s1 c (returns mid) (arrives e d place ks ops) (begins n m w c l w1) (stands n m) (omega arith) (omega arith) (omega arith)
-        (parts_run ask k code setting call default constants bound calls (suc (length k.records)) t (let within = slice_get_within k.records t r record_is in omega (arith, within)) (r, record_is, plain) (whole_spot n) (OwnerOf.Master m) (birth_of (Declared m) w) refl w1 fits1.0 (opened_around slot size s w0 d w declarable fits sees) mid c l w1 le (fits1.0, keeps_itself k code w1))
-        (λ x c1 l1 w2 lo told1. stands_runs w0 w1 n e p ks fits1 x c1 l1 w2 told1))
+    unfolding birth_of owner_of opened_outcome
+    opens_runs slot size e s w0 d place ks ops c l w s0 le fits sees declarable first = by (is_made_at_once (parts_of code t) (begun_of code t)) refl first
+      where
+        n : ℕ
+        n = w.ledger.next_object
+
+        m : ℕ
+        m = last_of d
+
+        p : Point
+        p = record { display = d; place = place; operands = ops }
+
+        next : Result Done → Log → World → State
+        next = arrives e d place ks ops
+
+        w1 : World
+        w1 = with_pool code d slot t size w
+
+        fits1 : Since k code w0 w1
+        fits1 = opened_fits slot size s w0 d w declarable fits sees
+
+        -- where something is executed for its creation
+        creates : step ask code s0 ≡ moved l (Table.begin_part code (new_part (whole_spot n) t (OwnerOf.Master m)) (Creating ByPoolDeclaration n t p ∷ ks) w1) → Runs ask code (Kept k code w0) 5 7 s0 c next (bind (begins n m w c l w1) (stands n m))
+        creates go =
+            let mid = Creating ByPoolDeclaration n t p ∷ ks in
+            let s1 = gives (Filling (new_part (whole_spot n) t (OwnerOf.Master m)) (begun_of code t) (begun_of code t) ∷ mid) (Fine Complete) l w1 in
+            one_step ask code (Kept k code w0) 4 6 5 7 s0 s1 c c next (bind (begins n m w c l w1) (stands n m)) (omega arith) (omega arith) (omega arith) (omega arith) go
+            (both ask code (Told k code w1) (Kept k code w0) 3 3 1 3 4 6 s1 c (returns mid) next (begins n m w c l w1) (stands n m) (omega arith) (omega arith) (omega arith)
+            (parts_run ask k code setting call default constants bound calls (suc (length k.records)) t (let within = slice_get_within k.records t r record_is in omega (arith, within)) (r, record_is, plain) (whole_spot n) (OwnerOf.Master m) (birth_of (Declared m) w) refl w1 fits1.0 (opened_around slot size s w0 d w declarable fits sees) mid c l w1 le (fits1.0, keeps_itself k code w1))
+            (λ x c1 l1 w2 lo told1. stands_runs w0 w1 n e p ks fits1 x c1 l1 w2 told1))
+
+        by : (once : Bool) → is_made_at_once (parts_of code t) (begun_of code t) ≡ once
+            → step ask code s0 ≡ moved l (if once then come_to_life ByPoolDeclaration n (object_at n w1) p ks w1 else Table.begin_part code (new_part (whole_spot n) t (OwnerOf.Master m)) (Creating ByPoolDeclaration n t p ∷ ks) w1)
+            → Runs ask code (Kept k code w0) 5 7 s0 c next (bind (begins n m w c l w1) (stands n m))
+        by true is go =
+            subst (λ o. Runs ask code (Kept k code w0) 5 7 s0 c next (bind o (stands n m))) (sym (at_once_is ask k code setting call default constants bound calls (length k.records) (birth_of (Declared m) w) (whole_spot n) t c l w1 (r, record_is, plain) is))
+            (added ask code (Kept k code w0) 0 1 3 5 7 s0 c next (stands n m (Goes tt) c l w1) (omega arith) (omega arith) (lives_on w0 n e p ks s0 c l w1 fits1 go))
+        by false is go = creates go
 
     -- over its discriminants; bad ones take no number
     sized_runs : (slot : ℕ) (order : DiscriminantOrder) (a b : ℕ) (e : Target) (s : List Kind) (w0 : World) (d : List ℕ) (place : ℕ) (ks : List Frame) (ops : List Word) (c : ℕ) (l : Log) (w : World) → c ≤ bound → Since k code w0 w → Sees d s w0 → Laid code place ((InstrOf.DeclarePool slot t order (height s), with_discriminants s) ∷ [])
@@ -241,7 +266,7 @@ module _ (ask : Ask) (k : Tables) (code : Code) (setting : Setting k code) (call
         declarable = subst (λ x. IsDeclarable code x t) (sym sees.long) (setting.valid.each place (InstrOf.DeclarePool slot t order (height s)) (with_discriminants s) has.0 has.1).0
 
         by : (good : Bool)
-            → (let n = w.ledger.next_object in step ask code s0 ≡ moved l (if good then Table.begin_part code (new_part (whole_spot n) t (OwnerOf.Master (last_of d))) (Creating ByPoolDeclaration n t (record { display = d; place = place + 1; operands = ops }) ∷ ks) (with_pool code d slot t size w) else Table.transfers (ByRaise constraint_error) ks w))
+            → (let n = w.ledger.next_object in step ask code s0 ≡ moved l (if good then Table.create_object code ByPoolDeclaration (new_part (whole_spot n) t (OwnerOf.Master (last_of d))) (record { display = d; place = place + 1; operands = ops }) ks (with_pool code d slot t size w) else Table.transfers (ByRaise constraint_error) ks w))
             → Runs ask code (Kept k code w0) 5 7 s0 c (arrives e d (place + 1) ks ops) (either good (opens (last_of d) slot size) (raise constraint_error) c l w)
         by true go = opens_runs slot size e s w0 d (place + 1) ks ops c l w s0 le fits sees declarable go
         by false go = last_step ask code (Kept k code w0) 5 7 s0 c 0 (arrives e d (place + 1) ks ops) (Leaves (ByRaise constraint_error)) l w (omega arith) fits go
