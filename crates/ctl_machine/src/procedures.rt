@@ -161,10 +161,10 @@ impl Engine {
     {
         let entry = code.entries[body];
         let base = self.window() + code.kinds.height_at(place + 1, count_values(kind, copies));
-        self.prepare(base, code.room, actuals)?;
         let link = self.around(entry.level);
         let depth = self.depth_at(link) + 1;
         let outer_formals = self.count_formals();
+        self.prepare(base, code.room, actuals)?;
         self.begin_slots(code, place, base, entry.slots, actuals);
         let master = Master {
             number: self.given_masters + 1,
