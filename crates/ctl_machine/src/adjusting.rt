@@ -29,6 +29,7 @@ use crate::frame::{Ended, Frame, Left, Mode};
 use crate::initialize::finalize_in;
 use crate::layers::says_failed;
 use crate::parts::{controlled_at, count_controlled, parts_of};
+use crate::room::reserve;
 use crate::showing::show_life;
 use crate::spots::Spot;
 use ctl_code::code::{Code, Entry, Initial, Parts};
@@ -241,7 +242,7 @@ impl Engine {
         ensures ok { OnOk result (Chooses code.now self.old self.new (Table.adjust_next code.now creation t.0.spot «record» t.1 failed (pick_among order (length t.1)) t.0.control t.0.world) (noted_among (length t.1) (pick_among order (length t.1)))) }
         ensures err { OnErr result (GoesOn self.old self.new self.old.mode self.old.cells.items) }
     {
-        self.picks.reserve(1)?;
+        reserve(&mut self.picks, 1)?;
         let candidates = left.count();
         let chosen = left.choose(order);
         let component = controlled_at(code, record, chosen.at);
@@ -358,8 +359,8 @@ impl Engine {
         }
         let newest = self.count_spots() - 1;
         let part = self.spots[newest].part(self.alloc)?;
-        self.events.reserve(1)?;
-        self.noted.reserve(1)?;
+        reserve(&mut self.events, 1)?;
+        reserve(&mut self.noted, 1)?;
         let spot = self.drop_frame();
         let adjustment = Adjustment {
             creation,

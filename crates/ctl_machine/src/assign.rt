@@ -29,6 +29,7 @@ use crate::finalizing::{Doubles, Finalization, doubled};
 use crate::frame::{Ended, Frame, Mode, Value};
 use crate::layers::PROGRAM_ERROR;
 use crate::parts::{parts_of, size_of};
+use crate::room::reserve;
 use ctl_code::code::{Code, Parts, Way};
 use ctl_tree::ending::Stop;
 use ctl_tree::event::Cause;
@@ -186,7 +187,7 @@ impl Engine {
             return Ok(());
         }
         let size = size_of(code, record);
-        self.saved.reserve(size)?;
+        reserve(&mut self.saved, size)?;
         self.save_value(size);
         self.take_value(size);
         let _ = self.spots.take_last();
@@ -223,7 +224,7 @@ impl Engine {
         let base = self.window() + code.kinds.height_at(place, 0);
         let doubles = self.double_part(self.count_spots() - 2)?;
         let size = size_of(code, record);
-        self.saved.reserve(size)?;
+        reserve(&mut self.saved, size)?;
         self.prepare_finalization(code, base)?;
         self.save_value(size);
         self.control.push_reserved(Frame::Assigning {

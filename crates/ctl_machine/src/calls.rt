@@ -13,6 +13,7 @@ ghost use Rattle.ctl_machine.specs.Moves.{GoesOn, Makes, OpensBody, cleared};
 use crate::engine::Engine;
 use crate::frame::{After, Completion, Formal, Frame, Master};
 use crate::holders::master_at;
+use crate::room::reserve;
 use crate::spots::Spot;
 use ctl_code::code::{Code, Entry};
 use ctl_tree::event::Event;
@@ -179,10 +180,10 @@ impl Engine {
         ensures choices { self.new.picks ≡ self.old.picks }
     {
         let wanted = base.checked_add(room).ok_or(AllocError)?;
-        self.masters.reserve(1)?;
-        self.control.reserve(2)?;
-        self.events.reserve(1)?;
-        self.formals.reserve(formals)?;
+        reserve(&mut self.masters, 1)?;
+        reserve(&mut self.control, 2)?;
+        reserve(&mut self.events, 1)?;
+        reserve(&mut self.formals, formals)?;
         make_room(&mut self.cells, wanted)
     }
 

@@ -17,6 +17,7 @@ ghost use Rattle.ctl_objects.specs.Order.{AreUpTo};
 use crate::engine::Engine;
 use crate::frame::{Declared, Frame, Master, Mode, Owned, Role};
 use crate::parts::{parts_of, size_of};
+use crate::room::reserve;
 use crate::spots::Spot;
 use ctl_code::code::{Code, Parts};
 use ctl_tree::ending::Stop;
@@ -33,9 +34,9 @@ impl Engine {
         ensures spots { OnOk result (vec_len self.new.spots < vec_capacity self.new.spots) }
         ensures number { self.new.numbered ≡ self.old.numbered }
     {
-        self.owned.reserve(1)?;
-        self.control.reserve(2)?;
-        self.spots.reserve(1)?;
+        reserve(&mut self.owned, 1)?;
+        reserve(&mut self.control, 2)?;
+        reserve(&mut self.spots, 1)?;
         Ok(())
     }
 

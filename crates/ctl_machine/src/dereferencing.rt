@@ -11,6 +11,7 @@ ghost use Rattle.ctl_tree.specs.declared.ending.Stop.TheVariants as StopOf;
 
 use crate::engine::Engine;
 use crate::frame::Mode;
+use crate::room::reserve;
 use crate::spots::Spot;
 use ctl_code::code::{Cell, Code, Named, Way};
 use ctl_tree::ending::Stop;
@@ -47,7 +48,7 @@ impl Engine {
         if !self.stock.exists(object) {
             return Ok(None);
         }
-        self.spots.reserve(1)?;
+        reserve(&mut self.spots, 1)?;
         self.spots.push_reserved(Spot::whole(self.alloc, object));
         let next = Mode::At(place + 1);
         self.mode = next;

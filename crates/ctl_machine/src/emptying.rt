@@ -28,6 +28,7 @@ use crate::filling::note_pick;
 use crate::finalizing::{Finalization, doubled, handed};
 use crate::frame::{Ended, Frame, Mode, Owned, Role};
 use crate::layers::fails_with;
+use crate::room::reserve;
 use crate::spots::Spot;
 use ctl_code::code::Code;
 use ctl_objects::{Group, Start, Waiting};
@@ -201,7 +202,7 @@ impl Engine {
         ensures ok { OnOk result (Chooses code.now self.old self.new (Table.finalize_object code.now (Table.parts_of code.now member.record_type) CauseOf.Collection member.number member.record_type (T.Emptying t.1.sets failed ∷ t.1.control) t.1.world) (noted_among count (pick_among order count))) }
         ensures err { OnErr result (GoesOn self.old self.new self.old.mode self.old.cells.items) }
     {
-        self.picks.reserve(1)?;
+        reserve(&mut self.picks, 1)?;
         let base = self.next_window(code);
         let doubles = doubled(self.alloc, Spot::whole(self.alloc, member.number))?;
         self.prepare_finalization(code, base)?;
@@ -267,7 +268,7 @@ impl Engine {
         ensures err { OnErr result (GoesOn self.old self.new self.old.mode self.old.cells.items) }
     {
         let _ = code;
-        self.control.reserve(1)?;
+        reserve(&mut self.control, 1)?;
         let numbers = numbers_to(self.owned[at].number, count);
         self.take_out(departure, at);
         start_collections(&mut self.owned, numbers.first, numbers.last);

@@ -14,6 +14,7 @@ use crate::calls::replace_top;
 use crate::engine::Engine;
 use crate::frame::{Apart, Ended, Frame, Mode};
 use crate::layers::{PROGRAM_ERROR, says_failed};
+use crate::room::reserve;
 use ctl_code::code::Code;
 use ctl_tree::event::Cause;
 use std::alloc::AllocError;
@@ -47,8 +48,8 @@ impl Engine {
         let _ = code;
         let newest = self.count_spots() - 1;
         let spot = self.spots[newest].copied(self.alloc)?;
-        self.control.reserve(1)?;
-        self.spots.reserve(1)?;
+        reserve(&mut self.control, 1)?;
+        reserve(&mut self.spots, 1)?;
         self.begin_finalization(spot.object());
         replace_top(&mut self.control, Frame::Failing { exception });
         self.control.push_reserved(Frame::FinalizingParts {

@@ -21,6 +21,7 @@ use crate::calls::replace_top;
 use crate::engine::Engine;
 use crate::frame::{Apart, Ended, Frame, Left, Mode};
 use crate::parts::{begun_at, count_begun, count_controlled, parts_of};
+use crate::room::reserve;
 use crate::spots::Spot;
 use ctl_code::code::{Begun, Code, Initial, Parts};
 use ctl_tree::ending::Stop;
@@ -242,8 +243,8 @@ impl Engine {
         let newest = self.count_spots() - 1;
         let mut spot = self.spots[newest].copied(self.alloc)?;
         spot.select(component.offset, component.position)?;
-        self.control.reserve(1)?;
-        self.spots.reserve(1)?;
+        reserve(&mut self.control, 1)?;
+        reserve(&mut self.spots, 1)?;
         replace_top(
             &mut self.control,
             Frame::Filling {
@@ -302,7 +303,7 @@ impl Engine {
         ensures ok { OnOk result ((h : Handed) → Resumes code.now self.old self.new order (Fine h) s) }
         ensures err { OnErr result (GoesOn self.old self.new self.old.mode self.old.cells.items) }
     {
-        self.picks.reserve(1)?;
+        reserve(&mut self.picks, 1)?;
         let chosen = left.choose(order);
         let component = begun_at(code, creation.record_type, chosen.at);
         self.begin_chosen(code, creation, &component, left, chosen.rest)?;

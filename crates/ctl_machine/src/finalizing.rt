@@ -30,6 +30,7 @@ use crate::filling::{all_controlled, note_pick};
 use crate::frame::{Apart, Ended, Frame, Mode};
 use crate::layers::{PROGRAM_ERROR, fails_with, finalize_of};
 use crate::parts::{controlled_at, parts_of};
+use crate::room::reserve;
 use crate::spots::Spot;
 use ctl_code::code::{Begun, Code, Entry, Initial, Parts};
 use ctl_tree::ending::Stop;
@@ -211,9 +212,9 @@ impl Engine {
         ensures saved { self.new.saved ≡ self.old.saved }
         ensures notes { OnOk result (vec_len self.new.noted < vec_capacity self.new.noted) }
     {
-        self.spots.reserve(1)?;
-        self.control.reserve(4)?;
-        self.noted.reserve(1)?;
+        reserve(&mut self.spots, 1)?;
+        reserve(&mut self.control, 4)?;
+        reserve(&mut self.noted, 1)?;
         self.prepare(base, code.room, 1)
     }
 
@@ -430,7 +431,7 @@ impl Engine {
         ensures ok { OnOk result (Chooses code.now self.old self.new (Table.finalize_next code.now cause t.0.spot t.1 failed (pick_among order (length t.1)) t.0.control t.0.world) (noted_among (length t.1) (pick_among order (length t.1)))) }
         ensures err { OnErr result (GoesOn self.old self.new self.old.mode self.old.cells.items) }
     {
-        self.picks.reserve(1)?;
+        reserve(&mut self.picks, 1)?;
         let candidates = left.count();
         let chosen = left.choose(order);
         let component = controlled_at(code, record, chosen.at);

@@ -25,6 +25,7 @@ use crate::frame::Mode;
 use crate::holders::holder;
 use crate::parts::size_of;
 use crate::pool_blocks::is_open;
+use crate::room::reserve;
 use ctl_code::code::{Code, Way};
 use ctl_objects::{Placing, Spot as BlockSpot};
 use ctl_program::types::{Ty, Var};
@@ -237,8 +238,8 @@ impl Engine {
         ensures events { self.new.events ≡ self.old.events }
         ensures picks { self.new.picks ≡ self.old.picks }
     {
-        self.control.reserve(2)?;
-        self.spots.reserve(1)?;
+        reserve(&mut self.control, 2)?;
+        reserve(&mut self.spots, 1)?;
         match grantor {
             Grantor::Standard => {
                 self.add_standard(code, set, record)?;
@@ -273,8 +274,8 @@ impl Engine {
         ensures events { self.new.events ≡ self.old.events }
         ensures picks { self.new.picks ≡ self.old.picks }
     {
-        self.control.reserve(2)?;
-        self.spots.reserve(1)?;
+        reserve(&mut self.control, 2)?;
+        reserve(&mut self.spots, 1)?;
         let number = self.numbered.objects + 1;
         let ty = Ty::Record(record);
         let size = size_of(code, record);

@@ -18,6 +18,7 @@ use crate::engine::Engine;
 use crate::filling::{Creation, all_controlled};
 use crate::frame::{Ended, Frame, Mode};
 use crate::parts::parts_of;
+use crate::room::reserve;
 use crate::showing::show_life;
 use ctl_code::code::{Code, Entry, Parts};
 use ctl_tree::ending::Stop;
@@ -68,7 +69,7 @@ impl Engine {
     {
         let newest = self.count_spots() - 1;
         let part = self.spots[newest].part(self.alloc)?;
-        self.events.reserve(1)?;
+        reserve(&mut self.events, 1)?;
         let finalize = finalize_in(code, creation.record_type);
         show_life(&mut self.events, part, creation.owner, finalize);
         self.end_part(Mode::Giving(Ended::Complete));

@@ -38,6 +38,7 @@ mod pools;
 mod printing;
 mod procedures;
 mod resuming;
+mod room;
 mod showing;
 mod spots;
 mod start;

@@ -16,6 +16,7 @@ ghost use Rattle.ctl_tree.specs.declared.ending.Stop.TheVariants as StopOf;
 
 use crate::engine::Engine;
 use crate::frame::{Holder, Mode};
+use crate::room::reserve;
 use crate::spots::Spot;
 use ctl_code::code::{Cell, Code, Named};
 use std::alloc::AllocError;
@@ -94,7 +95,7 @@ impl Engine {
             return Ok(None);
         };
         let spot = self.spot_of(holder)?;
-        self.spots.reserve(1)?;
+        reserve(&mut self.spots, 1)?;
         let object = spot.object();
         self.spots.push_reserved(spot);
         let named = Named::Operand;

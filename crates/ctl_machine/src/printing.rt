@@ -10,6 +10,7 @@ ghost use Rattle.ctl_machine.specs.Prints.{line_end, print_of};
 
 use crate::engine::Engine;
 use crate::frame::Mode;
+use crate::room::reserve;
 use ctl_code::code::Code;
 use ctl_tree::event::Event;
 use ctl_tree::text::Text;
@@ -47,7 +48,7 @@ impl Engine {
     {
         let parts = code.texts[text].parts();
         let first = self.window() + first;
-        self.events.reserve(2)?;
+        reserve(&mut self.events, 2)?;
         let printed = text_from(self.alloc, parts, self.cells.as_slice(), first)?;
         show_text(&mut self.events, printed, ends_line);
         self.mode = Mode::At(place + 1);
@@ -64,7 +65,7 @@ impl Engine {
         ensures err { OnErr result (GoesOn self.old self.new self.old.mode self.old.cells.items) }
     {
         let _ = code;
-        self.events.reserve(1)?;
+        reserve(&mut self.events, 1)?;
         self.events.push_reserved(Event::Newline);
         self.mode = Mode::At(place + 1);
         Ok(())

@@ -27,6 +27,7 @@ use crate::finalizing::Doubles;
 use crate::frame::{Ended, Frame, Left, Mode};
 use crate::layers::finalize_of;
 use crate::parts::{controlled_at, count_controlled, parts_of};
+use crate::room::reserve;
 use crate::spots::Spot;
 use ctl_code::code::{Begun, Code, Entry, Initial, Parts};
 use ctl_tree::ending::Stop;
@@ -350,7 +351,7 @@ impl Engine {
         ensures ok { OnOk result (Chooses code.now self.old self.new (Table.undo_next code.now t.0.spot t.1 (pick_among order (length t.1)) t.0.control t.0.world) (noted_among (length t.1) (pick_among order (length t.1)))) }
         ensures err { OnErr result (GoesOn self.old self.new self.old.mode self.old.cells.items) }
     {
-        self.picks.reserve(1)?;
+        reserve(&mut self.picks, 1)?;
         let newest = self.count_spots() - 1;
         let chosen = self.choose_undone(
             code,

@@ -48,9 +48,9 @@ returns-in-Placed-clause-ok g c =
     let pools : (y : W.Pools) → ShowsPools n y old.stock → ShowsPools (n + 1) (hold_block pool a n y) x =
     subst (λ (z : Placing). OnPlaced z ((y : W.Pools) → ShowsPools n y old.stock → ShowsPools (n + 1) (hold_block pool a n y) x)) is r.pools in
     let control = ap (λ (l : List Frame). reverse l) c.reserve.ensures.items in
-    let all = ap (λ (l : List Frame). record (with_stock x (kept old)) { control = l; spots = c.reserve-2.new.self.items; next_object = n + 1 }) control ∙ ap (λ (l : List Spot). record (with_stock x (kept old)) { spots = l; next_object = n + 1 }) c.reserve-2.ensures.items in
+    let all = ap (λ (l : List Frame). record (with_stock x (kept old)) { control = l; spots = c.reserve-2.new.vector.items; next_object = n + 1 }) control ∙ ap (λ (l : List Spot). record (with_stock x (kept old)) { spots = l; next_object = n + 1 }) c.reserve-2.ensures.items in
     let numbered : Numbered = record { objects = n; collections = old.numbered.collections } in
-    let new : Engine = record old { control = c.reserve.new.self; spots = c.reserve-2.new.self; stock = c.allocate_in_block.new.self; numbered = numbered } in
+    let new : Engine = record old { control = c.reserve.new.vector; spots = c.reserve-2.new.vector; stock = c.allocate_in_block.new.self; numbered = numbered } in
     subst (λ (z : Placing). Places code old new set t pool a w z) (sym is) (
       passes,
       record {
@@ -76,6 +76,6 @@ returns-in_default-clause-ok g c =
     let fails = test_fails pool a (units_of code t) w c.requires.1.1.1.1.1 (sym is ∙ answer) in
     let same : x ≡ old.stock = subst (λ (y : Placing). OnRefused y (x ≡ old.stock)) is r.refused in
     let control = ap (λ (l : List Frame). reverse l) c.reserve.ensures.items in
-    let all = ap (λ (l : List Frame). record (with_stock x (kept old)) { control = l; spots = c.reserve-2.new.self.items }) control ∙ (ap (λ (l : List Spot). record (with_stock x (kept old)) { spots = l }) c.reserve-2.ensures.items ∙ ap (λ (y : Stock). with_stock y (kept old)) same) in
-    let new : Engine = record old { control = c.reserve.new.self; spots = c.reserve-2.new.self; stock = c.allocate_in_block.new.self } in
+    let all = ap (λ (l : List Frame). record (with_stock x (kept old)) { control = l; spots = c.reserve-2.new.vector.items }) control ∙ (ap (λ (l : List Spot). record (with_stock x (kept old)) { spots = l }) c.reserve-2.ensures.items ∙ ap (λ (y : Stock). with_stock y (kept old)) same) in
+    let new : Engine = record old { control = c.reserve.new.vector; spots = c.reserve-2.new.vector; stock = c.allocate_in_block.new.self } in
     subst (λ (z : Placing). Places code old new c.args.set t pool a w z) (sym is) (fails, record { mode = refl; kept = all; events = refl; picks = refl })

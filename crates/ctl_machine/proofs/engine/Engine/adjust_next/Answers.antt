@@ -63,7 +63,7 @@ returns-in_default-clause-ok g c =
     let are = ap (λ (l : List Frame). record (kept old) { control = l }) control ∙ ap (λ (l : List ℕ). record (kept old) { control = frame ∷ drop 1 (reverse old.control.items); cells = l }) (sym (append-nil old.cells.items)) in
     let new : Engine = record old { mode = ModeOf.Giving c.handed.result; control = c.replace_top.new.control; picks = c.note_pick.new.picks } in
     let b : Finishes code new (record { spot = t.spot; control = T.Adjusting c.args.creation t.spot type right ∷ t.control; world = t.world }) = rest_adjusts code old new c.args.creation type c.args.left x.rest t.spot t left right [] f chosen.rest are in
-    let noted = noted_so old.picks.items c.reserve.new.self.items c.note_pick.new.picks.items c.count-candidates.result (length left) x.pick c.args.order c.note_pick.ensures c.reserve.ensures.items (c.count-candidates.ensures ∙ sym many) pick in
+    let noted = noted_so old.picks.items c.reserve.new.vector.items c.note_pick.new.picks.items c.count-candidates.result (length left) x.pick c.args.order c.note_pick.ensures c.reserve.ensures.items (c.count-candidates.ensures ∙ sym many) pick in
     let move = next_constant code c.args.creation t.spot type left c.args.failed (pick_among c.args.order (length left)) t.control t.world y constant.0 c.requires.1.1.0 is constant.1 in
     subst (λ (m : Move). Chooses code old new m (noted_among (length left) (pick_among c.args.order (length left)))) (sym move)
     (chooses code old new new _ _ refl noted (finished_gives code new new (record { spot = t.spot; control = T.Adjusting c.args.creation t.spot type right ∷ t.control; world = t.world }) c.handed.result (Fine (handed c.args.failed)) b refl c.handed.ensures refl refl))

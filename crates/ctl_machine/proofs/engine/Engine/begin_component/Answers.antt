@@ -32,9 +32,9 @@ begin_part-requires g c =
     let old = c.args.self.now in
     let x = c.args.creation in
     let frame = FrameOf.Filling x.record_type x.owner c.args.rest c.args.left in
-    let mid : Engine = record old { control = c.replace_top.new.control; spots = c.reserve-2.new.self } in
+    let mid : Engine = record old { control = c.replace_top.new.control; spots = c.reserve-2.new.vector } in
     let is : kept mid ≡ with_next frame (kept old) =
-    ap (λ (l : List Frame). record (kept old) { control = l; spots = c.reserve-2.new.self.items }) (c.replace_top.ensures.items ∙ ap (λ (l : List Frame). frame ∷ drop 1 (reverse l)) c.in_ok-reserve.ensures.items)
+    ap (λ (l : List Frame). record (kept old) { control = l; spots = c.reserve-2.new.vector.items }) (c.replace_top.ensures.items ∙ ap (λ (l : List Frame). frame ∷ drop 1 (reverse l)) c.in_ok-reserve.ensures.items)
     ∙ ap (λ (l : List Spot). record (with_next frame (kept old)) { spots = l }) c.in_ok-reserve-2.ensures.items in
     let room = c.in_ok-reserve.ensures.ok in
     let long = c.replace_top.ensures.len in
@@ -49,7 +49,7 @@ returns-clause-ok g c =
     let code = c.args.code.now in
     let old = c.args.self.now in
     let count = c.count_spots-newest in
-    let mid : Engine = record old { control = c.replace_top.new.control; spots = c.reserve-2.new.self } in
+    let mid : Engine = record old { control = c.replace_top.new.control; spots = c.reserve-2.new.vector } in
     let read = newest_read old.spots.items (spots_in g.t.0.control) g.t.0.new.spot c.index.result.now count.result c.requires.0.spots count.ensures.count c.index.ensures in
     let spot : c.select.new.self ≡ component_of g.t.0.new.spot c.args.component.now.offset c.args.component.now.position = c.in_ok-select.ensures.ok ∙ ap (λ (s : Spot). component_of s c.args.component.now.offset c.args.component.now.position) (c.in_ok-spot.ensures ∙ read) in
     let begun : Spot → Move = λ s. let t = grown_in s c.args.record g.t.2 g.t.1 g.t.0 in begin_part code t.new t.control t.world in

@@ -45,8 +45,8 @@ returns-clause-ok g c =
     ∙ ap (λ (l : List Frame). parts ∷ failing ∷ drop 1 (reverse l)) same)) in
     let before : mid.spots.items ≡ old.spots.items = ap (λ v. v.items) e.spots ∙ c.reserve-2.ensures.items in
     let spots : c.push_reserved-2.new.self.items ≡ old.spots.items ++ t.spot ∷ [] = c.push_reserved-2.ensures.items ∙ (ap (λ (x : Spot). mid.spots.items ++ x ∷ []) spot ∙ ap (λ (l : List Spot). l ++ t.spot ∷ []) before) in
-    let ready : Holds code (with_frames (reverse c.reserve.new.self.items) c.reserve-2.new.self.items (kept old)) s.control s.operands s.world =
-    subst (λ (l : List Spot). Holds code (with_frames (reverse c.reserve.new.self.items) l (kept old)) s.control s.operands s.world) (sym c.reserve-2.ensures.items)
+    let ready : Holds code (with_frames (reverse c.reserve.new.vector.items) c.reserve-2.new.vector.items (kept old)) s.control s.operands s.world =
+    subst (λ (l : List Spot). Holds code (with_frames (reverse c.reserve.new.vector.items) l (kept old)) s.control s.operands s.world) (sym c.reserve-2.ensures.items)
     (subst (λ (l : List Frame). Holds code (with_frames (reverse l) old.spots.items (kept old)) s.control s.operands s.world) (sym c.reserve.ensures.items) c.requires.0.holds) in
     let begun : Holds code (kept mid) s.control s.operands (begin_finalization t.spot.object s.world) =
     subst (λ n. Holds code (kept mid) s.control s.operands (begin_finalization n s.world)) number (e.holds code s.control s.operands s.world ready) in

@@ -36,7 +36,7 @@ returns-clause-ok g c = λ h.
     let top = c.requires.1.0 in
     let f = is_filling code old x.record_type x.owner c.args.left top.0 top.1 g.s c.requires.0 top.2 in
     let pick = c.choose-chosen.result.pick in
-    let ready : Engine = record old { picks = c.reserve.new.self } in
+    let ready : Engine = record old { picks = c.reserve.new.vector } in
     let mid = c.begin_chosen.new.self in
     let made = makes_later code old ready mid _ refl c.in_ok-reserve.ensures.items c.in_ok-begin_chosen.ensures.ok in
     chosen_resumes code old mid _ x.record_type x.owner c.args.left top.0 c.choose-chosen.result.rest pick c.choose-chosen.result.at g.s c.begun_at-component.result c.args.order h f c.requires.1.1 c.begun_at-component.ensures

@@ -34,13 +34,13 @@ adjusted-requires g c =
     let b = c.requires.0 in
     let top = c.requires.1 in
     let d = c.drop_frame-spot in
-    let ready : Engine = record old { events = c.reserve.new.self; noted = c.reserve-2.new.self } in
+    let ready : Engine = record old { events = c.reserve.new.vector; noted = c.reserve-2.new.vector } in
     let same : kept ready ≡ kept old = ap (λ (l : List Spot). record (kept old) { noted = l }) c.in_ok-reserve-2.ensures.items in
     let drops = own_drops code ready d.new.self g.s c.args.creation c.args.record c.args.failed top.0 d.result (resuming_same code old ready g.s same b) top.1 d.ensures in
     let count = c.count_spots-newest in
     let read = newest_read old.spots.items (spots_in (drop 1 g.s.control)) (part_in g.s.control) c.index.result.now count.result (own_spots code old g.s c.args.creation c.args.record c.args.failed top.0 b top.1) count.ensures.count c.index.ensures in
-    let events : vec_len c.reserve.new.self < vec_capacity c.reserve.new.self = omega (arith, c.in_ok-reserve.ensures.ok) in
-    let noted : vec_len c.reserve-2.new.self < vec_capacity c.reserve-2.new.self = omega (arith, c.in_ok-reserve-2.ensures.ok) in (
+    let events : vec_len c.reserve.new.vector < vec_capacity c.reserve.new.vector = omega (arith, c.in_ok-reserve.ensures.ok) in
+    let noted : vec_len c.reserve-2.new.vector < vec_capacity c.reserve-2.new.vector = omega (arith, c.in_ok-reserve-2.ensures.ok) in (
       drops.0,
       (
         drops.2,
