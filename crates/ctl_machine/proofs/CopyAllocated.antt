@@ -28,7 +28,7 @@ use Rattle.ctl_machine.specs.declared.frame.Mode.TheVariants as ModeOf
 use Rattle.ctl_machine.specs.declared.frame.Owned.{Owned}
 use Rattle.ctl_machine.specs.Allocating.{OwnsNone}
 use Rattle.ctl_machine.specs.Copying.{AwaitsCopy, IsMember, Refuses, Takes, point_at}
-use Rattle.ctl_machine.specs.Declaring.{Copied}
+use Rattle.ctl_machine.specs.Declaring.{NewObject}
 use Rattle.ctl_machine.specs.Finishing.{with_objects}
 use Rattle.ctl_machine.specs.Granting.{IsNewMember, storage_seen}
 use Rattle.ctl_machine.specs.Masters.{Head, heads_of, first_display}
@@ -51,7 +51,7 @@ use Rattle.ctl_machine.proofs.Words.{newest_read}
 -- It is to be adjusted -----------------------------------------------------------------------------------
 
 -- an allocated object as one that has taken a value
-abbrev pub member_at : ℕ → ℕ → State → Copied
+abbrev pub member_at : ℕ → ℕ → State → NewObject
 member_at object place s = record { number = object; point = point_at place s; control = s.control; world = s.world }
 
 -- where the allocator of a frame goes on

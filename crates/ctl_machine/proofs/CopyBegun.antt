@@ -1,5 +1,5 @@
 -- An object that has taken a value is to be adjusted; where no part of it is controlled, it is a layer at once.
-use Rattle.std.proofs.Common.{◌≡◌, ◌≢◌, ℕ, ◌≤◌, List, [], ◌∷◌, ◌++◌, Some, length, refl, sym, ap, ◌∙◌, subst, reverse}
+use Rattle.std.proofs.Common.{◌≡◌, ◌≢◌, ℕ, List, [], ◌∷◌, ◌++◌, Some, length, refl, sym, ap, ◌∙◌, subst, reverse}
 use Rattle.std.proofs.lemmas.List.{append-nil}
 use Rattle.ctl_tree.specs.declared.event.Owner.{Owner}
 use Rattle.ctl_meaning.specs.World.{World}
@@ -18,55 +18,37 @@ use Rattle.ctl_machine.specs.declared.frame.Ended.TheVariants as EndedOf
 use Rattle.ctl_machine.specs.declared.frame.Frame.{Frame}
 use Rattle.ctl_machine.specs.declared.frame.Frame.TheVariants as FrameOf
 use Rattle.ctl_machine.specs.declared.frame.Left.{Left}
-use Rattle.ctl_machine.specs.declared.frame.Master.{Master}
 use Rattle.ctl_machine.specs.declared.frame.Mode.{Mode}
 use Rattle.ctl_machine.specs.declared.frame.Mode.TheVariants as ModeOf
-use Rattle.ctl_machine.specs.declared.frame.Owned.{Owned}
 use Rattle.ctl_machine.specs.Copying.{AwaitsCopy}
-use Rattle.ctl_machine.specs.Declaring.{Copied, IsCopied}
+use Rattle.ctl_machine.specs.Declaring.{IsDeclared, NewObject}
 use Rattle.ctl_machine.specs.Filling.{AreLeft}
 use Rattle.ctl_machine.specs.Finishing.{with_frames}
-use Rattle.ctl_machine.specs.Initializing.{IsNewest, Turns, alive}
+use Rattle.ctl_machine.specs.Initializing.{Turns, alive}
 use Rattle.ctl_machine.specs.Masters.{heads_of}
 use Rattle.ctl_machine.specs.Moves.{Makes}
 use Rattle.ctl_machine.specs.Noted.{noted_in}
-use Rattle.ctl_machine.specs.Shows.{Holds, IsCreated, Kept, ShowsMode, kept}
+use Rattle.ctl_machine.specs.Shows.{Holds, Kept, ShowsMode, kept}
 use Rattle.ctl_machine.specs.Spots.{KeepsSpots, standing, whole_spot}
-use Rattle.ctl_machine.proofs.Initialized.{lives_makes, newest_of_all}
-use Rattle.ctl_machine.proofs.Innermost.{innermost}
-use Rattle.ctl_machine.proofs.Newest.{first_or, newest_object, newest_object_is}
+use Rattle.ctl_machine.proofs.MadeAtOnce.{declared_lives}
+use Rattle.ctl_machine.proofs.Newest.{newest_object}
 use Rattle.ctl_machine.proofs.Notes.{many_paths}
 use Rattle.ctl_machine.proofs.Operands.{other_spots}
 use Rattle.ctl_machine.proofs.PartFrames.{adjusts, part_comes}
 use Rattle.ctl_machine.proofs.Stages.{Copies, stage_begins, with_frame}
 
 -- what is noted of it is to begin behind what is noted
-pub noted_from : (code : Code) (old : Engine) (x : Copied) (first : ℕ) → first ≡ length old.noted.items → Holds code (kept old) x.control x.point.operands x.world → first ≡ length (noted_in x.control)
+pub noted_from : (code : Code) (old : Engine) (x : NewObject) (first : ℕ) → first ≡ length old.noted.items → Holds code (kept old) x.control x.point.operands x.world → first ≡ length (noted_in x.control)
 noted_from code old x first begins h = begins ∙ (sym (many_paths old.noted.items) ∙ ap (λ (l : List (List ℕ)). length l) h.noted)
 
--- its object is the newest
-copy_newest : (code : Code) (old : Engine) (type place : ℕ) (x : Copied) → (c : IsCopied code old type place x) → newest_object old.owned.items ≡ c.object.object
-copy_newest code old type place x c = ap newest_object c.object.is_newest ∙ newest_object_is c.object.before c.object.object
-
-pub copy_is_newest : (code : Code) (old : Engine) (type place : ℕ) (x : Copied) → IsCopied code old type place x → IsNewest old (newest_object old.owned.items)
-copy_is_newest code old type place x c = subst (λ (o : Owned). IsNewest old o) (sym (copy_newest code old type place x c)) (newest_of_all (kept old) c.master x.number type c.object).found
-
--- no part of it is controlled
-pub plain_lives : (code : Code) (old new : Engine) (type place : ℕ) (owner : Owner) (x : Copied) → IsCopied code old type place x → parts_of code type ≡ PartsOf.Plain → Turns old new (alive (newest_object old.owned.items)) (ModeOf.At place) []
+-- where no part of it is controlled, it comes to life
+pub plain_lives : (code : Code) (old new : Engine) (type place : ℕ) (owner : Owner) (x : NewObject) → IsDeclared code old type place x → parts_of code type ≡ PartsOf.Plain → Turns old new (alive (newest_object old.owned.items)) (ModeOf.At place) []
     → Makes code old new (adjust_new code (parts_of code type) T.ByDeclaration (newborn x.number type owner) x.point x.control x.world)
 plain_lives code old new type place owner x c plain turns =
-    let hs = heads_of x.world.activations in
-    let inside = innermost code (kept old) c.stack x.control x.point.operands x.point.operands x.world c.stands c.holds in
-    let same : c.master ≡ inside.master = ap (λ (l : List Master). first_or c.master l) (sym c.masters ∙ inside.masters) in
-    let i = c.object in
-    let object : IsCreated x.number type inside.master old.owned.items = record { before = i.before; object = i.object; is_newest = i.is_newest; is_own = subst (λ (m : Master). m.owned ≤ length i.before) same i.is_own; number = i.number; role = i.role; no_layer = i.no_layer } in
-    let t = subst (λ (o : Owned). Turns old new (alive o) (ModeOf.At place) []) (copy_newest code old type place x c) turns in
-    subst (λ (p : Parts). Makes code old new (adjust_new code p T.ByDeclaration (newborn x.number type owner) x.point x.control x.world)) (sym plain)
-    (lives_makes code old new (kept old) x.control x.point x.world c.stack x.number type inside object c.holds c.spots (subst (λ n. Leads code n c.stack) (sym c.goes_on) c.leads) c.sized c.seen
-    (t.mode ∙ ap (λ n. ModeOf.At n) (sym c.goes_on)) t.kept t.events t.picks)
+    subst (λ (p : Parts). Makes code old new (adjust_new code p T.ByDeclaration (newborn x.number type owner) x.point x.control x.world)) (sym plain) (declared_lives code old new type place x c turns)
 
 -- some part is: the frame of its declaration is to wait for it
-pub declared_awaits : (code : Code) (old : Engine) (type place first : ℕ) (x : Copied) → IsCopied code old type place x → first ≡ length old.noted.items → AwaitsCopy code old (FrameOf.Copying place first) T.ByDeclaration type x
+pub declared_awaits : (code : Code) (old : Engine) (type place first : ℕ) (x : NewObject) → IsDeclared code old type place x → first ≡ length old.noted.items → AwaitsCopy code old (FrameOf.Copying place first) T.ByDeclaration type x
 declared_awaits code old type place first x c begins = record {
   holds = stage_begins DeclaredOf.Object (Copies first []) code (kept old) c.master c.others x.number type place x.point x.control x.world (noted_from code old x first begins c.holds, refl) c.holds c.masters c.object c.goes_on c.seen;
   spots = c.spots;
@@ -82,7 +64,7 @@ table_adjusts code PartsOf.Controlled by n t owner x k w some = refl
 table_adjusts code PartsOf.Within by n t owner x k w some = refl
 table_adjusts code PartsOf.Plain by n t owner x k w some = absurd (some refl)
 
-pub copy_begins : (code : Code) (old new : Engine) (copy : Frame) (by : T.Maker) (type object : ℕ) (owner : Owner) (those : Left) (x : Copied) → AwaitsCopy code old copy by type x → x.number ≡ object → parts_of code type ≢ PartsOf.Plain → AreLeft (controlled_of code type) those (controlled_of code type)
+pub copy_begins : (code : Code) (old new : Engine) (copy : Frame) (by : T.Maker) (type object : ℕ) (owner : Owner) (those : Left) (x : NewObject) → AwaitsCopy code old copy by type x → x.number ≡ object → parts_of code type ≢ PartsOf.Plain → AreLeft (controlled_of code type) those (controlled_of code type)
     → kept new ≡ with_frames (FrameOf.Adjusting (Some owner) type those ∷ copy ∷ reverse old.control.items) (old.spots.items ++ whole_spot object ∷ []) (kept old) → new.mode ≡ ModeOf.Giving EndedOf.Complete
     → new.events.items ≡ old.events.items → new.picks.items ≡ old.picks.items → Makes code old new (adjust_new code (parts_of code type) by (newborn object type owner) x.point x.control x.world)
 copy_begins code old new copy by type object owner those x c number some left are mode events picks =

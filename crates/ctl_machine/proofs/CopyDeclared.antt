@@ -28,7 +28,7 @@ use Rattle.ctl_machine.specs.Spots.{first_spot, standing}
 use Rattle.ctl_meaning.specs.Finalization.{Spot}
 use Rattle.ctl_machine.proofs.Located.{part_on_top}
 use Rattle.ctl_machine.specs.Moves.{Before, GoesOn, Inside, Makes, here_of}
-use Rattle.ctl_machine.specs.Declaring.{Copied, IsCopied, with_object}
+use Rattle.ctl_machine.specs.Declaring.{IsDeclared, NewObject, with_object}
 use Rattle.ctl_machine.proofs.Created.{newborn}
 use Rattle.ctl_machine.proofs.Following.{makes_later}
 use Rattle.ctl_machine.proofs.Newborn.{has_object}
@@ -42,7 +42,7 @@ value_of offset size None = []
 value_of offset size (Some o) = cells_at offset size o
 
 -- the object has taken the value, and its declaration goes on at a place
-abbrev pub copied_at : Code → ℕ → ℕ → ℕ → State → Copied
+abbrev pub copied_at : Code → ℕ → ℕ → ℕ → State → NewObject
 copied_at code place slot t s =
     let d = first_display (heads_of s.world.activations) in
     let y = first_spot s.operands in
@@ -134,7 +134,7 @@ made_so code mid below slot t s m value inside newest =
 pub copied_is : (code : Code) (old mid new : Engine) (place slot t : ℕ) (s : State) (m : Master) (o : W.Object) → Before code old place (DeclareCopy slot t) s → kept mid ≡ with_spots (kept old) (standing s.control (drop 1 s.operands))
     → slice_get mid.masters.items (length mid.masters.items - 1) ≡ Some m → object_in (first_spot s.operands).object mid.stock.objects ≡ Some o
     → kept new ≡ with_copy m slot t (size_of code t) (cells_at (first_spot s.operands).offset (size_of code t) o) (kept mid) → new.numbered.objects ≡ mid.numbered.objects + 1
-    → IsCopied code new t (place + 1) (copied_at code (place + 1) slot t s) × ((new' : Engine) → new.events.items ≡ old.events.items → new.picks.items ≡ old.picks.items
+    → IsDeclared code new t (place + 1) (copied_at code (place + 1) slot t s) × ((new' : Engine) → new.events.items ≡ old.events.items → new.picks.items ≡ old.picks.items
     → (let x = copied_at code (place + 1) slot t s in Makes code new new' (adjust_new code (parts_of code t) T.ByDeclaration (Table.newborn x.number t (OwnerOf.Master (last_of x.point.display))) x.point x.control x.world)) → Makes code old new' (by_instr code (Some (DeclareCopy slot t)) s.operands (here_of place s)))
 copied_is code old mid new place slot t s m o b mid_is newest there are given =
     let w = s.world in

@@ -70,6 +70,7 @@ pub mod Innermost
 pub mod Initialized
 pub mod Stages
 pub mod AfterInitialize
+pub mod MadeAtOnce
 pub mod Reached
 pub mod Objects
 pub mod Granted

@@ -1,5 +1,5 @@
 -- An object is allocated for a collection.
-use Rattle.std.proofs.Common.{◌≡◌, ℕ, ◌+◌, List, [], ◌∷◌, ◌++◌, Option, Some, None, arith, refl, sym, ap, ◌∙◌, subst, replicate}
+use Rattle.std.proofs.Common.{◌≡◌, ℕ, ◌+◌, List, [], ◌∷◌, ◌++◌, Option, Some, None, true, false, arith, refl, sym, ap, ◌∙◌, subst, replicate}
 use Rattle.std.specs.Prelude.{slice_get}
 use Rattle.ctl_tree.specs.declared.event.Owner.{Owner}
 use Rattle.ctl_tree.specs.declared.event.Owner.TheVariants as OwnerOf
@@ -9,8 +9,8 @@ use Rattle.ctl_program.specs.declared.types.Var.{Var}
 use Rattle.ctl_meaning.specs.World as W
 use Rattle.ctl_meaning.specs.World.{World, Allocated, Collection, InBlock, InSubpool, Place, Standard}
 use Rattle.ctl_meaning.specs.Ledger.{opened_ledger}
-use Rattle.ctl_meaning.specs.Changes.{create, in_pools, new_object, opened_changes, put_into}
-use Rattle.ctl_meaning.specs.Outcome.{ByRaise, program_error, storage_error}
+use Rattle.ctl_meaning.specs.Changes.{create, in_pools, new_object, object_at, opened_changes, put_into}
+use Rattle.ctl_meaning.specs.Outcome.{ByRaise, Fine, program_error, storage_error}
 use Rattle.ctl_meaning.specs.Pools.{hold_block}
 use Rattle.ctl_objects.specs.Pools.{ShowsPools}
 use Rattle.ctl_objects.specs.Stock.{Stock}
@@ -21,22 +21,24 @@ use Rattle.ctl_code.specs.declared.code.Instr.TheVariants.{New}
 use Rattle.ctl_code.specs.declared.code.Way.TheVariants as WayOf
 use Rattle.ctl_code.specs.States as T
 use Rattle.ctl_code.specs.States.{State, Word}
-use Rattle.ctl_code.specs.Table.{AllocateOf, Exhausted, Grant, Granted, Here, UnknownPool, by_instr, by_new, gone, new_at, pool_in, set_seen, size_of, transfers, units_of, with_member}
+use Rattle.ctl_code.specs.Table.{AllocateOf, Exhausted, Grant, Granted, Here, UnknownPool, begin_part, begun_of, by_creating, by_instr, by_new, come_to_life, gone, is_made_at_once, member_begins, new_at, newborn, parts_of, pool_in, set_seen, size_of, transfers, units_of, with_member}
 use Rattle.ctl_code.specs.Valid.{IsScalar, Leads}
 use Rattle.ctl_machine.specs.declared.engine.Engine.{Engine}
 use Rattle.ctl_machine.specs.declared.frame.Frame.TheVariants as FrameOf
 use Rattle.ctl_machine.specs.declared.frame.Mode.{Mode}
 use Rattle.ctl_machine.specs.declared.frame.Owned.{Owned}
 use Rattle.ctl_machine.specs.Allocating.{OwnsNone}
-use Rattle.ctl_machine.specs.Copying.{Refuses, Takes}
+use Rattle.ctl_machine.specs.Copying.{IsMember, Refuses, Takes, point_at}
 use Rattle.ctl_machine.specs.Gathering.{Member, member_at, with_new_member}
 use Rattle.ctl_machine.specs.Granting.{IsAdded, IsNewMember, Lacks, storage_seen}
 use Rattle.ctl_machine.specs.Initializing.{Awaits}
 use Rattle.ctl_machine.specs.Masters.{Head, heads_of, first_display}
 use Rattle.ctl_machine.specs.Moves.{Before, GoesOn, Inside, Makes, here_of}
 use Rattle.ctl_machine.specs.Shows.{Kept, Holds, Sized, kept, stock_of}
+use Rattle.ctl_machine.proofs.Following.{makes_later}
 use Rattle.ctl_machine.proofs.Foreign.{owns_no_next}
 use Rattle.ctl_machine.proofs.Granted.{IsBeside, goes_both}
+use Rattle.ctl_machine.proofs.MadeAtOnce.{comes_at_once, comes_by_parts}
 use Rattle.ctl_machine.proofs.Owned.{owns_member}
 use Rattle.ctl_machine.proofs.Plain.{transfers_makes}
 use Rattle.ctl_machine.proofs.Stages.{Creates, allocator_begins, with_frame}
@@ -137,6 +139,7 @@ is_added code old added set t at ty stack place k p w v inside there seen scalar
       type = ty;
       scalar = scalar;
       leads = leads;
+      stands = inside.stands;
       sized = subst (λ (hs : List Head). Sized code stack k hs) (sym heads) inside.sized;
     }
 
@@ -152,6 +155,48 @@ added_awaits code added mid set t at m a is =
       spots = ap (λ (e : Kept). e.spots) is ∙ a.spots;
       sized = (a.stack, (a.type, a.scalar, a.leads), a.sized);
     }
+
+-- Nothing is executed for its creation -------------------------------------------------------------------
+
+-- the state in which it is there, in a world
+abbrev pub added_state : Member → World → State
+added_state m w = record { mode = T.At [] 0; control = m.control; operands = m.point.operands; world = w; log = record { trace = []; taken = [] } }
+
+-- it is one that its allocator creates
+pub added_is : (code : Code) (added : Engine) (set t at : ℕ) (m : Member) (w : World) → IsAdded code added set t at m → w ≡ with_member code set t m.place m.granted → IsMember code added added.numbered.objects at (added_state m w)
+added_is code added set t at m w a is =
+    subst (λ (v : World). IsMember code added added.numbered.objects at (added_state m v)) (sym is) (record {
+      stack = a.stack;
+      type = a.type;
+      scalar = a.scalar;
+      leads = subst (λ n. Leads code n (Operand a.type ∷ a.stack)) a.goes_on a.leads;
+      inside = record { stands = a.stands; sized = a.sized; holds = a.holds; spots = a.spots };
+      foreign = a.foreign;
+    })
+
+-- it joins its collection at once
+pub joins_at_once : (code : Code) (added new : Engine) (set t at : ℕ) (m : Member) (w : World) → IsAdded code added set t at m → w ≡ with_member code set t m.place m.granted → is_made_at_once (parts_of code t) (begun_of code t) ≡ true
+    → (let s = added_state m w in Makes code added new (by_creating (Fine T.Complete) T.ByAllocator added.numbered.objects (point_at at s) s.control s.world)) → Makes code added new (member_begins code t set m.place m.point m.control m.granted)
+joins_at_once code added new set t at m w a is once makes =
+    let v = with_member code set t m.place m.granted in
+    let n = added.numbered.objects in
+    let x = newborn m.granted.ledger.next_object t (OwnerOf.Collection set) in
+    let ops = m.point.operands in
+    let lives : ℕ → T.Point → World → T.Move = λ i p u. come_to_life T.ByAllocator i (object_at i u) p m.control u in
+    let there : m.point ≡ point_at at (added_state m v) =
+    ap (λ i. record { display = m.point.display; place = i; operands = ops }) a.goes_on ∙ ap (λ (d : List ℕ). record { display = d; place = at; operands = ops }) a.seen in
+    let same : member_begins code t set m.place m.point m.control m.granted ≡ lives n (point_at at (added_state m w)) w =
+    comes_at_once code T.ByAllocator x m.point m.control v once
+    ∙ (ap (λ i. lives i m.point v) a.number ∙ (ap (λ (p : T.Point). lives n p v) there ∙ ap (λ (u : World). lives n (point_at at (added_state m u)) u) (sym is))) in
+    subst (λ (y : T.Move). Makes code added new y) (sym same) makes
+
+-- where something is executed, its components are to begin
+pub begins_in_set : (code : Code) (added mid new : Engine) (set t : ℕ) (m : Member) → is_made_at_once (parts_of code t) (begun_of code t) ≡ false → mid.events.items ≡ added.events.items → mid.picks.items ≡ added.picks.items
+    → (let g = member_at code set t m in Makes code mid new (begin_part code g.new g.control g.world)) → Makes code added new (member_begins code t set m.place m.point m.control m.granted)
+begins_in_set code added mid new set t m more events picks made =
+    let w = with_member code set t m.place m.granted in
+    let x = newborn m.granted.ledger.next_object t (OwnerOf.Collection set) in
+    subst (λ (y : T.Move). Makes code added new y) (sym (comes_by_parts code T.ByAllocator x m.point m.control w more)) (makes_later code added mid new _ events picks made)
 
 -- No storage ---------------------------------------------------------------------------------------------
 

@@ -1,5 +1,5 @@
 -- A pool is declared: its discriminants are read, and its object is created as the pool opens (13.11).
-use Rattle.std.proofs.Common.{◌≡◌, ℕ, ◌+◌, ◌-◌, ◌<◌, ◌≤◌, List, [], ◌∷◌, Option, Some, None, Bool, true, false, length, refl, sym, ap, ◌∙◌, subst, arith, drop, replicate, reverse}
+use Rattle.std.proofs.Common.{◌≡◌, ℕ, ◌+◌, ◌-◌, ◌<◌, ◌≤◌, List, [], Option, Some, None, Bool, true, false, length, refl, sym, ap, ◌∙◌, subst, arith, drop, replicate, reverse}
 use Rattle.std.specs.Prelude.{IfSome, if◌then◌else◌, is_some, nat_le, slice_get}
 use Rattle.std.specs.Option.{option_map}
 use Rattle.std.specs.FinMap.{get}
@@ -24,7 +24,7 @@ use Rattle.ctl_code.specs.declared.code.Way.TheVariants as WayOf
 use Rattle.ctl_code.specs.States as T
 use Rattle.ctl_code.specs.States.{Move, Scalar, State, Word}
 use Rattle.ctl_code.specs.Table as Table
-use Rattle.ctl_code.specs.Table.{Here, begin_part, behind_declaration, by_instr, by_pool, pool_size, size_of, transfers}
+use Rattle.ctl_code.specs.Table.{Here, behind_declaration, by_instr, by_pool, create_object, pool_size, size_of, transfers}
 use Rattle.ctl_storage.specs.Calls.{IsBlockPoolSize}
 use Rattle.ctl_storage.specs.Storage as Storage
 use Rattle.ctl_storage.specs.Storage.{exists}
@@ -32,18 +32,15 @@ use Rattle.ctl_storage.specs.declared.pools.PoolSize.{PoolSize}
 use Rattle.ctl_objects.specs.Pools.{ShowsPools}
 use Rattle.ctl_objects.specs.Stock.{Stock}
 use Rattle.ctl_machine.specs.declared.engine.Engine.{Engine}
-use Rattle.ctl_machine.specs.declared.frame.Declared.TheVariants as DeclaredOf
-use Rattle.ctl_machine.specs.declared.frame.Frame.TheVariants as FrameOf
 use Rattle.ctl_machine.specs.declared.frame.Master.{Master}
 use Rattle.ctl_machine.specs.declared.frame.Mode.TheVariants as ModeOf
 use Rattle.ctl_machine.specs.declared.frame.Owned.{Owned}
-use Rattle.ctl_machine.specs.Declaring.{AwaitsWith, IsSize, with_object, with_pool}
-use Rattle.ctl_machine.specs.Initializing.{Grown}
+use Rattle.ctl_machine.specs.Declaring.{IsDeclared, IsSize, NewObject, with_object, with_pool}
 use Rattle.ctl_machine.specs.Masters.{first_display, first_window, heads_of}
 use Rattle.ctl_machine.specs.Moves.{Before, GoesOn, Inside, Makes, here_of}
 use Rattle.ctl_machine.specs.Shows.{Holds, Kept, kept, stock_of}
 use Rattle.ctl_machine.proofs.Following.{makes_later}
-use Rattle.ctl_machine.proofs.Newborn.{declaration_awaits, grown_in, has_object, row_of}
+use Rattle.ctl_machine.proofs.Newborn.{declaration_is, declared_in, has_object, row_of}
 use Rattle.ctl_machine.proofs.Newest.{newest_object, newest_object_is}
 use Rattle.ctl_machine.proofs.Lists.{eq_same}
 use Rattle.ctl_machine.proofs.Operands.{AreNewest, are_newest}
@@ -122,9 +119,9 @@ are_good size count h =
     let most : nat_le count greatest_block_count ≡ true = grind (arith, nat_tests, h.3) in
     rw (low, high, least, most) refl
 
--- the object begins as the pool opens
+-- the object is created as the pool opens
 pool_begins : (code : Code) (slot t : ℕ) (size : ℕ × ℕ) (ops : List Word) (h : Here) → good_discriminants RootOf.BlockPool size ≡ true
-    → by_pool code slot t size ops h ≡ begin_part code (Table.newborn h.world.ledger.next_object t (OwnerOf.Master (last_of h.display))) (T.Creating T.ByPoolDeclaration h.world.ledger.next_object t (behind_declaration ops h) ∷ h.control) (Table.with_pool code h.display slot t size h.world)
+    → by_pool code slot t size ops h ≡ create_object code T.ByPoolDeclaration (Table.newborn h.world.ledger.next_object t (OwnerOf.Master (last_of h.display))) (behind_declaration ops h) h.control (Table.with_pool code h.display slot t size h.world)
 pool_begins code slot t size ops h good = rw good refl
 
 -- the discriminants of a pool, where they are kept
@@ -132,13 +129,17 @@ abbrev pub size_kept : Option PoolSize → ℕ × ℕ
 size_kept None = (0, 0)
 size_kept (Some x) = (x.block_size, x.block_count)
 
--- the object as a part that is created, behind the frame of its declaration, where the pool is of this size
-abbrev pub pool_in : Code → ℕ → ℕ → ℕ → State → ℕ × ℕ → Grown
-pool_in code place slot t s size = grown_in DeclaredOf.Pool place t (drop 2 s.operands) s (Table.with_pool code (first_display (heads_of s.world.activations)) slot t size s.world)
+-- the object, where the pool is of this size
+abbrev pub pool_in : Code → ℕ → ℕ → ℕ → State → ℕ × ℕ → NewObject
+pool_in code place slot t s size = declared_in place (drop 2 s.operands) s (Table.with_pool code (first_display (heads_of s.world.activations)) slot t size s.world)
+
+-- how the table goes on with it, where a master of this number owns it
+abbrev pub pool_comes : Code → ℕ → ℕ → NewObject → Move
+pool_comes code t master x = create_object code T.ByPoolDeclaration (Table.newborn x.number t (OwnerOf.Master master)) x.point x.control x.world
 
 -- good discriminants, which are of this size
 pub good_move : (code : Code) (e : Engine) (place slot t at : ℕ) (order : DiscriminantOrder) (s : State) (x : PoolSize) → (b : Before code e place (DeclarePool slot t order at) s) → (let d = discriminants code e place slot t at order s b in IsSize order d.lower d.upper (Some x))
-    → (let g = pool_in code (place + 1) slot t s (x.block_size, x.block_count) in by_instr code (Some (DeclarePool slot t order at)) s.operands (here_of place s) ≡ begin_part code g.new g.control g.world)
+    → (let y = pool_in code (place + 1) slot t s (x.block_size, x.block_count) in by_instr code (Some (DeclarePool slot t order at)) s.operands (here_of place s) ≡ pool_comes code t (last_of y.point.display) y)
 good_move code e place slot t at order s x b is =
     let d = discriminants code e place slot t at order s b in
     let h = here_of place s in
@@ -196,19 +197,18 @@ other_pools code e y f k ops w h pools = record {
 abbrev pub OpensPool : Kept → PoolSize → Stock → Type 0
 OpensPool e size new = (x : W.Pools) → ShowsPools e.next_object x (stock_of e) → ShowsPools (e.next_object + 1) (push_block_pool e.next_object size.block_size size.block_count x) new
 
--- the newest object of an engine, whose pool is open, as a part that is created behind the frame of its declaration
-abbrev pub pool_newest : Code → Engine → ℕ → ℕ → State → Grown
+-- the newest object of an engine, whose pool is open
+abbrev pub pool_newest : Code → Engine → ℕ → ℕ → State → NewObject
 pool_newest code e place t s = pool_in code place (newest_object e.owned.items).slot t s (size_kept (get e.stock.sizes e.numbered.objects))
 
--- a pool of this size stands in its slot, and the frame of its declaration is to wait for it
-pub record IsDeclared (code : Code) (made : Engine) (place slot t : ℕ) (s : State) (size : PoolSize) : Type 0 where
+-- a pool of this size stands in its slot
+pub record IsPoolMade (code : Code) (made : Engine) (place slot t : ℕ) (s : State) (size : PoolSize) : Type 0 where
   pub is : pool_newest code made place t s ≡ pool_in code place slot t s (size.block_size, size.block_count)
-  pub awaits : AwaitsWith code made (FrameOf.Creating DeclaredOf.Pool place) (pool_newest code made place t s).control (pool_newest code made place t s).world
-  pub number : made.numbered.objects ≡ s.world.ledger.next_object
+  pub newest : IsDeclared code made t place (pool_newest code made place t s)
 
 -- its object is created in an engine that keeps what the old one keeps
 pub pool_made : (code : Code) (old ready made : Engine) (place slot t at cells : ℕ) (order : DiscriminantOrder) (s : State) (m : Master) (size : PoolSize) → Before code old place (DeclarePool slot t order at) s → slice_get old.masters.items (length old.masters.items - 1) ≡ Some m
-    → kept ready ≡ kept old → kept made ≡ with_pool made.stock m slot t (replicate cells 0) (kept ready) → cells ≡ size_of code t → made.numbered.objects ≡ ready.numbered.objects + 1 → OpensPool (kept ready) size made.stock → IsDeclared code made (place + 1) slot t s size
+    → kept ready ≡ kept old → kept made ≡ with_pool made.stock m slot t (replicate cells 0) (kept ready) → cells ≡ size_of code t → made.numbered.objects ≡ ready.numbered.objects + 1 → OpensPool (kept ready) size made.stock → IsPoolMade code made (place + 1) slot t s size
 unfolding opened_changes
 pool_made code old ready made place slot t at cells order s m size b newest same made_so many given opens =
     let d = discriminants code old place slot t at order s b in
@@ -240,15 +240,16 @@ pool_made code old ready made place slot t at cells order s m size b newest same
     ∙ ap (λ (o : Option PoolSize). pool_in code (place + 1) slot t s (size_kept o)) sized in
     record {
       is = is;
-      awaits = subst (λ (g : Grown). AwaitsWith code made (FrameOf.Creating DeclaredOf.Pool (place + 1)) g.control g.world) (sym is)
-          (declaration_awaits DeclaredOf.Pool code old made place slot t below ops s m made.stock (Table.with_pool code seen slot t (size.block_size, size.block_count) w) inside b.fine.1.2.1 newest are holds has.made.heads);
-      number = at_next ∙ number;
+      newest = subst (λ (y : NewObject). IsDeclared code made t (place + 1) y) (sym is)
+          (declaration_is code old made (place + 1) slot t below ops s m made.stock (Table.with_pool code seen slot t (size.block_size, size.block_count) w) inside b.fine.1.2.1 newest are holds has.made.heads);
     }
 
--- and it begins, where good discriminants stand
+-- and it is created, where good discriminants stand
 pub pool_makes : (code : Code) (old made new : Engine) (place slot t at : ℕ) (order : DiscriminantOrder) (s : State) (size : PoolSize) → (b : Before code old place (DeclarePool slot t order at) s) → (let d = discriminants code old place slot t at order s b in IsSize order d.lower d.upper (Some size))
-    → IsDeclared code made (place + 1) slot t s size → made.events.items ≡ old.events.items → made.picks.items ≡ old.picks.items
-    → (let g = pool_newest code made (place + 1) t s in Makes code made new (begin_part code g.new g.control g.world)) → Makes code old new (by_instr code (Some (DeclarePool slot t order at)) s.operands (here_of place s))
-pool_makes code old made new place slot t at order s size b good pool events picks goes =
-    subst (λ (m : Move). Makes code old new m) (sym (good_move code old place slot t at order s size b good))
-    (makes_later code old made new _ events picks (subst (λ (g : Grown). Makes code made new (begin_part code g.new g.control g.world)) pool.is goes))
+    → IsPoolMade code made (place + 1) slot t s size → (master : ℕ) → last_of (first_display (heads_of s.world.activations)) ≡ master → made.events.items ≡ old.events.items → made.picks.items ≡ old.picks.items
+    → Makes code made new (pool_comes code t master (pool_newest code made (place + 1) t s)) → Makes code old new (by_instr code (Some (DeclarePool slot t order at)) s.operands (here_of place s))
+pool_makes code old made new place slot t at order s size b good pool master own events picks goes =
+    let x = pool_in code (place + 1) slot t s (size.block_size, size.block_count) in
+    let same : by_instr code (Some (DeclarePool slot t order at)) s.operands (here_of place s) ≡ pool_comes code t master (pool_newest code made (place + 1) t s) =
+    good_move code old place slot t at order s size b good ∙ (ap (λ n. pool_comes code t n x) own ∙ ap (λ (y : NewObject). pool_comes code t master y) (sym pool.is)) in
+    subst (λ (m : Move). Makes code old new m) (sym same) (makes_later code old made new _ events picks goes)

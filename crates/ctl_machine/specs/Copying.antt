@@ -12,7 +12,7 @@ use Rattle.ctl_code.specs.States.{Maker, Point, State}
 use Rattle.ctl_code.specs.Table.{is_refused}
 use Rattle.ctl_code.specs.Valid.{IsScalar, Leads}
 use Rattle.ctl_machine.specs.Allocating.{OwnsNone}
-use Rattle.ctl_machine.specs.Declaring.{Copied}
+use Rattle.ctl_machine.specs.Declaring.{NewObject}
 use Rattle.ctl_machine.specs.Filling.{AllLeaveSame}
 use Rattle.ctl_machine.specs.Masters.{first_display, heads_of}
 use Rattle.ctl_machine.specs.Moves.{Inside}
@@ -56,7 +56,7 @@ pub record IsMember (code : Code) (e : Engine) (object place : ℕ) (s : State) 
 -- Adjustments ------------------------------------------------------------------------------------
 
 -- an object that has taken a value is to be adjusted: this frame is to wait for it
-pub record AwaitsCopy (code : Code) (e : Engine) (copy : Frame) (by : Maker) (type : ℕ) (t : Copied) : Type 0 where
+pub record AwaitsCopy (code : Code) (e : Engine) (copy : Frame) (by : Maker) (type : ℕ) (t : NewObject) : Type 0 where
   pub holds : Holds code (record (kept e) { control = copy ∷ (kept e).control }) (T.Copying by t.number type [] t.point ∷ t.control) [] t.world
   pub spots : e.spots.items ≡ standing t.control t.point.operands
   pub sized : SizedBelow code (T.Copying by t.number type [] t.point ∷ t.control) (heads_of t.world.activations)

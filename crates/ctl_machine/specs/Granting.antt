@@ -10,6 +10,7 @@ use Rattle.ctl_code.specs.declared.kinds.Kind.{Kind}
 use Rattle.ctl_code.specs.declared.kinds.Kind.TheVariants.{Operand}
 use Rattle.ctl_code.specs.declared.code.Code.{Code}
 use Rattle.ctl_code.specs.declared.code.Way.TheVariants as WayOf
+use Rattle.ctl_code.specs.Fits.{Stands}
 use Rattle.ctl_code.specs.States.{State}
 use Rattle.ctl_code.specs.Valid.{IsScalar, Leads}
 use Rattle.ctl_code.specs.Table.{Grant, Granted, Exhausted, UnknownPool, AllocateOf, NotPassed, Passed, address_test, grant, operation_for, pool_in, size_of, units_of, with_member}
@@ -119,6 +120,7 @@ pub record IsAdded (code : Code) (e : Engine) (set t at : ℕ) (m : Member) : Ty
   pub type : Ty
   pub scalar : IsScalar type
   pub leads : Leads code m.point.place (Operand type ∷ stack)
+  pub stands : Stands code stack m.control m.point.operands
   pub sized : Sized code stack m.control (heads_of (with_member code set t m.place m.granted).activations)
 
 -- the numbers of a collection and of a pool stand in two cells

@@ -14,7 +14,7 @@ ghost use Rattle.ctl_machine.specs.declared.frame.Frame.TheVariants as FrameOf;
 ghost use Rattle.ctl_machine.specs.Adjusting.{AdjustsParts, CallsAdjust, HasNoteRoom};
 ghost use Rattle.ctl_machine.specs.Assigning.{Called, IsAdjustOf};
 ghost use Rattle.ctl_machine.specs.Copying.{AwaitsCopy};
-ghost use Rattle.ctl_machine.specs.Declaring.{Copied};
+ghost use Rattle.ctl_machine.specs.Declaring.{NewObject};
 ghost use Rattle.ctl_machine.specs.Filling.{AreLeft, noted_among, pick_among};
 ghost use Rattle.ctl_machine.specs.Finishing.{AreDoubles, BeginsOver, Finished, Finishes, HasRoomToFinish};
 ghost use Rattle.ctl_machine.specs.Moves.{BeforeResuming, Chooses, GoesOn, Makes, Resumes};
@@ -203,7 +203,7 @@ impl Engine {
         record: usize,
         owner: Owner,
     )
-        ghost t: { Maker × Copied }
+        ghost t: { Maker × NewObject }
         requires copies { AwaitsCopy code.now self.old copy t.0 «record» t.1 }
         requires object { t.1.number ≡ object }
         requires some { Table.parts_of code.now «record» ≢ PartsOf.Plain }

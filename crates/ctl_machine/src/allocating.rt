@@ -6,7 +6,7 @@ ghost use Rattle.ctl_meaning.specs.Activations.{master_of};
 ghost use Rattle.ctl_meaning.specs.Allocation.{set_in};
 ghost use Rattle.ctl_meaning.specs.Changes.{slot_at};
 ghost use Rattle.ctl_meaning.specs.Objects.{is_untouched, object_in};
-ghost use Rattle.ctl_meaning.specs.World.{Object};
+ghost use Rattle.ctl_meaning.specs.World.{Object, World};
 ghost use Rattle.ctl_storage.specs.Stages.{state_of};
 ghost use Rattle.ctl_program.specs.declared.types.Ty.{Ty};
 ghost use Rattle.ctl_program.specs.declared.types.Var.{Var};
@@ -33,7 +33,7 @@ use crate::frame::{After, Ended, Frame, Master, Mode, Owned, Role};
 use crate::granting::{Grantor, units_of};
 use crate::holders::{find_set, held_set};
 use crate::layers::PROGRAM_ERROR;
-use crate::parts::parts_of;
+use crate::parts::{is_made_at_once, parts_of};
 use crate::pool_blocks::is_open;
 use crate::spots::Spot;
 use crate::storage_calls::StorageActuals;
@@ -182,16 +182,22 @@ impl Engine {
     }
 
     /// Lets the object of a record type that was allocated last, for the collection of this number, begin, for which there is room: its
-    /// components are to begin (RM 4.8, 7.6). Its allocator goes on at this place.
+    /// components are to begin (RM 4.8, 7.6). Its allocator goes on at this place. Where nothing is executed for its creation, it joins the
+    /// collection at once (RM 4.8).
     #[inline(always)]
     fn begin_member(&mut self, code: &Code, set: u64, record: usize, place: usize)
-        ghost t: { Member }
-        requires added { IsAdded code.now self.old set «record» place t }
+        ghost t: { Member × World }
+        requires valid { IsValid code.now }
+        requires added { IsAdded code.now self.old set «record» place t.0 }
+        requires world { t.1 ≡ Table.with_member code.now set «record» t.0.place t.0.granted }
         requires control { vec_len self.old.control + 2 ≤ vec_capacity self.old.control }
         requires spots { vec_len self.old.spots < vec_capacity self.old.spots }
-        ensures makes { Makes code.now self.old self.new (Table.member_begins code.now «record» set t.place t.point t.control t.granted) }
+        ensures makes { Makes code.now self.old self.new (Table.member_begins code.now «record» set t.0.place t.0.point t.0.control t.0.granted) }
     {
         let object = self.numbered.objects;
+        if is_made_at_once(code, record) {
+            return self.end_allocation(code, Ended::Complete, object, place);
+        }
         self.control
             .push_reserved(Frame::Allocating { object, place });
         let whole = Spot::whole(self.alloc, object);

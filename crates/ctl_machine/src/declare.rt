@@ -3,20 +3,18 @@
 ghost use Rattle.std.specs.Prelude.{◌≡◌, ◌+◌, ◌-◌, ◌^◌, ◌<◌, ◌≤◌, [], ◌++◌, OnErr, OnOk, Some, length, replicate, vec_capacity, vec_len};
 ghost use Rattle.ctl_code.specs.declared.code.Instr.TheVariants as InstrOf;
 ghost use Rattle.ctl_code.specs.Table as Table;
-ghost use Rattle.ctl_code.specs.States.{ByDeclaration, State, whole_spot};
+ghost use Rattle.ctl_code.specs.States.{ByDeclaration, Maker, State};
 ghost use Rattle.ctl_code.specs.Valid.{IsValid};
 ghost use Rattle.ctl_tree.specs.declared.event.Owner.TheVariants as OwnerOf;
 ghost use Rattle.ctl_machine.specs.Moves.{Before, GoesOn, Makes, here_of};
-ghost use Rattle.ctl_machine.specs.Shows.{kept};
-ghost use Rattle.ctl_machine.specs.declared.frame.Frame.TheVariants as FrameOf;
-ghost use Rattle.ctl_machine.specs.Declaring.{AwaitsWith, Copied, IsCopied, with_object, with_owned};
-ghost use Rattle.ctl_machine.specs.Initializing.{Grown, IsOf};
+ghost use Rattle.ctl_machine.specs.Shows.{kept, maker_of};
+ghost use Rattle.ctl_machine.specs.Declaring.{IsDeclared, NewObject, with_object, with_owned};
 ghost use Rattle.ctl_storage.specs.Order.{AreBelow};
 ghost use Rattle.ctl_objects.specs.Order.{AreUpTo};
 
 use crate::engine::Engine;
 use crate::frame::{Declared, Frame, Master, Mode, Owned, Role};
-use crate::parts::{parts_of, size_of};
+use crate::parts::{is_made_at_once, parts_of, size_of};
 use crate::room::reserve;
 use crate::spots::Spot;
 use ctl_code::code::{Code, Parts};
@@ -101,7 +99,9 @@ impl Engine {
     }
 
     /// Lets the components of the newest object begin, of a record type, which this master owns, over the frame of its declaration, for which
-    /// there is room (RM 7.6); the declaration goes on at this place.
+    /// there is room (RM 7.6); the declaration goes on at this place. Where nothing is executed for the creation of the object, it is a layer
+    /// of its master at once (RM 7.6.1).
+    #[inline(always)]
     pub(crate) fn begin_declared(
         &mut self,
         code: &Code,
@@ -110,22 +110,24 @@ impl Engine {
         master: u64,
         place: usize,
     )
-        ghost t: { Grown }
-        requires awaits { AwaitsWith code.now self.old (FrameOf.Creating declared place) t.control t.world }
-        requires is_of { IsOf «record» (OwnerOf.Master master) t.new }
-        requires newest { t.new.spot ≡ whole_spot self.old.numbered.objects }
+        ghost t: { Maker × NewObject }
+        requires maker { t.0 ≡ maker_of declared }
+        requires newest { IsDeclared code.now self.old «record» place t.1 }
         requires control { vec_len self.old.control + 2 ≤ vec_capacity self.old.control }
         requires spots { vec_len self.old.spots < vec_capacity self.old.spots }
-        ensures { Makes code.now self.old self.new (Table.begin_part code.now t.new t.control t.world) }
+        ensures { Makes code.now self.old self.new (Table.create_object code.now t.0 (Table.newborn t.1.number «record» (OwnerOf.Master master)) t.1.point t.1.control t.1.world) }
     {
+        if is_made_at_once(code, record) {
+            return self.become_layer(place);
+        }
         self.control
             .push_reserved(Frame::Creating { declared, place });
         let spot = Spot::whole(self.alloc, self.numbered.objects);
         self.begin_part(code, spot, record, Owner::Master(master));
     }
 
-    /// Declares an object of a record type without a value (RM 3.3.1): it is created, and its components are to begin (RM 7.6); unchanged
-    /// where memory is refused.
+    /// Declares an object of a record type without a value (RM 3.3.1): it is created, and its components are to begin, if anything is
+    /// executed for that (RM 7.6); unchanged where memory is refused.
     #[inline(always)]
     pub(crate) fn declare(
         &mut self,
@@ -153,8 +155,8 @@ impl Engine {
     /// Lets the newest owned object, of a record type, which has taken a value, be adjusted, for which there is room (RM 7.6); its
     /// declaration goes on at this place. Where no part of it is controlled, it is a layer of its master at once (RM 7.6.1).
     fn adjust_new(&mut self, code: &Code, record: usize, master: u64, place: usize)
-        ghost t: { Copied }
-        requires copied { IsCopied code.now self.old «record» place t }
+        ghost t: { NewObject }
+        requires newest { IsDeclared code.now self.old «record» place t }
         requires control { vec_len self.old.control + 2 ≤ vec_capacity self.old.control }
         requires spots { vec_len self.old.spots < vec_capacity self.old.spots }
         ensures { Makes code.now self.old self.new (Table.adjust_new code.now (Table.parts_of code.now «record») ByDeclaration (Table.newborn t.number «record» (OwnerOf.Master master)) t.point t.control t.world) }

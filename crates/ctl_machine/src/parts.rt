@@ -53,12 +53,25 @@ pub(crate) fn needs_of(alloc: Global, code: &Code) -> Result<Vec<Need>, AllocErr
 }
 
 /// Counts the components of a record type that begin with something (RM 3.8, 7.6); none where the code knows no such type.
+#[inline(always)]
 pub(crate) fn count_begun(code: &Code, record: usize) -> usize
     ensures { result ≡ length (Table.begun_of code.now «record») }
 {
     match code.layouts.as_slice().get(record) {
         Some(layout) => layout.begun.as_slice().len(),
         None => 0,
+    }
+}
+
+/// Tells whether nothing is executed for the creation of an object of a record type: no part of it is controlled, and no component begins
+/// with something (RM 3.3.1, 7.6).
+#[inline(always)]
+pub(crate) fn is_made_at_once(code: &Code, record: usize) -> bool
+    ensures { result ≡ Table.is_made_at_once (Table.parts_of code.now «record») (Table.begun_of code.now «record») }
+{
+    match parts_of(code, record) {
+        Parts::Plain => count_begun(code, record) == 0,
+        _ => false,
     }
 }
 

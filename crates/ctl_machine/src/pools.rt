@@ -123,8 +123,8 @@ impl Engine {
     }
 
     /// Declares a block pool of a record type, whose discriminants are the two newest operands, in this order, the first of them in this
-    /// cell (RM 13.11): it is created and opened, and its components are to begin (RM 7.6). Bad discriminants raise Constraint_Error.
-    /// Unchanged where memory is refused.
+    /// cell (RM 13.11): it is created and opened, and its components are to begin, if anything is executed for that (RM 7.6). Bad
+    /// discriminants raise Constraint_Error. Unchanged where memory is refused.
     #[inline(never)]
     pub(crate) fn declare_pool(
         &mut self,

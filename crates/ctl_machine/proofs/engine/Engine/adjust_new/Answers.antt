@@ -4,11 +4,12 @@ use Rattle.ctl_code.specs.declared.code.Parts.TheVariants as PartsOf
 use Rattle.ctl_code.specs.States as T
 use Rattle.ctl_code.specs.Table.{adjust_new, newborn, parts_of}
 use Rattle.ctl_machine.specs.Moves.{Makes}
-use Rattle.ctl_machine.proofs.CopyBegun.{copy_is_newest, declared_awaits, plain_lives}
+use Rattle.ctl_machine.proofs.CopyBegun.{declared_awaits, plain_lives}
+use Rattle.ctl_machine.proofs.MadeAtOnce.{declared_is_newest}
 use Rattle.ctl_machine.proofs.engine.Engine.adjust_new.Goals as goal
 
 pub become_layer-requires : goal.become_layer-requires
-become_layer-requires g c = copy_is_newest c.args.code.now c.args.self.now c.args.record c.args.place g.t c.requires.0
+become_layer-requires g c = declared_is_newest c.args.code.now c.args.self.now c.args.record c.args.place g.t c.requires.0
 
 pub returns-in-Plain : goal.returns-in-Plain
 returns-in-Plain g c = plain_lives c.args.code.now c.args.self.now c.become_layer.new.self c.args.record c.args.place (OwnerOf.Master c.args.master) g.t c.requires.0 (sym c.parts_of.ensures ∙ c.in-Plain.is) c.become_layer.ensures

@@ -1,4 +1,4 @@
-use Rattle.std.proofs.Common.{◌≡◌, ◌+◌, ◌∙◌, ap, arith, drop, false, reverse, subst, sym}
+use Rattle.std.proofs.Common.{◌≡◌, ◌+◌, ◌∙◌, ap, arith, drop, false, refl, reverse, subst, sym}
 use Rattle.ctl_tree.specs.declared.ending.Stop.TheVariants.{BadAddress, UseAfterFree}
 use Rattle.ctl_meaning.specs.Pools.{block_pool_at}
 use Rattle.ctl_meaning.specs.World.{InBlock}
@@ -110,7 +110,7 @@ begin_member-requires g c =
     let placed : Places code old added set t c.index-pool.result.now c.index-address.result.now s.world PlacingOf.Placed = subst (λ (z : Placing). Places code old added set t c.index-pool.result.now c.index-address.result.now s.world z) c.in-Placed.is c.in_ok-add_at_address.ensures.ok in
     let member = subst (λ k. IsNewMember code (kept old) (kept added) set t (InBlock n.pool k) s.world) address_is (subst (λ k. IsNewMember code (kept old) (kept added) set t (InBlock k c.index-address.result.now) s.world) pool_is placed.1) in
     let is = placed_is code old added c.args.place t g.s.2 set g.s.1 s b n member in
-    (subst (λ k. IsAdded code added set t (c.args.place + 1) (member_in s.operands k s)) (sym (ap place_in b.mode)) is, (c.in_ok-add_at_address.ensures.control, c.in_ok-add_at_address.ensures.spots))
+    (c.requires.0, (subst (λ k. IsAdded code added set t (c.args.place + 1) (member_in s.operands k s)) (sym (ap place_in b.mode)) is, (refl, (c.in_ok-add_at_address.ensures.control, c.in_ok-add_at_address.ensures.spots))))
 
 pub returns-in-Placed-clause-ok : goal.returns-in-Placed-clause-ok
 returns-in-Placed-clause-ok g c =

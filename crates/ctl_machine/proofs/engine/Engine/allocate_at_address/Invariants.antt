@@ -1,3 +1,4 @@
+use Rattle.ctl_code.specs.Table.{with_member}
 use Rattle.ctl_machine.proofs.Newborn.{place_in}
 use Rattle.ctl_machine.proofs.PlacedMember.{member_in}
 use Rattle.ctl_machine.proofs.engine.Engine.allocate_at_address.Given as goal
@@ -6,4 +7,4 @@ abbrev pub ghost-add_at_address : goal.ghost-add_at_address
 ghost-add_at_address g a = g.s.0
 
 abbrev pub ghost-begin_member : goal.ghost-begin_member
-ghost-begin_member g a = member_in g.s.0.operands (place_in g.s.0.mode) g.s.0
+ghost-begin_member g a = let m = member_in g.s.0.operands (place_in g.s.0.mode) g.s.0 in (m, with_member a.code.now a.set a.record m.place m.granted)

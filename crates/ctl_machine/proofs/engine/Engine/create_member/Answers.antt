@@ -49,4 +49,4 @@ begin_member-requires g c =
     let at : place_in s.mode ≡ c.args.place = ap place_in b.mode in
     let is : IsAdded code added set t (c.args.place + 2) (record { place = place; control = s.control; point = p; granted = v }) =
     is_added code old added set t (c.args.place + 2) before.0 b.stack place s.control p s.world v b.inside (omega arith) refl b.fine.0 b.fine.4 beside adds.member in
-    (subst (λ k. IsAdded code added set t (c.args.place + 2) (record { place = place; control = s.control; point = behind_next s.operands (here_of k s); granted = v })) (sym at) is, (c.in_ok-refused.ensures.control, c.in_ok-refused.ensures.spots))
+    (c.requires.0, (subst (λ k. IsAdded code added set t (c.args.place + 2) (record { place = place; control = s.control; point = behind_next s.operands (here_of k s); granted = v })) (sym at) is, (refl, (c.in_ok-refused.ensures.control, c.in_ok-refused.ensures.spots))))

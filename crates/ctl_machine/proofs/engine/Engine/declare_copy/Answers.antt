@@ -5,7 +5,7 @@ use Rattle.ctl_machine.specs.declared.frame.Numbered.{Numbered}
 use Rattle.ctl_machine.specs.declared.frame.Owned.{Owned}
 use Rattle.ctl_objects.specs.Order as Order
 use Rattle.ctl_storage.specs.Order as Stored
-use Rattle.ctl_machine.specs.Declaring.{IsCopied}
+use Rattle.ctl_machine.specs.Declaring.{IsDeclared}
 use Rattle.ctl_machine.specs.Moves.{Makes}
 use Rattle.ctl_machine.specs.Shows.{Kept, kept, with_spots}
 use Rattle.ctl_machine.proofs.Owned.{found_below, newest_above, none_there, some_there}
@@ -102,7 +102,7 @@ adjust_new-requires g c =
     let there = c.in_ok-reserve_object.ensures.spots in
     let was = ap (λ v. vec_len v) c.in_ok-create.ensures.spots in
     let wider = ap (λ v. vec_capacity v) c.in_ok-create.ensures.spots in (
-      subst (λ n. IsCopied code begun c.args.record (c.args.place + 1) (copied_at code (c.args.place + 1) n c.args.record g.s)) (sym slot) copied.0,
+      subst (λ n. IsDeclared code begun c.args.record (c.args.place + 1) (copied_at code (c.args.place + 1) n c.args.record g.s)) (sym slot) copied.0,
       (
         subst (λ v. vec_len v + 2 ≤ vec_capacity v) (sym frames) room,
         omega (arith, fewer, wide, there, was, wider),

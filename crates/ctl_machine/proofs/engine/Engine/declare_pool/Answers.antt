@@ -1,8 +1,6 @@
 use Rattle.std.proofs.Common.{List, None, ap, length, refl, subst, sym, ℕ, ◌+◌, ◌<◌, ◌∙◌, ◌≡◌, ◌≤◌}
 use Rattle.std.specs.Prelude.{vec_capacity, vec_len}
 use Rattle.std.specs.FinMap.{get}
-use Rattle.ctl_tree.specs.declared.event.Owner.TheVariants as OwnerOf
-use Rattle.ctl_code.specs.States as T
 use Rattle.ctl_objects.specs.Order as Order
 use Rattle.ctl_machine.specs.Declaring.{IsSize}
 use Rattle.ctl_machine.specs.Shows.{Kept, kept, stock_of}
@@ -50,33 +48,22 @@ create_pool-requires-clause-newest g c =
 
 pub begin_declared-requires : goal.begin_declared-requires
 begin_declared-requires g c =
-    let code = c.args.code.now in
-    let old = c.args.self.now in
-    let b = c.requires.1.0 in
-    let m = c.newest-newest.result in
     let made = c.in_ok-create_pool.ensures in
     let room = c.in_ok-reserve_object.ensures in
-    let has = has_object code old b.stack c.args.slot c.args.record g.s g.s.operands m b.inside c.newest-newest.ensures.last in
-    let pool = pool_made code old c.reserve_object.new.self c.create_pool.new.self c.args.place c.args.slot c.args.record c.args.at c.size_of-cells.result c.args.order g.s m c.in-Some.size b c.newest-newest.ensures.last room.same.kept made.kept c.size_of-cells.ensures made.number made.pools in (
-      pool.awaits,
-      (
-        record { type_is = refl; owner_is = ap (λ n. OwnerOf.Master n) has.own },
-        (
-          ap T.whole_spot (sym pool.number),
-          (subst (λ v. vec_len v + 2 ≤ vec_capacity v) (sym made.control) room.control, subst (λ v. vec_len v < vec_capacity v) (sym made.spots) room.spots),
-        ),
-      ),
-    )
+    let pool = pool_made c.args.code.now c.args.self.now c.reserve_object.new.self c.create_pool.new.self c.args.place c.args.slot c.args.record c.args.at c.size_of-cells.result c.args.order g.s c.newest-newest.result c.in-Some.size c.requires.1.0 c.newest-newest.ensures.last room.same.kept made.kept c.size_of-cells.ensures made.number made.pools in
+    (refl, (pool.newest, (subst (λ v. vec_len v + 2 ≤ vec_capacity v) (sym made.control) room.control, subst (λ v. vec_len v < vec_capacity v) (sym made.spots) room.spots)))
 
 pub returns-clause-ok : goal.returns-clause-ok
 returns-clause-ok g c =
     let code = c.args.code.now in
     let old = c.args.self.now in
     let b = c.requires.1.0 in
+    let m = c.newest-newest.result in
     let made = c.in_ok-create_pool.ensures in
     let room = c.in_ok-reserve_object.ensures in
     let d = discriminants code old c.args.place c.args.slot c.args.record c.args.at c.args.order g.s b in
     let good = subst (λ x. IsSize c.args.order d.lower d.upper x) c.in-Some.is (c.operand_size.ensures d.lower d.upper d.lower_read d.upper_read) in
-    let pool = pool_made code old c.reserve_object.new.self c.create_pool.new.self c.args.place c.args.slot c.args.record c.args.at c.size_of-cells.result c.args.order g.s c.newest-newest.result c.in-Some.size b c.newest-newest.ensures.last room.same.kept made.kept c.size_of-cells.ensures made.number made.pools in
-    pool_makes code old c.create_pool.new.self c.begin_declared.new.self c.args.place c.args.slot c.args.record c.args.at c.args.order g.s c.in-Some.size b good pool
+    let has = has_object code old b.stack c.args.slot c.args.record g.s g.s.operands m b.inside c.newest-newest.ensures.last in
+    let pool = pool_made code old c.reserve_object.new.self c.create_pool.new.self c.args.place c.args.slot c.args.record c.args.at c.size_of-cells.result c.args.order g.s m c.in-Some.size b c.newest-newest.ensures.last room.same.kept made.kept c.size_of-cells.ensures made.number made.pools in
+    pool_makes code old c.create_pool.new.self c.begin_declared.new.self c.args.place c.args.slot c.args.record c.args.at c.args.order g.s c.in-Some.size b good pool m.number has.own
     (ap (λ v. v.items) made.events ∙ room.same.events) (ap (λ v. v.items) made.picks ∙ room.same.picks) c.begin_declared.ensures
