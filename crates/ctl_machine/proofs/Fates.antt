@@ -29,10 +29,11 @@ use Rattle.ctl_code.specs.declared.code.Code.{Code}
 use Rattle.ctl_code.specs.declared.code.Parts.{Parts}
 use Rattle.ctl_code.specs.declared.code.Parts.TheVariants as PartsOf
 use Rattle.ctl_code.specs.States as T
-use Rattle.ctl_code.specs.States.{State, Word}
-use Rattle.ctl_code.specs.Table.{behind_declaration, finalize_freed, finalize_object, free_member, free_object, gives, has_part, parts_of, stopped, storage_of, units_for}
+use Rattle.ctl_code.specs.States.{Move, State, Word}
+use Rattle.ctl_code.specs.Table.{behind_declaration, finalize_freed, finalize_object, free_member, free_object, freed_in, gives, has_part, parts_of, stopped, storage_of, units_for}
 use Rattle.ctl_machine.specs.declared.engine.Engine.{Engine}
 use Rattle.ctl_machine.specs.declared.frame.Owned.{Owned}
+use Rattle.ctl_machine.specs.declared.freeing.Fate.{Fate}
 use Rattle.ctl_machine.specs.declared.freeing.Fate.TheVariants as FateOf
 use Rattle.ctl_machine.specs.Allocating.{OwnsNone}
 use Rattle.ctl_machine.specs.Freeing.{IsFate, MayBe, by_fate, fate_by_life, fate_by_origin, fate_of, fate_of_member, if_unfinished, storage_at, units_at}
@@ -52,59 +53,64 @@ known_object n x cells = record (known n x) { cells = cells }
 pub is_known_object : (n : ℕ) (x : Existing) (o : Object) → bare o ≡ known n x → o ≡ known_object n x o.cells
 is_known_object n x o e = ap (λ (z : Object). record z { cells = o.cells }) e
 
-same_either : {A : Type 0} (b : Bool) (x : A) → (if b then x else x) ≡ x
-same_either true x = refl
-same_either false x = refl
+not_due : {A : Type 0} (joined untouched : Bool) (x y : A) → (if joined && (untouched && false) then x else y) ≡ y
+not_due true true x y = refl
+not_due true false x y = refl
+not_due false untouched x y = refl
+
+-- the table's move where this becomes of an object of which this is known
+abbrev fate_moves : Code → Fate → ℕ → Existing → T.Nulled → T.Point → List T.Frame → World → Move
+fate_moves code fate n x nulled p k w = by_fate code fate nulled n (storage_of (origin_of x.origin)) (units_for code x.ty) p k w
 
 -- one that is not being finalized
-unfinished_moves : (code : Code) (n : ℕ) (x : Existing) (cells : List ℕ) (f : T.Frame) (k : List T.Frame) (w : World) → finalize_freed code (known_object n x cells) (f ∷ k) w ≡ by_fate code (if_unfinished code x.stage x.ty) n f k w
-unfinished_moves code n x cells f k w = by x.ty
+unfinished_moves : (code : Code) (n : ℕ) (x : Existing) (cells : List ℕ) (nulled : T.Nulled) (p : T.Point) (k : List T.Frame) (w : World) → finalize_freed code nulled (known_object n x cells) p k w ≡ fate_moves code (if_unfinished code x.stage x.ty) n x nulled p k w
+unfinished_moves code n x cells nulled p k w = by x.ty
   where
-    by_due : (b : Bool) (t : ℕ) → (if b then finalize_object code (parts_of code t) CauseOf.Free n t (f ∷ k) w else gives (Fine T.Complete) (f ∷ k) w) ≡ by_fate code (if b then FateOf.Finalizes t else FateOf.Goes) n f k w
+    lies : W.Place
+    lies = storage_of (origin_of x.origin)
+
+    by_due : (b : Bool) (t : ℕ) → (let units = units_for code (Record t) in (if b then finalize_object code (parts_of code t) CauseOf.Free n t (T.Freeing nulled n lies units p ∷ k) w else freed_in code nulled n lies units false p k w) ≡ by_fate code (if b then FateOf.Finalizes t else FateOf.Goes) nulled n lies units p k w)
     by_due true t = refl
     by_due false t = refl
 
-    other : (if x.stage.has_joined && (is_untouched (state_of x.stage.life) && false) then gives (Fine T.Complete) (f ∷ k) w else gives (Fine T.Complete) (f ∷ k) w) ≡ gives (Fine T.Complete) (f ∷ k) w
-    other = same_either (x.stage.has_joined && (is_untouched (state_of x.stage.life) && false)) (gives (Fine T.Complete) (f ∷ k) w)
+    other : (units : ℕ) → (if x.stage.has_joined && (is_untouched (state_of x.stage.life) && false) then gives (Fine T.Complete) (T.Freeing nulled n lies units p ∷ k) w else freed_in code nulled n lies units false p k w) ≡ freed_in code nulled n lies units false p k w
+    other units = not_due x.stage.has_joined (is_untouched (state_of x.stage.life)) (gives (Fine T.Complete) (T.Freeing nulled n lies units p ∷ k) w) (freed_in code nulled n lies units false p k w)
 
-    by : (ty : Ty) → finalize_freed code (record (known_object n x cells) { ty = ty }) (f ∷ k) w ≡ by_fate code (if_unfinished code x.stage ty) n f k w
-    by Integer = other
-    by Count = other
-    by Boolean = other
-    by Address = other
-    by Handle = other
-    by (Access a) = other
+    by : (ty : Ty) → finalize_freed code nulled (record (known_object n x cells) { ty = ty }) p k w ≡ by_fate code (if_unfinished code x.stage ty) nulled n lies (units_for code ty) p k w
+    by Integer = other (units_for code Integer)
+    by Count = other (units_for code Count)
+    by Boolean = other (units_for code Boolean)
+    by Address = other (units_for code Address)
+    by Handle = other (units_for code Handle)
+    by (Access a) = other (units_for code (Access a))
     by (Record t) = by_due (x.stage.has_joined && (is_untouched (state_of x.stage.life) && has_part (parts_of code t))) t
 
 -- one that is freed from its collection
-member_moves : (code : Code) (n : ℕ) (x : Existing) (cells : List ℕ) (f : T.Frame) (k : List T.Frame) (w : World)
-    → (if is_finalizing (state_of x.stage.life) then stopped StopOf.FreeWhileFinalizing k w else finalize_freed code (known_object n x cells) (f ∷ k) w) ≡ by_fate code (fate_of_member code x) n f k w
+member_moves : (code : Code) (n : ℕ) (x : Existing) (cells : List ℕ) (nulled : T.Nulled) (p : T.Point) (k : List T.Frame) (w : World)
+    → (if is_finalizing (state_of x.stage.life) then stopped StopOf.FreeWhileFinalizing k w else finalize_freed code nulled (known_object n x cells) p k w) ≡ fate_moves code (fate_of_member code x) n x nulled p k w
 unfolding opened_objects
-member_moves code n x cells f k w = by x.stage.life (unfinished_moves code n x cells f k w)
+member_moves code n x cells nulled p k w = by x.stage.life (unfinished_moves code n x cells nulled p k w)
   where
-    by : (l : Life) → finalize_freed code (known_object n x cells) (f ∷ k) w ≡ by_fate code (if_unfinished code x.stage x.ty) n f k w
-        → (if is_finalizing (state_of l) then stopped StopOf.FreeWhileFinalizing k w else finalize_freed code (known_object n x cells) (f ∷ k) w) ≡ by_fate code (fate_by_life code l x.stage x.ty) n f k w
+    by : (l : Life) → finalize_freed code nulled (known_object n x cells) p k w ≡ fate_moves code (if_unfinished code x.stage x.ty) n x nulled p k w
+        → (if is_finalizing (state_of l) then stopped StopOf.FreeWhileFinalizing k w else finalize_freed code nulled (known_object n x cells) p k w) ≡ fate_moves code (fate_by_life code l x.stage x.ty) n x nulled p k w
     by LifeOf.Untouched e = e
     by LifeOf.Finalizing e = refl
     by LifeOf.Finalized e = e
 
 -- and from whichever collection
-freed_moves : (code : Code) (set n : ℕ) (x : Existing) (cells : List ℕ) (nulled : T.Nulled) (p : T.Point) (k : List T.Frame) (w : World) → free_member code nulled set (known_object n x cells) p k w ≡ by_fate code (fate_of code set x) n (T.Freeing nulled n (storage_of (origin_of x.origin)) (units_for code x.ty) p) k w
+freed_moves : (code : Code) (set n : ℕ) (x : Existing) (cells : List ℕ) (nulled : T.Nulled) (p : T.Point) (k : List T.Frame) (w : World) → free_member code nulled set (known_object n x cells) p k w ≡ fate_moves code (fate_of code set x) n x nulled p k w
 unfolding opened_objects
-freed_moves code set n x cells nulled p k w = by x.origin (member_moves code n x cells f k w)
+freed_moves code set n x cells nulled p k w = by x.origin (member_moves code n x cells nulled p k w)
   where
-    f : T.Frame
-    f = T.Freeing nulled n (storage_of (origin_of x.origin)) (units_for code x.ty) p
-
-    by_set : (b : Bool) → (if is_finalizing (state_of x.stage.life) then stopped StopOf.FreeWhileFinalizing k w else finalize_freed code (known_object n x cells) (f ∷ k) w) ≡ by_fate code (fate_of_member code x) n f k w
-        → (if not b then stopped StopOf.ForeignFree k w else if is_finalizing (state_of x.stage.life) then stopped StopOf.FreeWhileFinalizing k w else finalize_freed code (known_object n x cells) (f ∷ k) w)
-        ≡ by_fate code (if b then fate_of_member code x else FateOf.Stops StopOf.ForeignFree) n f k w
+    by_set : (b : Bool) → (if is_finalizing (state_of x.stage.life) then stopped StopOf.FreeWhileFinalizing k w else finalize_freed code nulled (known_object n x cells) p k w) ≡ fate_moves code (fate_of_member code x) n x nulled p k w
+        → (if not b then stopped StopOf.ForeignFree k w else if is_finalizing (state_of x.stage.life) then stopped StopOf.FreeWhileFinalizing k w else finalize_freed code nulled (known_object n x cells) p k w)
+        ≡ fate_moves code (if b then fate_of_member code x else FateOf.Stops StopOf.ForeignFree) n x nulled p k w
     by_set true e = e
     by_set false e = refl
 
-    by : (z : Origin) → (if is_finalizing (state_of x.stage.life) then stopped StopOf.FreeWhileFinalizing k w else finalize_freed code (known_object n x cells) (f ∷ k) w) ≡ by_fate code (fate_of_member code x) n f k w
-        → (if not (is_of_set set (origin_of z)) then stopped StopOf.ForeignFree k w else if is_finalizing (state_of x.stage.life) then stopped StopOf.FreeWhileFinalizing k w else finalize_freed code (known_object n x cells) (f ∷ k) w)
-        ≡ by_fate code (fate_by_origin code set z x) n f k w
+    by : (z : Origin) → (if is_finalizing (state_of x.stage.life) then stopped StopOf.FreeWhileFinalizing k w else finalize_freed code nulled (known_object n x cells) p k w) ≡ fate_moves code (fate_of_member code x) n x nulled p k w
+        → (if not (is_of_set set (origin_of z)) then stopped StopOf.ForeignFree k w else if is_finalizing (state_of x.stage.life) then stopped StopOf.FreeWhileFinalizing k w else finalize_freed code nulled (known_object n x cells) p k w)
+        ≡ fate_moves code (fate_by_origin code set z x) n x nulled p k w
     by (OriginOf.Declared m) e = refl
     by (OriginOf.Allocated c place) e = by_set (nat_eq c set) e
 
@@ -208,8 +214,8 @@ fate_known code e v n set x s h knows is =
           ∙ (ap (λ m. free_member code nulled m o p k w) (sym is)
           ∙ (ap (λ (z : Object). free_member code nulled set z p k w) f.same
           ∙ (freed_moves code set n x o.cells nulled p k w
-          ∙ (ap (λ (z : W.Place). by_fate code (fate_of code set x) n (T.Freeing nulled n z (units_for code x.ty) p) k w) (sym (storage_known code e n x s h knows))
-          ∙ ap (λ u. by_fate code (fate_of code set x) n (T.Freeing nulled n (storage_at (object_at n w)) u p) k w) (sym (units_known code e n x s h knows))))));
+          ∙ (ap (λ (z : W.Place). by_fate code (fate_of code set x) nulled n z (units_for code x.ty) p k w) (sym (storage_known code e n x s h knows))
+          ∙ ap (λ u. by_fate code (fate_of code set x) nulled n (storage_at (object_at n w)) u p k w) (sym (units_known code e n x s h knows))))));
     }
 
 none_moves : (code : Code) (nulled : T.Nulled) (a : AccessHome) (ops : List Word) (place : ℕ) (s : State) (y : Option Object) → y ≡ None → free_object code nulled (Some a) y ops (here_of place s) ≡ stopped StopOf.UseAfterFree s.control s.world

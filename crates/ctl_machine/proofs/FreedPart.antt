@@ -21,7 +21,7 @@ use Rattle.ctl_code.specs.declared.code.Code.{Code}
 use Rattle.ctl_code.specs.declared.code.Instr.TheVariants.{Free, FreePart}
 use Rattle.ctl_code.specs.States as T
 use Rattle.ctl_code.specs.States.{Giving, Move, State, Word}
-use Rattle.ctl_code.specs.Table.{Here, act, ahead, by_free, by_free_part, by_instr, cell_at, component_of, freed_by, freed_part, free_object, gone, offset_of, return_to, says_failed}
+use Rattle.ctl_code.specs.Table.{Here, act, ahead, by_free, by_free_part, by_instr, cell_at, component_of, freed_by, freed_in, freed_part, free_object, gone, offset_of, return_to, says_failed}
 use Rattle.ctl_machine.specs.declared.engine.Engine.{Engine}
 use Rattle.ctl_machine.specs.declared.frame.Ended.{Ended}
 use Rattle.ctl_machine.specs.declared.frame.Frame.{Frame}
@@ -30,8 +30,9 @@ use Rattle.ctl_machine.specs.declared.frame.Mode.TheVariants as ModeOf
 use Rattle.ctl_machine.specs.declared.frame.Nulled.{Nulled}
 use Rattle.ctl_machine.specs.declared.frame.Nulled.TheVariants as NulledOf
 use Rattle.ctl_machine.specs.declared.frame.Storage.{Storage}
+use Rattle.ctl_machine.specs.Allocating.{OwnsNone}
 use Rattle.ctl_machine.specs.Finishing.{DropsFrame, with_objects}
-use Rattle.ctl_machine.specs.Freeing.{Freed, Frees, IsGone, calls_back, gone_of, has_deallocate}
+use Rattle.ctl_machine.specs.Freeing.{Freed, Frees, Gone, IsGone, IsLetGo, behind_frees, behind_instruction, by_component, by_variable, calls_back, gone_by_part, has_deallocate, part_of}
 use Rattle.ctl_machine.specs.Masters.{first_display, heads_of}
 use Rattle.ctl_machine.specs.Moves.{Before, BeforeResuming, GoesOn, Inside, Makes, here_of}
 use Rattle.ctl_machine.specs.Parts.{part_in}
@@ -39,9 +40,8 @@ use Rattle.ctl_machine.specs.Shows.{Holds, Kept, kept, nulled_of, tried_of, with
 use Rattle.ctl_machine.specs.Spots.{first_spot, spots_in, standing}
 use Rattle.ctl_machine.proofs.Assignments.{stops_makes}
 use Rattle.ctl_machine.proofs.Bodies.{more_cells}
-use Rattle.ctl_machine.proofs.Following.{makes_later}
 use Rattle.ctl_machine.proofs.Foreign.{forgotten}
-use Rattle.ctl_machine.proofs.Freed.{IsFreeingIn, behind_frame, goes_forgotten, stands_behind}
+use Rattle.ctl_machine.proofs.Freed.{IsFreeingIn, behind_frame, goes_forgotten, more_inside}
 use Rattle.ctl_machine.proofs.Located.{goes_keeping, part_on_top, read_is}
 use Rattle.ctl_machine.proofs.Operands.{other_spots}
 use Rattle.ctl_machine.proofs.Owned.{cells_keep, holds_changed, object_shown}
@@ -83,19 +83,15 @@ gone_so : (code : Code) (part : Spot) (object : ℕ) (lies : W.Place) (units : �
 gone_so code part object lies units failed y p k w is = ap (λ z. freed_part code part object lies units failed z p k w) is
 
 -- the object of the component is gone
-pub part_stops : (code : Code) (old new : Engine) (ended : Ended) (object : ℕ) (storage : Storage) (place : ℕ) (fs : List Frame) (s : State) → BeforeResuming code old s → reverse old.control.items ≡ FrameOf.Freeing object NulledOf.Part storage place ∷ fs
-    → (u : IsFreeingIn old object NulledOf.Part storage place fs s) → (x : IsNulled old object storage u.point u.waiting s) → object_in x.part.object old.stock.objects ≡ None
-    → new.mode ≡ ModeOf.Stopped UseAfterFree → kept new ≡ behind_frame fs (standing u.waiting u.point.operands) (kept old) → new.events.items ≡ old.events.items → new.picks.items ≡ old.picks.items
-    → Makes code old new (act code (Giving (tried_of ended)) s.control s.operands s.world 0)
-part_stops code old new ended object storage place fs s b top u x none mode are events picks =
-    let v = stands_behind code old object NulledOf.Part storage place fs s b top u in
-    let k = u.waiting in
-    let p = u.point in
-    let failed = says_failed (tried_of ended) in
-    let missing = object_shown code (kept old) s.control s.operands s.world x.part.object b.holds ∙ none in
-    let made = stops_makes code old new k p.operands s.world mode (subst (λ (e : Kept). Holds code e k p.operands s.world) (sym are) v.inside.holds) events picks in
-    subst (λ (l : List T.Frame). Makes code old new (act code (Giving (tried_of ended)) l s.operands s.world 0)) (sym x.is)
-    (subst (λ (m : Move). Makes code old new m) (sym (gone_so code x.part object (place_of storage.place) storage.units failed (object_at x.part.object s.world) p k s.world missing)) made)
+pub part_stops : (code : Code) (old new : Engine) (object : ℕ) (lies : W.Place) (units : ℕ) (failed : Bool) (part : Spot) (place : ℕ) (t : Gone) → IsLetGo code old object place t → object_in part.object old.stock.objects ≡ None → new.mode ≡ ModeOf.Stopped UseAfterFree → kept new ≡ kept old
+    → new.events.items ≡ old.events.items → new.picks.items ≡ old.picks.items → Makes code old new (freed_in code (T.NullPart part) object lies units failed t.point t.control t.world)
+part_stops code old new object lies units failed part place t x none mode are events picks =
+    let h = x.goes.first.inside.holds in
+    let k = t.control in
+    let p = t.point in
+    let missing = object_shown code (kept old) k p.operands t.world part.object h ∙ none in
+    let made = stops_makes code old new k p.operands t.world mode (subst (λ (e : Kept). Holds code e k p.operands t.world) (sym are) h) events picks in
+    subst (λ (m : Move). Makes code old new m) (sym (gone_so code part object lies units failed (object_at part.object t.world) p k t.world missing)) made
 
 -- with null in a component
 abbrev pub with_null : Spot → Kept → Kept
@@ -144,32 +140,34 @@ there_so : (code : Code) (part : Spot) (object : ℕ) (lies : W.Place) (units : 
 there_so code part object lies units failed y o p k w is = ap (λ z. freed_part code part object lies units failed z p k w) is
 
 -- where it goes on, once the component is null and the object is gone
-pub part_gone : (code : Code) (old new : Engine) (object : ℕ) (storage : Storage) (place : ℕ) (fs : List Frame) (s : State) (z : Kept) (nulled : Stock) → BeforeResuming code old s → reverse old.control.items ≡ FrameOf.Freeing object NulledOf.Part storage place ∷ fs
-    → (u : IsFreeingIn old object NulledOf.Part storage place fs s) → (x : IsNulled old object storage u.point u.waiting s) → with_stock nulled z ≡ with_null x.part (behind_frame fs (standing u.waiting u.point.operands) (kept old)) → kept new ≡ with_stock new.stock z
-    → new.stock.objects ≡ forgotten object nulled.objects → new.stock ≡ record nulled { objects = new.stock.objects; blocks = new.stock.blocks } → KeepsShown nulled new.stock → IsGone code new place (gone_of s.control s.world)
-part_gone code old new object storage place fs s z nulled b top u x nulls are objects same still =
-    let v = stands_behind code old object NulledOf.Part storage place fs s b top u in
-    let k = u.waiting in
-    let p = u.point in
-    let e = with_null x.part (behind_frame fs (standing k p.operands) (kept old)) in
-    let w = write_cells x.part.object x.part.offset (0 ∷ []) s.world in
-    let i = null_inside code (behind_frame fs (standing k p.operands) (kept old)) v.stack k p.operands s.world x.part v.inside in
-    let seen : p.display ≡ first_display (heads_of w.activations) = same_display x.part s.world (λ acts. p.display ≡ first_display (heads_of acts)) u.seen in
-    let gone = goes_forgotten code new e object place v.stack p k w v.leads v.next i u.foreign u.place_is seen (are ∙ ap (λ (y : Kept). with_stock new.stock y) nulls) (subst (λ (y : Kept). new.stock.objects ≡ forgotten object y.objects) nulls objects)
-    (subst (λ (y : Kept). new.stock ≡ record (stock_of y) { objects = new.stock.objects; blocks = new.stock.blocks }) nulls same) (subst (λ (y : Kept). KeepsShown (stock_of y) new.stock) nulls still) in
-    subst (λ (l : List T.Frame). IsGone code new place (gone_of l s.world)) (sym x.is) gone
+pub part_gone : (code : Code) (old new : Engine) (object place : ℕ) (part : Spot) (t : Gone) (nulled : Stock) → IsLetGo code old object place t → with_stock nulled (kept old) ≡ with_null part (kept old) → kept new ≡ with_stock new.stock (kept old) → new.stock.objects ≡ forgotten object nulled.objects
+    → new.stock ≡ record nulled { objects = new.stock.objects; blocks = new.stock.blocks } → KeepsShown nulled new.stock → IsGone code new place (gone_by_part object part t)
+part_gone code old new object place part t nulled x nulls are objects same still =
+    let f = x.goes.first in
+    let k = t.control in
+    let p = t.point in
+    let e = with_null part (kept old) in
+    let w = write_cells part.object part.offset (0 ∷ []) t.world in
+    let i = null_inside code (kept old) f.stack k p.operands t.world part f.inside in
+    let seen : p.display ≡ first_display (heads_of w.activations) = same_display part t.world (λ acts. p.display ≡ first_display (heads_of acts)) f.seen in
+    goes_forgotten code new e object place f.stack p k w f.leads x.goes.next i x.foreign f.there seen (are ∙ ap (λ (y : Kept). with_stock new.stock y) nulls) (subst (λ (y : Kept). new.stock.objects ≡ forgotten object y.objects) nulls objects)
+    (subst (λ (y : Kept). new.stock ≡ record (stock_of y) { objects = new.stock.objects; blocks = new.stock.blocks }) nulls same) (subst (λ (y : Kept). KeepsShown (stock_of y) new.stock) nulls still)
 
 -- and what the table makes of it
-pub part_ends : (code : Code) (old mid new : Engine) (ended : Ended) (object : ℕ) (storage : Storage) (p : T.Point) (k : List T.Frame) (s : State) (o : W.Object) → BeforeResuming code old s → (x : IsNulled old object storage p k s) → object_in x.part.object old.stock.objects ≡ Some o
-    → mid.events.items ≡ old.events.items → mid.picks.items ≡ old.picks.items → (let t = gone_of s.control s.world in Makes code mid new (freed_by code storage.units (says_failed (tried_of ended)) (return_to code (place_of storage.place) t.world) t.point t.control t.world))
+pub part_made : (code : Code) (old new : Engine) (object : ℕ) (lies : W.Place) (units : ℕ) (failed : Bool) (part : Spot) (place : ℕ) (t : Gone) (o : W.Object) → IsLetGo code old object place t → object_in part.object old.stock.objects ≡ Some o
+    → (let g = gone_by_part object part t in Makes code old new (freed_by code units failed (return_to code lies g.world) g.point g.control g.world)) → Makes code old new (freed_in code (T.NullPart part) object lies units failed t.point t.control t.world)
+part_made code old new object lies units failed part place t o x found made =
+    let there = object_shown code (kept old) t.control t.point.operands t.world part.object x.goes.first.inside.holds ∙ found in
+    subst (λ (m : Move). Makes code old new m) (sym (there_so code part object lies units failed (object_at part.object t.world) o t.point t.control t.world there)) made
+
+-- behind its frame
+pub part_ends : (code : Code) (old new : Engine) (ended : Ended) (object : ℕ) (storage : Storage) (p : T.Point) (k : List T.Frame) (s : State) → IsNulled old object storage p k s
+    → (let t = behind_frees s.control s.world in Makes code old new (freed_in code (T.NullPart (part_of s.control)) object (place_of storage.place) storage.units (says_failed (tried_of ended)) t.point t.control t.world))
     → Makes code old new (act code (Giving (tried_of ended)) s.control s.operands s.world 0)
-part_ends code old mid new ended object storage p k s o b x found events picks made =
+part_ends code old new ended object storage p k s x made =
     let failed = says_failed (tried_of ended) in
-    let there = object_shown code (kept old) s.control s.operands s.world x.part.object b.holds ∙ found in
-    let later = makes_later code old mid new _ events picks made in
     subst (λ (l : List T.Frame). Makes code old new (act code (Giving (tried_of ended)) l s.operands s.world 0)) (sym x.is)
-    (subst (λ (m : Move). Makes code old new m) (sym (there_so code x.part object (place_of storage.place) storage.units failed (object_at x.part.object s.world) o p k s.world there))
-    (subst (λ (l : List T.Frame). (let t = gone_of l s.world in Makes code old new (freed_by code storage.units failed (return_to code (place_of storage.place) t.world) t.point t.control t.world))) x.is later))
+    (subst (λ (l : List T.Frame). (let t = behind_frees l s.world in Makes code old new (freed_in code (T.NullPart (part_of l)) object (place_of storage.place) storage.units failed t.point t.control t.world))) x.is made)
 
 -- By an instruction ------------------------------------------------------------------------------------
 
@@ -194,9 +192,6 @@ frees_more code old new nulled t more f is =
     }
 
 -- a variable
-abbrev pub by_variable : (out slot place : ℕ) → State → Freed
-by_variable out slot place s = record { nulled = T.NullVariable out slot; operands = s.operands; place = place; state = s }
-
 pub variable_frees : (code : Code) (old : Engine) (access out slot place : ℕ) (s : State) → Before code old place (Free access out slot) s → Frees code old (NulledOf.Variable out slot) (by_variable out slot place s)
 variable_frees code old access out slot place s b = record {
   nulled_is = refl;
@@ -212,10 +207,24 @@ variable_frees code old access out slot place s b = record {
   spots = λ n. b.inside.spots;
 }
 
--- a component
-abbrev pub by_component : Spot → ℕ → State → Freed
-by_component part place s = record { nulled = T.NullPart part; operands = drop 1 s.operands; place = place; state = s }
+-- where it goes on
+pub variable_lets_go : (code : Code) (old new : Engine) (access out slot place object : ℕ) (s : State) (more : List ℕ) → Before code old place (Free access out slot) s → OwnsNone object old.owned.items → kept new ≡ with_cells (kept old) (old.cells.items ++ more)
+    → IsLetGo code new object (place + 1) (behind_instruction (by_variable out slot place s))
+variable_lets_go code old new access out slot place object s more b none are = record {
+  goes = record {
+    first = record {
+      stack = b.stack;
+      leads = b.fine.1;
+      inside = subst (λ (e : Kept). Inside code e b.stack s.control s.operands s.world) (sym are) (more_inside code (kept old) more b.stack s.control s.operands s.world b.inside);
+      there = refl;
+      seen = refl;
+    };
+    next = b.fine.2;
+  };
+  foreign = subst (λ (e : Kept). OwnsNone object e.owned) (sym are) none;
+}
 
+-- a component
 pub component_frees : (code : Code) (old new : Engine) (access place t position : ℕ) (part : Spot) (s : State) → Before code old place (FreePart access t position) s → kept new ≡ with_spots (kept old) (standing s.control (drop 1 s.operands) ++ part ∷ [])
     → Frees code new NulledOf.Part (by_component part place s)
 component_frees code old new access place t position part s b is =
@@ -235,6 +244,26 @@ component_frees code old new access place t position part s b is =
         spots = refl;
       };
       spots = λ n. ap (λ (e : Kept). e.spots) is;
+    }
+
+-- where it goes on
+pub component_lets_go : (code : Code) (old new : Engine) (access place t position object : ℕ) (part : Spot) (s : State) (more : List ℕ) → Before code old place (FreePart access t position) s → OwnsNone object old.owned.items
+    → kept new ≡ with_spots (with_cells (kept old) (old.cells.items ++ more)) (standing s.control (drop 1 s.operands)) → IsLetGo code new object (place + 1) (behind_instruction (by_component part place s))
+component_lets_go code old new access place t position object part s more b none are =
+    let p = part_on_top code old t b.stack b.fine.1.0 s b.inside b.fine.1.1 in
+    let rest = drop 1 s.operands in
+    record {
+      goes = record {
+        first = record {
+          stack = b.fine.1.0;
+          leads = b.fine.1.2.0;
+          inside = subst (λ (e : Kept). Inside code e b.fine.1.0 s.control rest s.world) (sym are) (more_inside code (with_spots (kept old) (standing s.control rest)) more b.fine.1.0 s.control rest s.world p.left);
+          there = refl;
+          seen = refl;
+        };
+        next = b.fine.1.2.1;
+      };
+      foreign = subst (λ (e : Kept). OwnsNone object e.owned) (sym are) none;
     }
 
 two_behind : (place : ℕ) → place + 2 ≡ place + 1 + 1

@@ -1,13 +1,13 @@
 -- Objects that are freed: what the table frees, and what stands there before.
-use Rattle.std.specs.Prelude.{◌≡◌, ◌≢◌, ℕ, ◌+◌, ◌^◌, ◌<◌, List, [], ◌∷◌, Option, Some, None, Bool, true, false, is_some, ◌&&◌, if◌then◌else◌, nat_eq, reverse}
+use Rattle.std.specs.Prelude.{◌≡◌, ◌≢◌, ℕ, ◌+◌, ◌^◌, ◌<◌, List, [], ◌∷◌, Option, Some, None, Bool, true, false, drop, is_some, ◌&&◌, if◌then◌else◌, nat_eq, reverse}
 use Rattle.ctl_program.specs.declared.types.Ty.{Ty}
 use Rattle.ctl_program.specs.declared.types.Ty.TheVariants.{Record}
 use Rattle.ctl_program.specs.declared.types.Var.{Var}
 use Rattle.ctl_tree.specs.declared.event.Cause.TheVariants as CauseOf
 use Rattle.ctl_tree.specs.declared.ending.Stop.TheVariants as StopOf
 use Rattle.ctl_meaning.specs.Changes.{forget, object_at, write_cells}
+use Rattle.ctl_meaning.specs.Finalization.{Spot}
 use Rattle.ctl_meaning.specs.Objects.{is_untouched, object_in}
-use Rattle.ctl_meaning.specs.Outcome.{Fine}
 use Rattle.ctl_meaning.specs.World as W
 use Rattle.ctl_meaning.specs.World.{Object, World}
 use Rattle.ctl_objects.specs.declared.existing.Existing.{Existing}
@@ -28,7 +28,7 @@ use Rattle.ctl_code.specs.States as T
 use Rattle.ctl_code.specs.States.{Move, State, Word}
 use Rattle.ctl_code.specs.Kinds.{stack_at}
 use Rattle.ctl_code.specs.Table as Table
-use Rattle.ctl_code.specs.Table.{Returned, NotReturned, DeallocateOf, behind_declaration, finalize_object, free_object, gives, has_part, operation_for, parts_of, stopped, storage_of, units_for, with_cell}
+use Rattle.ctl_code.specs.Table.{Returned, NotReturned, DeallocateOf, behind_declaration, finalize_object, free_object, freed_in, has_part, operation_for, parts_of, stopped, storage_of, units_for, with_cell}
 use Rattle.ctl_code.specs.Valid.{Leads}
 use Rattle.ctl_code.specs.Windows.{height}
 use Rattle.ctl_machine.specs.declared.engine.Engine.{Engine}
@@ -42,12 +42,13 @@ use Rattle.ctl_machine.specs.declared.freeing.Deallocation.{Deallocation}
 use Rattle.ctl_machine.specs.declared.freeing.Ending.{Ending}
 use Rattle.ctl_machine.specs.declared.freeing.GivenBack.{GivenBack}
 use Rattle.ctl_machine.specs.declared.freeing.GivenBack.TheVariants as BackOf
+use Rattle.ctl_machine.specs.declared.freeing.Release.{Release}
 use Rattle.ctl_machine.specs.Allocating.{OwnsNone}
 use Rattle.ctl_machine.specs.Assigning.{HasRoom}
 use Rattle.ctl_machine.specs.Masters.{first_display, first_window, heads_of}
 use Rattle.ctl_machine.specs.StorageCalling.{StorageCall}
 use Rattle.ctl_machine.specs.Moves.{Inside, here_of}
-use Rattle.ctl_machine.specs.Shows.{Holds, kept, nulled_of, with_spots}
+use Rattle.ctl_machine.specs.Shows.{Holds, IsStored, kept, nulled_of, with_spots}
 use Rattle.ctl_machine.specs.Spots.{spots_in, standing}
 
 -- what the table frees: what becomes null, the operands that are left, the place of the instruction, and the state before
@@ -56,6 +57,14 @@ pub record Freed : Type 0 where
   pub operands : List Word
   pub place : ℕ
   pub state : State
+
+-- by a variable
+abbrev pub by_variable : (out slot place : ℕ) → State → Freed
+by_variable out slot place s = record { nulled = T.NullVariable out slot; operands = s.operands; place = place; state = s }
+
+-- by a component of the part that is the newest operand
+abbrev pub by_component : Spot → ℕ → State → Freed
+by_component part place s = record { nulled = T.NullPart part; operands = drop 1 s.operands; place = place; state = s }
 
 -- where that goes on
 abbrev pub point_of : Freed → T.Point
@@ -86,11 +95,11 @@ pub record Frees (code : Code) (e : Engine) (nulled : Nulled) (t : Freed) : Type
 
 -- What becomes of an object ----------------------------------------------------------------------------
 
--- the table's move where this becomes of the object of a number, whose frame is this
-abbrev pub by_fate : Code → Fate → ℕ → T.Frame → List T.Frame → World → Move
-by_fate code (FateOf.Stops stop) n f k w = stopped stop k w
-by_fate code FateOf.Goes n f k w = gives (Fine T.Complete) (f ∷ k) w
-by_fate code (FateOf.Finalizes type) n f k w = finalize_object code (parts_of code type) CauseOf.Free n type (f ∷ k) w
+-- the table's move where this becomes of the object of a number: what becomes null, its storage, where its freeing goes on, and what waits
+abbrev pub by_fate : Code → Fate → T.Nulled → ℕ → W.Place → ℕ → T.Point → List T.Frame → World → Move
+by_fate code (FateOf.Stops stop) nulled n lies units p k w = stopped stop k w
+by_fate code FateOf.Goes nulled n lies units p k w = freed_in code nulled n lies units false p k w
+by_fate code (FateOf.Finalizes type) nulled n lies units p k w = finalize_object code (parts_of code type) CauseOf.Free n type (T.Freeing nulled n lies units p ∷ k) w
 
 -- what becomes of an object that is freed from its collection, by what is known of it
 abbrev pub if_unfinished : Code → Stage → Ty → Fate
@@ -121,7 +130,12 @@ MayBe code (FateOf.Finalizes type) n owned = OwnsNone n owned × (parts_of code 
 -- this becomes of the object that a value designates, by the collection of an access type
 pub record IsFate (code : Code) (v : Var) (n : ℕ) (owned : List Owned) (s : State) (fate : Fate) : Type 0 where
   pub may : MayBe code fate n owned
-  pub moves : (place : ℕ) (nulled : T.Nulled) (pool : Option Var) (ops : List Word) → free_object code nulled (Some (record { collection = v; pool = pool })) (object_at n s.world) ops (here_of place s) ≡ by_fate code fate n (T.Freeing nulled n (storage_at (object_at n s.world)) (units_at code (object_at n s.world)) (behind_declaration ops (here_of place s))) s.control s.world
+  pub moves : (place : ℕ) (nulled : T.Nulled) (pool : Option Var) (ops : List Word) → free_object code nulled (Some (record { collection = v; pool = pool })) (object_at n s.world) ops (here_of place s) ≡ by_fate code fate nulled n (storage_at (object_at n s.world)) (units_at code (object_at n s.world)) (behind_declaration ops (here_of place s)) s.control s.world
+
+-- an object that is freed is finalized before, as one of this record type, and has this storage
+pub record IsReleased (code : Code) (e : Engine) (release : Release) (type : ℕ) (w : World) : Type 0 where
+  pub may : MayBe code (FateOf.Finalizes type) release.object e.owned.items
+  pub stored : IsStored release.storage (storage_at (object_at release.object w)) (units_at code (object_at release.object w))
 
 -- The end ----------------------------------------------------------------------------------------------
 
@@ -144,17 +158,33 @@ IsGivenBack code next w stock (Returned v) answer = (answer ≡ BackOf.Accepted)
 IsGivenBack code next w stock (NotReturned stop) answer = (answer ≡ BackOf.Stops stop) × ShowsPools next w.pools stock
 IsGivenBack code next w stock (DeallocateOf o a f) answer = (call : Deallocation) × (answer ≡ BackOf.Calls call) × IsDeallocation code w.objects call o a f × ShowsPools next w.pools stock
 
--- an object that is gone: where its freeing goes on, what waits, and the world
+-- an object that is freed, before it is gone or after that: where its freeing goes on, what waits, and the world
 pub record Gone : Type 0 where
   pub point : T.Point
   pub control : List T.Frame
   pub world : World
 
--- where a frame frees an object: what designated it has become null, and it is gone
-abbrev pub gone_of : List T.Frame → World → Gone
-gone_of (T.Freeing (T.NullVariable out slot) n storage units p ∷ k) w = record { point = p; control = k; world = forget n (with_cell p.display out slot 0 w) }
-gone_of (T.Freeing (T.NullPart s) n storage units p ∷ k) w = record { point = p; control = k; world = forget n (write_cells s.object s.offset (0 ∷ []) w) }
-gone_of k w = record { point = record { display = []; place = 0; operands = [] }; control = k; world = w }
+-- behind the frame that frees an object
+abbrev pub behind_frees : List T.Frame → World → Gone
+behind_frees (T.Freeing nulled n storage units p ∷ k) w = record { point = p; control = k; world = w }
+behind_frees k w = record { point = record { display = []; place = 0; operands = [] }; control = k; world = w }
+
+-- the component that becomes null where a frame frees an object
+abbrev pub part_of : List T.Frame → Spot
+part_of (T.Freeing (T.NullPart s) n storage units p ∷ k) = s
+part_of k = T.whole_spot 0
+
+-- behind an instruction that frees an object
+abbrev pub behind_instruction : Freed → Gone
+behind_instruction t = record { point = point_of t; control = t.state.control; world = t.state.world }
+
+-- the variable by which an object is freed has become null, and the object is gone
+abbrev pub gone_by_variable : (object out slot : ℕ) → Gone → Gone
+gone_by_variable object out slot t = record t { world = forget object (with_cell t.point.display out slot 0 t.world) }
+
+-- the component by which an object is freed has become null, and the object is gone
+abbrev pub gone_by_part : ℕ → Spot → Gone → Gone
+gone_by_part object s t = record t { world = forget object (write_cells s.object s.offset (0 ∷ []) t.world) }
 
 -- it goes on at a place
 pub record GoesOnAt (code : Code) (e : Engine) (place : ℕ) (t : Gone) : Type 0 where
@@ -168,6 +198,11 @@ pub record GoesOnAt (code : Code) (e : Engine) (place : ℕ) (t : Gone) : Type 0
 pub record IsGone (code : Code) (e : Engine) (place : ℕ) (t : Gone) : Type 0 where
   pub first : GoesOnAt code e place t
   pub next : Leads code (place + 1) first.stack
+
+-- an object may be let go, and its freeing goes on at a place, or at the next one: no master owns it
+pub record IsLetGo (code : Code) (e : Engine) (object place : ℕ) (t : Gone) : Type 0 where
+  pub goes : IsGone code e place t
+  pub foreign : OwnsNone object e.owned.items
 
 -- the Deallocate of a pool object is called, and goes on at a place, where an object is gone
 pub record Deallocates (code : Code) (e : Engine) (call : Deallocation) (units place : ℕ) (t : StorageCall) : Type 0 where

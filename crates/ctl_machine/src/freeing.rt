@@ -1,7 +1,8 @@
 //! Objects are freed (RM 13.11.2): one that is still to be finalized is finalized, what designated it becomes null, it is gone, and its storage
 //! is given back.
 
-ghost use Rattle.std.specs.Prelude.{◌≡◌, ◌+◌, ◌-◌, ◌^◌, ◌<◌, ◌≤◌, ◌∷◌, ◌++◌, ◌&&◌, [], List, ℕ, IfOk, OnErr, OnOk, Some, drop, is_some, length, reverse, slice_get, true, vec_capacity, vec_len};
+ghost use Rattle.std.specs.Prelude.{◌≡◌, ◌+◌, ◌-◌, ◌^◌, ◌<◌, ◌≤◌, ◌∷◌, ◌++◌, ◌&&◌, [], List, ℕ, IfOk, OnErr, OnOk, Some, drop, is_some, length, reverse, slice_get, true, false, vec_capacity, vec_len};
+ghost use Rattle.ctl_tree.specs.declared.event.Cause.TheVariants as CauseOf;
 ghost use Rattle.ctl_tree.specs.declared.event.Event.TheVariants as EventOf;
 ghost use Rattle.ctl_meaning.specs.Changes.{home_of, object_at};
 ghost use Rattle.ctl_meaning.specs.Finalization as S;
@@ -13,19 +14,19 @@ ghost use Rattle.ctl_objects.specs.Existing.{origin_of};
 ghost use Rattle.ctl_objects.specs.Pools.{ShowsPools};
 ghost use Rattle.ctl_storage.specs.Allocated.{place_of};
 ghost use Rattle.ctl_storage.specs.Stages.{state_of};
-ghost use Rattle.ctl_code.specs.declared.code.AccessHome.{AccessHome};
 ghost use Rattle.ctl_code.specs.declared.code.Code as CodeOf;
 ghost use Rattle.ctl_code.specs.declared.code.Instr.TheVariants as InstrOf;
 ghost use Rattle.ctl_code.specs.Table as Table;
-ghost use Rattle.ctl_code.specs.States.{AfterProcedure, Giving, NullPart, State, whole_spot};
+ghost use Rattle.ctl_code.specs.States.{AfterProcedure, Giving, NullPart, NullVariable, State, whole_spot};
 ghost use Rattle.ctl_code.specs.Valid.{IsValid};
 ghost use Rattle.ctl_machine.specs.declared.frame.Frame.{Frame};
 ghost use Rattle.ctl_machine.specs.declared.frame.Frame.TheVariants as FrameOf;
 ghost use Rattle.ctl_machine.specs.declared.frame.Nulled.TheVariants as NulledOf;
+ghost use Rattle.ctl_machine.specs.Allocating.{OwnsNone};
 ghost use Rattle.ctl_machine.specs.Assigning.{HasRoom};
 ghost use Rattle.ctl_machine.specs.Finishing.{AreDoubles};
 ghost use Rattle.ctl_machine.specs.Freeing as Freeing;
-ghost use Rattle.ctl_machine.specs.Freeing.{Freed, Frees, Deallocates, Gone, HasReturnRoom, IsEnding, IsFate, IsGivenBack, IsGone, storage_at, units_at};
+ghost use Rattle.ctl_machine.specs.Freeing.{Freed, Frees, Deallocates, Gone, HasReturnRoom, IsEnding, IsFate, IsGivenBack, IsGone, IsLetGo, IsReleased, by_component, by_variable, freeing_of, gone_by_part, gone_by_variable, point_of, storage_at, units_at};
 ghost use Rattle.ctl_machine.specs.Masters.{heads_of};
 ghost use Rattle.ctl_machine.specs.Moves.{Before, BeforeResuming, GoesOn, Makes, here_of};
 ghost use Rattle.ctl_machine.specs.Shows as Shows;
@@ -66,14 +67,20 @@ pub struct Found {
     pub storage: Storage,
 }
 
-/// An object that is freed: its number, what becomes null, the place of the instruction, and the cell where the window of a body begins that
-/// is called for it.
+/// An object that an instruction frees: its number, its storage, and the place of the instruction (RM 13.11.2).
 #[derive(Clone, Copy)]
 pub struct Release {
     pub object: u64,
-    pub nulled: Nulled,
+    pub storage: Storage,
     pub place: usize,
-    pub base: usize,
+}
+
+/// A component that becomes null: the number of its object, the first cell of the part that has it, and how much further it is.
+#[derive(Clone, Copy)]
+pub struct Component {
+    pub object: u64,
+    pub start: usize,
+    pub offset: usize,
 }
 
 /// How the freeing of an object goes on once it is gone: how its finalization ended, its storage, the place where that goes on if a Finalize
@@ -275,43 +282,99 @@ impl Engine {
         }
     }
 
-    /// Frees an object by an instruction (RM 13.11.2): it is finalized, if it is still to be, and its frame waits for that. There is room.
-    #[inline(always)]
-    fn release(&mut self, code: &Code, access: usize, release: Release, doubles: Doubles)
+    /// Begins the finalization of an object that is freed (RM 13.11.2): its frame waits for that, and says what becomes null then. There is
+    /// room.
+    fn release(
+        &mut self,
+        code: &Code,
+        release: Release,
+        nulled: Nulled,
+        finalization: Finalization,
+        doubles: Doubles,
+    )
         ghost t: { Freed }
         requires valid { IsValid code.now }
-        requires frees { Frees code.now self.old release.nulled t }
+        requires frees { Frees code.now self.old nulled t }
         requires at { release.place ≡ t.place }
-        requires access { (a : AccessHome) × (slice_get code.now.accesses.items access ≡ Some a) × (1 ≤ a.collection.level) }
+        requires released { IsReleased code.now self.old release finalization.record_type t.state.world }
         requires place { t.place + 1 < 2 ^ 64 }
-        requires base { release.base ≡ tall t.state.control (heads_of t.state.world.activations) + length t.operands }
-        requires room { HasRoom code.now self.old release.base }
+        requires base { finalization.base ≡ tall t.state.control (heads_of t.state.world.activations) + length t.operands }
+        requires room { HasRoom code.now self.old finalization.base }
         requires control { vec_len self.old.control + 4 ≤ vec_capacity self.old.control }
         requires spots { vec_len self.old.spots < vec_capacity self.old.spots }
         requires doubles { AreDoubles doubles (whole_spot release.object) }
-        ensures { Makes code.now self.old self.new (Table.free_object code.now t.nulled (slice_get code.now.accesses.items access) (object_at release.object t.state.world) t.operands (here_of t.place t.state)) }
+        ensures { Makes code.now self.old self.new (Table.finalize_object code.now (Table.parts_of code.now finalization.record_type) finalization.cause release.object finalization.record_type (freeing_of code.now release.object t) t.state.world) }
     {
-        let found = self.fate(code, &code.accesses[access].collection, release.object);
-        if let Fate::Stops(stop) = found.fate {
-            self.go_on(Mode::Stopped(stop));
-            return;
-        }
         self.control.push_reserved(Frame::Freeing {
             object: release.object,
-            nulled: release.nulled,
-            storage: found.storage,
+            nulled,
+            storage: release.storage,
             place: release.place + 1,
         });
-        let Fate::Finalizes(record_type) = found.fate else {
-            self.mode = Mode::Giving(Ended::Complete);
-            return;
-        };
+        self.finalize_whole(code, release.object, finalization, doubles);
+    }
+
+    /// Finalizes an object, as one of this record type, that the access value in the variable of this slot designates, before it is freed (RM
+    /// 13.11.2). Unchanged where memory is refused.
+    fn release_by_variable(
+        &mut self,
+        code: &Code,
+        release: Release,
+        record_type: usize,
+        out: usize,
+        slot: usize,
+    ) -> Result<(), AllocError>
+        ghost s: { State }
+        requires valid { IsValid code.now }
+        requires before { (access : ℕ) × Before code.now self.old release.place (InstrOf.Free access out slot) s }
+        requires released { IsReleased code.now self.old release record_type s.world }
+        requires place { release.place + 1 < 2 ^ 64 }
+        requires number { self.old.given_masters + 1 < 2 ^ 64 }
+        ensures ok { OnOk result (Makes code.now self.old self.new (Table.finalize_object code.now (Table.parts_of code.now record_type) CauseOf.Free release.object record_type (freeing_of code.now release.object (by_variable out slot release.place s)) s.world)) }
+        ensures err { OnErr result (GoesOn self.old self.new self.old.mode self.old.cells.items) }
+    {
         let finalization = Finalization {
             cause: Cause::Free,
             record_type,
-            base: release.base,
+            base: self.window() + code.kinds.height_at(release.place + 1, 0),
         };
-        self.finalize_whole(code, release.object, finalization, doubles);
+        let doubles = doubled(self.alloc, Spot::whole(self.alloc, release.object))?;
+        self.prepare_finalization(code, finalization.base)?;
+        let nulled = Nulled::Variable { out, slot };
+        self.release(code, release, nulled, finalization, doubles);
+        Ok(())
+    }
+
+    /// Frees an object that needs no finalization, which the access value in the variable of this slot designates (RM 13.11.2). Unchanged
+    /// where memory is refused.
+    #[inline(always)]
+    fn free_at_once_by_variable(
+        &mut self,
+        code: &Code,
+        release: Release,
+        out: usize,
+        slot: usize,
+    ) -> Result<(), AllocError>
+        ghost s: { State }
+        requires valid { IsValid code.now }
+        requires before { (access : ℕ) × Before code.now self.old release.place (InstrOf.Free access out slot) s }
+        requires foreign { OwnsNone release.object self.old.owned.items }
+        requires place { release.place + 1 < 2 ^ 64 }
+        requires number { self.old.given_masters + 1 < 2 ^ 64 }
+        ensures ok { OnOk result (Makes code.now self.old self.new (Table.freed_in code.now (NullVariable out slot) release.object (place_of release.storage.place) release.storage.units false (point_of (by_variable out slot release.place s)) s.control s.world)) }
+        ensures err { OnErr result (GoesOn self.old self.new self.old.mode self.old.cells.items) }
+    {
+        let place = release.place + 1;
+        let base = self.window() + code.kinds.height_at(place, 0);
+        self.prepare_return(code, release.storage.place, base)?;
+        let ending = Ending {
+            ended: Ended::Complete,
+            storage: release.storage,
+            place,
+            base,
+        };
+        self.null_variable(code, release.object, out, slot, ending);
+        Ok(())
     }
 
     /// Frees the object that the access value in the variable of this slot designates, in the master so many further out (RM 13.11.2); null
@@ -338,17 +401,22 @@ impl Engine {
             self.go_on(Mode::At(place + 2));
             return Ok(());
         }
-        let base = self.window() + code.kinds.height_at(place + 1, 0);
-        let doubles = doubled(self.alloc, Spot::whole(self.alloc, object))?;
-        self.prepare_finalization(code, base)?;
+        let found = self.fate(code, &code.accesses[access].collection, object);
         let release = Release {
             object,
-            nulled: Nulled::Variable { out, slot },
+            storage: found.storage,
             place,
-            base,
         };
-        self.release(code, access, release, doubles);
-        Ok(())
+        match found.fate {
+            Fate::Stops(stop) => {
+                self.go_on(Mode::Stopped(stop));
+                Ok(())
+            }
+            Fate::Goes => self.free_at_once_by_variable(code, release, out, slot),
+            Fate::Finalizes(record_type) => {
+                self.release_by_variable(code, release, record_type, out, slot)
+            }
+        }
     }
 
     /// Answers a component of the newest part, by its first cell and its position.
@@ -360,6 +428,77 @@ impl Engine {
         let mut spot = self.spots[newest].copied(self.alloc)?;
         spot.select(offset, position)?;
         Ok(spot)
+    }
+
+    /// Finalizes an object, as one of this record type, whose number a component of the part has that is the newest operand, before it is
+    /// freed, by the first cell of the component and its position (RM 13.11.2). Unchanged where memory is refused.
+    fn release_by_part(
+        &mut self,
+        code: &Code,
+        release: Release,
+        record_type: usize,
+        offset: usize,
+        position: usize,
+    ) -> Result<(), AllocError>
+        ghost s: { State × S.Spot }
+        requires valid { IsValid code.now }
+        requires before { (access : ℕ) × (t : ℕ) × Before code.now self.old release.place (InstrOf.FreePart access t position) s.0 }
+        requires released { IsReleased code.now self.old release record_type s.0.world }
+        requires place { release.place + 1 < 2 ^ 64 }
+        requires number { self.old.given_masters + 1 < 2 ^ 64 }
+        requires component { s.1 ≡ Table.component_of (first_spot s.0.operands) offset position }
+        ensures ok { OnOk result (Makes code.now self.old self.new (Table.finalize_object code.now (Table.parts_of code.now record_type) CauseOf.Free release.object record_type (freeing_of code.now release.object (by_component s.1 release.place s.0)) s.0.world)) }
+        ensures err { OnErr result (GoesOn self.old self.new self.old.mode self.old.cells.items) }
+    {
+        let finalization = Finalization {
+            cause: Cause::Free,
+            record_type,
+            base: self.window() + code.kinds.height_at(release.place + 1, 0),
+        };
+        let component = self.component_of_newest(offset, position)?;
+        let doubles = doubled(self.alloc, Spot::whole(self.alloc, release.object))?;
+        self.prepare_finalization(code, finalization.base)?;
+        let newest = self.count_spots() - 1;
+        self.spots[newest] = component;
+        self.release(code, release, Nulled::Part, finalization, doubles);
+        Ok(())
+    }
+
+    /// Frees an object that needs no finalization, whose number a component of the part has that is the newest operand, by the first cell of
+    /// the component (RM 13.11.2). Unchanged where memory is refused.
+    fn free_at_once_by_part(
+        &mut self,
+        code: &Code,
+        release: Release,
+        offset: usize,
+    ) -> Result<(), AllocError>
+        ghost s: { State × S.Spot }
+        requires valid { IsValid code.now }
+        requires before { (access : ℕ) × (t : ℕ) × (position : ℕ) × Before code.now self.old release.place (InstrOf.FreePart access t position) s.0 }
+        requires foreign { OwnsNone release.object self.old.owned.items }
+        requires place { release.place + 1 < 2 ^ 64 }
+        requires number { self.old.given_masters + 1 < 2 ^ 64 }
+        requires component { (s.1.object ≡ (first_spot s.0.operands).object) × (s.1.offset ≡ (first_spot s.0.operands).offset + offset) }
+        ensures ok { OnOk result (Makes code.now self.old self.new (Table.freed_in code.now (NullPart s.1) release.object (place_of release.storage.place) release.storage.units false (point_of (by_component s.1 release.place s.0)) s.0.control s.0.world)) }
+        ensures err { OnErr result (GoesOn self.old self.new self.old.mode self.old.cells.items) }
+    {
+        let place = release.place + 1;
+        let base = self.window() + code.kinds.height_at(place, 0);
+        self.prepare_return(code, release.storage.place, base)?;
+        let part = self.spots.take_last();
+        let component = Component {
+            object: part.object(),
+            start: part.offset(),
+            offset,
+        };
+        let ending = Ending {
+            ended: Ended::Complete,
+            storage: release.storage,
+            place,
+            base,
+        };
+        self.null_component(code, release.object, component, ending);
+        Ok(())
     }
 
     /// Frees an object whose number a component of the part has that is the newest operand, by the first cell of the component and its
@@ -382,20 +521,22 @@ impl Engine {
         ensures ok { OnOk result (Makes code.now self.old self.new (Table.free_object code.now (NullPart s.1) (slice_get code.now.accesses.items access) (object_at object s.0.world) (drop 1 s.0.operands) (here_of place s.0))) }
         ensures err { OnErr result (GoesOn self.old self.new self.old.mode self.old.cells.items) }
     {
-        let base = self.window() + code.kinds.height_at(place + 1, 0);
-        let component = self.component_of_newest(offset, position)?;
-        let doubles = doubled(self.alloc, Spot::whole(self.alloc, object))?;
-        self.prepare_finalization(code, base)?;
-        let newest = self.count_spots() - 1;
-        self.spots[newest] = component;
+        let found = self.fate(code, &code.accesses[access].collection, object);
         let release = Release {
             object,
-            nulled: Nulled::Part,
+            storage: found.storage,
             place,
-            base,
         };
-        self.release(code, access, release, doubles);
-        Ok(())
+        match found.fate {
+            Fate::Stops(stop) => {
+                self.go_on(Mode::Stopped(stop));
+                Ok(())
+            }
+            Fate::Goes => self.free_at_once_by_part(code, release, offset),
+            Fate::Finalizes(record_type) => {
+                self.release_by_part(code, release, record_type, offset, position)
+            }
+        }
     }
 
     /// Frees the object that the access value in a component of the part designates that is the newest operand, by the record type of the
@@ -491,6 +632,43 @@ impl Engine {
         }
     }
 
+    /// Makes the variable null by which an object is freed; the object is gone, and its storage is given back (RM 13.11.2). There is room for
+    /// the call of a Deallocate.
+    #[inline(always)]
+    fn null_variable(&mut self, code: &Code, object: u64, out: usize, slot: usize, ending: Ending)
+        ghost t: { Gone × Gone }
+        requires valid { IsValid code.now }
+        requires goes { IsLetGo code.now self.old object ending.place t.0 }
+        requires gone { t.1 ≡ gone_by_variable object out slot t.0 }
+        requires ends { IsEnding code.now self.old ending }
+        ensures { Makes code.now self.old self.new (Table.freed_in code.now (NullVariable out slot) object (place_of ending.storage.place) ending.storage.units (Table.says_failed (Shows.tried_of ending.ended)) t.0.point t.0.control t.0.world) }
+    {
+        self.give(code, out, slot, 0, ending.place);
+        self.stock.forget(object);
+        self.return_storage(code, ending);
+    }
+
+    /// Makes the component null by which an object is freed; the object is gone, and its storage is given back. Where the object of the
+    /// component is gone, the program is erroneous (RM 13.11.2). There is room for the call of a Deallocate.
+    fn null_component(&mut self, code: &Code, object: u64, component: Component, ending: Ending)
+        ghost t: { Gone × S.Spot × Gone }
+        requires valid { IsValid code.now }
+        requires goes { IsLetGo code.now self.old object ending.place t.0 }
+        requires component { (component.object ≡ t.1.object) × (component.start + component.offset ≡ t.1.offset) }
+        requires gone { t.2 ≡ gone_by_part object t.1 t.0 }
+        requires ends { IsEnding code.now self.old ending }
+        ensures { Makes code.now self.old self.new (Table.freed_in code.now (NullPart t.1) object (place_of ending.storage.place) ending.storage.units (Table.says_failed (Shows.tried_of ending.ended)) t.0.point t.0.control t.0.world) }
+    {
+        if !self.stock.exists(component.object) {
+            self.mode = Mode::Stopped(Stop::UseAfterFree);
+            return;
+        }
+        self.stock
+            .write_part(component.object, component.start, component.offset, 0);
+        self.stock.forget(object);
+        self.return_storage(code, ending);
+    }
+
     /// Ends the freeing of an object by a variable, behind its finalization: the variable becomes null, the object is gone, and its storage
     /// is given back (RM 13.11.2). There is room for the call of a Deallocate.
     fn end_in_variable(&mut self, code: &Code, object: u64, out: usize, slot: usize, ending: Ending)
@@ -501,10 +679,8 @@ impl Engine {
         requires ends { IsEnding code.now self.old ending }
         ensures { Makes code.now self.old self.new (Table.act code.now (Giving (Shows.tried_of ending.ended)) s.control s.operands s.world 0) }
     {
-        self.give(code, out, slot, 0, ending.place);
         let _ = self.control.take_last();
-        self.stock.forget(object);
-        self.return_storage(code, ending);
+        self.null_variable(code, object, out, slot, ending);
     }
 
     /// Ends the freeing of an object by a component, behind its finalization: the component becomes null, the object is gone, and its storage
@@ -518,14 +694,13 @@ impl Engine {
         requires ends { IsEnding code.now self.old ending }
         ensures { Makes code.now self.old self.new (Table.act code.now (Giving (Shows.tried_of ending.ended)) s.control s.operands s.world 0) }
     {
-        let component = self.drop_frame();
-        if !self.stock.exists(component.object()) {
-            self.mode = Mode::Stopped(Stop::UseAfterFree);
-            return;
-        }
-        self.stock.write(component.object(), component.offset(), 0);
-        self.stock.forget(object);
-        self.return_storage(code, ending);
+        let part = self.drop_frame();
+        let component = Component {
+            object: part.object(),
+            start: part.offset(),
+            offset: 0,
+        };
+        self.null_component(code, object, component, ending);
     }
 
     /// Goes on with the freeing of an object behind its finalization, which has ended so: what designated it becomes null, it is gone, and

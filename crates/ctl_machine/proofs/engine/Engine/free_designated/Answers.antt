@@ -1,72 +1,80 @@
-use Rattle.std.proofs.Common.{◌≡◌, ◌+◌, ◌-◌, ◌++◌, ◌∙◌, ◌∷◌, [], List, ap, arith, drop, length, refl, reverse, subst, sym}
-use Rattle.std.specs.Prelude.{slice_get}
-use Rattle.std.specs.Vec.{with_item}
+use Rattle.std.proofs.Common.{ap, subst}
+use Rattle.std.proofs.lemmas.Option.{slice_get_within}
 use Rattle.ctl_meaning.specs.Finalization.{Spot}
-use Rattle.ctl_code.specs.Table.{component_of}
-use Rattle.ctl_machine.specs.declared.engine.Engine.{Engine}
-use Rattle.ctl_machine.specs.declared.frame.Nulled.TheVariants as NulledOf
-use Rattle.ctl_machine.specs.Finishing.{AreDoubles}
-use Rattle.ctl_machine.specs.Masters.{first_window}
-use Rattle.ctl_machine.specs.Shows.{Kept, kept, with_spots}
-use Rattle.ctl_machine.specs.Spots.{first_spot, standing}
-use Rattle.ctl_machine.proofs.Assignments.{base_there}
-use Rattle.ctl_machine.proofs.Following.{makes_later}
-use Rattle.ctl_machine.proofs.FreedPart.{by_component, component_frees, frees_more}
-use Rattle.ctl_machine.proofs.Lists.{same_at}
-use Rattle.ctl_machine.proofs.Located.{part_on_top}
-use Rattle.ctl_machine.proofs.Words.{last_replaced, last_there, many_of}
+use Rattle.ctl_machine.specs.declared.freeing.Fate.{Fate}
+use Rattle.ctl_machine.specs.declared.freeing.Fate.TheVariants as FateOf
+use Rattle.ctl_machine.specs.Freeing.{IsFate, by_component, point_of}
+use Rattle.ctl_machine.proofs.Freed.{fate_goes, fate_makes, stays_makes}
+use Rattle.ctl_machine.proofs.Links.{got}
+use Rattle.ctl_machine.proofs.Steps.{on_ok}
 use Rattle.ctl_machine.proofs.engine.Engine.free_designated.Goals as goal
 
-pub component_of_newest-requires : goal.component_of_newest-requires
-component_of_newest-requires g c =
-    let b = c.requires.1.0.1 in
-    let old = c.args.self.now in
-    let s = g.s.0 in
-    let p = part_on_top c.args.code.now old c.requires.1.0.0 b.stack b.fine.1.0 s b.inside b.fine.1.1 in
-    let many = many_of old.spots.items (standing s.control (drop 1 s.operands)) (first_spot s.operands) p.spots in
-    omega (arith, many)
+pub free_at_once_by_part-requires : goal.free_at_once_by_part-requires
+free_at_once_by_part-requires g c =
+    let a = c.index.result.now in
+    let is = subst (λ (x : Fate). IsFate c.args.code.now a.collection c.args.object c.args.self.now.owned.items g.s.0 x) c.in-Goes.is c.fate-found.ensures.fate in
+    let b = c.requires.1.0 in
+    let r = c.requires.1.1 in
+    (c.requires.0, ((c.args.access, b.0, c.args.position, b.1), (is.may, (r.0, (r.1.0, (ap (λ (x : Spot). x.object) r.1.1, ap (λ (x : Spot). x.offset) r.1.1))))))
 
-pub release-requires : goal.release-requires
-release-requires g c =
+pub release_by_part-requires : goal.release_by_part-requires
+release_by_part-requires g c =
+    let a = c.index.result.now in
+    let is = subst (λ (x : Fate). IsFate c.args.code.now a.collection c.args.object c.args.self.now.owned.items g.s.0 x) c.in-Finalizes.is c.fate-found.ensures.fate in
+    let b = c.requires.1.0 in
+    (c.requires.0, ((c.args.access, b.0, b.1), (record { may = is.may; stored = c.fate-found.ensures.storage }, c.requires.1.1)))
+
+pub returns-in-Stops-clause-ok : goal.returns-in-Stops-clause-ok
+returns-in-Stops-clause-ok g c =
     let code = c.args.code.now in
     let old = c.args.self.now in
+    let new = c.go_on.new.self in
+    let access = c.args.access in
     let place = c.args.place in
+    let n = c.args.object in
     let s = g.s.0 in
-    let part = g.s.1 in
     let b = c.requires.1.0.1 in
-    let t = by_component part place s in
-    let p = part_on_top code old c.requires.1.0.0 b.stack b.fine.1.0 s b.inside b.fine.1.1 in
-    let below = standing s.control (drop 1 s.operands) in
-    let goes = c.in_ok-prepare_finalization.ensures.ok in
-    let room = c.in_ok-prepare_finalization.ensures in
-    let ready = c.prepare_finalization.new.self in
-    let copied = c.in_ok-component.ensures in
-    let read : copied.0 ≡ first_spot s.operands = same_at copied.0 (first_spot s.operands) (slice_get old.spots.items (length old.spots.items - 1)) copied.1 (last_there old.spots.items below (first_spot s.operands) p.spots) in
-    let is : c.in_ok-component.component ≡ part = copied.2 ∙ (ap (λ (x : Spot). component_of x c.args.offset c.args.position) read ∙ sym c.requires.1.1.1.1) in
-    let same : ready.spots.items ≡ old.spots.items = ap (λ (e : Kept). e.spots) goes.1.kept in
-    let spots = with_item ready.spots (c.count_spots-newest.result - 1) c.in_ok-component.component in
-    let put = last_replaced ready.spots.items below (first_spot s.operands) c.in_ok-component.component c.count_spots-newest.result (same ∙ p.spots) c.count_spots-newest.ensures.count ∙ ap (λ (x : Spot). below ++ x ∷ []) is in
-    let before : Engine = record old { spots = spots } in
-    let mid : Engine = record ready { spots = spots } in
-    let f = component_frees code old before c.args.access place c.requires.1.0.0 c.args.position part s b (ap (λ (l : List Spot). with_spots (kept old) l) put) in
-    let more = frees_more code before mid NulledOf.Part t goes.0 f (ap (λ (e : Kept). with_spots e spots.items) goes.1.kept) in
-    let base =
-    ap (λ n. n + c.height_at.result) c.window.ensures
-    ∙ (ap (λ n. first_window (reverse old.masters.items) + n) c.height_at.ensures ∙ base_there code (with_spots (kept before) (standing s.control (drop 1 s.operands))) (place + 1) f.stack s.control (drop 1 s.operands) s.world f.leads f.inside) in (
-      c.requires.0,
-      (
-        more,
-        (
-          refl,
-          (
-            (b.fine.0.0, b.fine.0.1, b.fine.0.2),
-            (c.requires.1.1.0, (base, (record { masters = room.room.masters; control = room.room.control; events = room.room.events; formals = room.room.formals; cells = room.room.cells; number = room.room.number }, (room.frames, (room.spots, subst (λ (x : Spot). AreDoubles c.in_ok-doubles.doubles x) c.whole.ensures c.in_ok-doubles.ensures))))),
-          ),
-        ),
-      ),
-    )
+    let a = c.index.result.now in
+    let has = b.fine.0 in
+    let found = got code.accesses.items access a (slice_get_within code.accesses.items access has.0 has.1) c.index.ensures in
+    let is = subst (λ (x : Fate). IsFate code a.collection n old.owned.items s x) c.in-Stops.is c.fate-found.ensures.fate in
+    fate_makes code old new access n a (by_component g.s.1 place s) old.owned.items (FateOf.Stops c.in-Stops.stop) found is
+    (stays_makes code old new c.in-Stops.stop s.control s.operands s.world b.inside.holds c.go_on.ensures)
 
-pub returns-clause-ok : goal.returns-clause-ok
-returns-clause-ok g c =
-    let goes = c.in_ok-prepare_finalization.ensures.ok.1 in
-    makes_later c.args.code.now c.args.self.now _ c.release.new.self _ goes.events goes.picks c.release.ensures
+pub returns-in-Goes-clause-ok : goal.returns-in-Goes-clause-ok
+returns-in-Goes-clause-ok g c =
+    let code = c.args.code.now in
+    let old = c.args.self.now in
+    let new = c.free_at_once_by_part.new.self in
+    let access = c.args.access in
+    let place = c.args.place in
+    let n = c.args.object in
+    let s = g.s.0 in
+    let b = c.requires.1.0.1 in
+    let a = c.index.result.now in
+    let has = b.fine.0 in
+    let found = got code.accesses.items access a (slice_get_within code.accesses.items access has.0 has.1) c.index.ensures in
+    let is = subst (λ (x : Fate). IsFate code a.collection n old.owned.items s x) c.in-Goes.is c.fate-found.ensures.fate in
+    let t = by_component g.s.1 place s in
+    on_ok c.free_at_once_by_part.result
+    (λ made. fate_makes code old new access n a t old.owned.items FateOf.Goes found is
+    (fate_goes code old new n t.nulled c.fate-found.result.storage _ _ (point_of t) s.control s.world c.fate-found.ensures.storage made))
+    c.free_at_once_by_part.ensures.ok
+
+pub returns-in-Finalizes-clause-ok : goal.returns-in-Finalizes-clause-ok
+returns-in-Finalizes-clause-ok g c =
+    let code = c.args.code.now in
+    let old = c.args.self.now in
+    let new = c.release_by_part.new.self in
+    let access = c.args.access in
+    let place = c.args.place in
+    let n = c.args.object in
+    let s = g.s.0 in
+    let b = c.requires.1.0.1 in
+    let a = c.index.result.now in
+    let has = b.fine.0 in
+    let found = got code.accesses.items access a (slice_get_within code.accesses.items access has.0 has.1) c.index.ensures in
+    let is = subst (λ (x : Fate). IsFate code a.collection n old.owned.items s x) c.in-Finalizes.is c.fate-found.ensures.fate in
+    on_ok c.release_by_part.result
+    (λ made. fate_makes code old new access n a (by_component g.s.1 place s) old.owned.items (FateOf.Finalizes c.in-Finalizes.record_type) found is made)
+    c.release_by_part.ensures.ok

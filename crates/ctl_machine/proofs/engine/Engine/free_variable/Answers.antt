@@ -1,46 +1,68 @@
-use Rattle.std.proofs.Common.{◌+◌, ◌∙◌, ap, refl, reverse, subst}
-use Rattle.ctl_meaning.specs.Finalization.{Spot}
-use Rattle.ctl_machine.specs.declared.frame.Nulled.TheVariants as NulledOf
-use Rattle.ctl_machine.specs.Finishing.{AreDoubles}
-use Rattle.ctl_machine.specs.Masters.{first_window}
-use Rattle.ctl_machine.specs.Shows.{kept, with_spots}
-use Rattle.ctl_machine.specs.Spots.{standing}
-use Rattle.ctl_machine.proofs.Assignments.{base_there}
-use Rattle.ctl_machine.proofs.Following.{makes_later}
-use Rattle.ctl_machine.proofs.FreedPart.{by_variable, frees_more, variable_frees, variable_some}
+use Rattle.std.proofs.Common.{subst}
+use Rattle.std.proofs.lemmas.Option.{slice_get_within}
+use Rattle.ctl_machine.specs.declared.freeing.Fate.{Fate}
+use Rattle.ctl_machine.specs.declared.freeing.Fate.TheVariants as FateOf
+use Rattle.ctl_machine.specs.Freeing.{IsFate, by_variable, point_of}
+use Rattle.ctl_machine.proofs.Freed.{fate_goes, fate_makes, stays_makes}
+use Rattle.ctl_machine.proofs.FreedPart.{variable_some}
+use Rattle.ctl_machine.proofs.Links.{got}
+use Rattle.ctl_machine.proofs.Steps.{on_ok}
 use Rattle.ctl_machine.proofs.engine.Engine.free_variable.Goals as goal
 
-pub release-requires : goal.release-requires
-release-requires g c =
+pub returns-in-Stops-clause-ok : goal.returns-in-Stops-clause-ok
+returns-in-Stops-clause-ok g c =
     let code = c.args.code.now in
     let old = c.args.self.now in
+    let new = c.go_on-in-Stops.new.self in
+    let access = c.args.access in
     let place = c.args.place in
+    let n = c.read_variable-object.result in
     let s = g.s in
     let b = c.requires.1.0 in
-    let t = by_variable c.args.out c.args.slot place s in
-    let goes = c.in_ok-prepare_finalization.ensures.ok in
-    let room = c.in_ok-prepare_finalization.ensures in
-    let f = variable_frees code old c.args.access c.args.out c.args.slot place s b in
-    let base =
-    ap (λ n. n + c.height_at.result) c.window.ensures
-    ∙ (ap (λ n. first_window (reverse old.masters.items) + n) c.height_at.ensures ∙ base_there code (with_spots (kept old) (standing s.control s.operands)) (place + 1) f.stack s.control s.operands s.world f.leads f.inside) in (
-      c.requires.0,
-      (
-        frees_more code old c.prepare_finalization.new.self (NulledOf.Variable c.args.out c.args.slot) t goes.0 f goes.1.kept,
-        (
-          refl,
-          (
-            (b.fine.0.0, b.fine.0.1, b.fine.0.2),
-            (c.requires.1.1.0, (base, (room.room, (room.frames, (room.spots, subst (λ (x : Spot). AreDoubles c.in_ok-doubles.doubles x) c.whole.ensures c.in_ok-doubles.ensures))))),
-          ),
-        ),
-      ),
-    )
+    let a = c.index.result.now in
+    let has = b.fine.0 in
+    let found = got code.accesses.items access a (slice_get_within code.accesses.items access has.0 has.1) c.index.ensures in
+    let is = subst (λ (x : Fate). IsFate code a.collection n old.owned.items s x) c.in-Stops.is c.fate-found.ensures.fate in
+    variable_some code old new access c.args.out c.args.slot place n s c.read_variable-object.ensures c.if-object-eq0.false
+    (fate_makes code old new access n a (by_variable c.args.out c.args.slot place s) old.owned.items (FateOf.Stops c.in-Stops.stop) found is
+    (stays_makes code old new c.in-Stops.stop s.control s.operands s.world b.inside.holds c.go_on-in-Stops.ensures))
 
-pub returns-clause-ok : goal.returns-clause-ok
-returns-clause-ok g c =
+pub returns-in-Goes-clause-ok : goal.returns-in-Goes-clause-ok
+returns-in-Goes-clause-ok g c =
     let code = c.args.code.now in
     let old = c.args.self.now in
-    let goes = c.in_ok-prepare_finalization.ensures.ok.1 in
-    variable_some code old c.release.new.self c.args.access c.args.out c.args.slot c.args.place c.read_variable-object.result g.s c.read_variable-object.ensures c.if-object-eq0.false
-    (makes_later code old c.prepare_finalization.new.self c.release.new.self _ goes.events goes.picks c.release.ensures)
+    let new = c.free_at_once_by_variable.new.self in
+    let access = c.args.access in
+    let place = c.args.place in
+    let n = c.read_variable-object.result in
+    let s = g.s in
+    let b = c.requires.1.0 in
+    let a = c.index.result.now in
+    let has = b.fine.0 in
+    let found = got code.accesses.items access a (slice_get_within code.accesses.items access has.0 has.1) c.index.ensures in
+    let is = subst (λ (x : Fate). IsFate code a.collection n old.owned.items s x) c.in-Goes.is c.fate-found.ensures.fate in
+    let t = by_variable c.args.out c.args.slot place s in
+    on_ok c.free_at_once_by_variable.result
+    (λ made. variable_some code old new access c.args.out c.args.slot place n s c.read_variable-object.ensures c.if-object-eq0.false
+    (fate_makes code old new access n a t old.owned.items FateOf.Goes found is
+    (fate_goes code old new n t.nulled c.fate-found.result.storage _ _ (point_of t) s.control s.world c.fate-found.ensures.storage made)))
+    c.free_at_once_by_variable.ensures.ok
+
+pub returns-in-Finalizes-clause-ok : goal.returns-in-Finalizes-clause-ok
+returns-in-Finalizes-clause-ok g c =
+    let code = c.args.code.now in
+    let old = c.args.self.now in
+    let new = c.release_by_variable.new.self in
+    let access = c.args.access in
+    let place = c.args.place in
+    let n = c.read_variable-object.result in
+    let s = g.s in
+    let b = c.requires.1.0 in
+    let a = c.index.result.now in
+    let has = b.fine.0 in
+    let found = got code.accesses.items access a (slice_get_within code.accesses.items access has.0 has.1) c.index.ensures in
+    let is = subst (λ (x : Fate). IsFate code a.collection n old.owned.items s x) c.in-Finalizes.is c.fate-found.ensures.fate in
+    on_ok c.release_by_variable.result
+    (λ made. variable_some code old new access c.args.out c.args.slot place n s c.read_variable-object.ensures c.if-object-eq0.false
+    (fate_makes code old new access n a (by_variable c.args.out c.args.slot place s) old.owned.items (FateOf.Finalizes c.in-Finalizes.record_type) found is made))
+    c.release_by_variable.ensures.ok

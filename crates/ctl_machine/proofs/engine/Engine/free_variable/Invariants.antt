@@ -1,9 +1,13 @@
-use Rattle.ctl_code.specs.States.{whole_spot}
-use Rattle.ctl_machine.proofs.Freed.{nulled_by}
 use Rattle.ctl_machine.proofs.engine.Engine.free_variable.Given as goal
 
 abbrev pub ghost-read_variable : goal.ghost-read_variable
 ghost-read_variable g a = g.s
 
-abbrev pub ghost-release : goal.ghost-release
-ghost-release g a = record { nulled = nulled_by a.release.nulled (whole_spot 0); operands = g.s.operands; place = a.release.place; state = g.s }
+abbrev pub ghost-fate : goal.ghost-fate
+ghost-fate g a = g.s
+
+abbrev pub ghost-free_at_once_by_variable : goal.ghost-free_at_once_by_variable
+ghost-free_at_once_by_variable g a = g.s
+
+abbrev pub ghost-release_by_variable : goal.ghost-release_by_variable
+ghost-release_by_variable g a = g.s

@@ -1,0 +1,26 @@
+use Rattle.std.proofs.Common.{◌+◌, refl}
+use Rattle.ctl_machine.specs.declared.frame.Ended.TheVariants as EndedOf
+use Rattle.ctl_machine.proofs.Following.{makes_later}
+use Rattle.ctl_machine.proofs.Freed.{ending_at}
+use Rattle.ctl_machine.proofs.FreedPart.{variable_lets_go}
+use Rattle.ctl_machine.proofs.engine.Engine.free_at_once_by_variable.Goals as goal
+
+pub null_variable-requires : goal.null_variable-requires
+null_variable-requires g c =
+    let code = c.args.code.now in
+    let old = c.args.self.now in
+    let new = c.prepare_return.new.self in
+    let x = c.args.release in
+    let b = c.requires.1.0.1 in
+    let goes = c.in_ok-prepare_return.ensures.ok in (
+      c.requires.0,
+      (
+        variable_lets_go code old new c.requires.1.0.0 c.args.out c.args.slot x.place x.object g.s goes.0 b c.requires.1.1.0 goes.1.kept,
+        (refl, ending_at code old new EndedOf.Complete x.storage (x.place + 1) c.window.result c.height_at.result b.stack _ c.requires.0 b.fine.2 goes.1.kept c.window.ensures c.height_at.ensures c.in_ok-prepare_return.ensures.room),
+      ),
+    )
+
+pub returns-clause-ok : goal.returns-clause-ok
+returns-clause-ok g c =
+    let goes = c.in_ok-prepare_return.ensures.ok.1 in
+    makes_later c.args.code.now c.args.self.now c.prepare_return.new.self c.null_variable.new.self _ goes.events goes.picks c.null_variable.ensures
