@@ -316,6 +316,7 @@ impl Engine {
 
     /// Finalizes an object, as one of this record type, that the access value in the variable of this slot designates, before it is freed (RM
     /// 13.11.2). Unchanged where memory is refused.
+    #[inline(never)]
     fn release_by_variable(
         &mut self,
         code: &Code,
@@ -432,6 +433,7 @@ impl Engine {
 
     /// Finalizes an object, as one of this record type, whose number a component of the part has that is the newest operand, before it is
     /// freed, by the first cell of the component and its position (RM 13.11.2). Unchanged where memory is refused.
+    #[inline(never)]
     fn release_by_part(
         &mut self,
         code: &Code,
