@@ -221,12 +221,11 @@ abbrev pub calls_back : Code → Place → List Object → Bool
 calls_back code (PlaceOf.InBlock block) objects = has_deallocate code (object_in block.pool objects)
 calls_back code _ objects = false
 
--- there is room for the call of it, whose window begins there
+-- there is room for the call of it, which goes on at a place: its window begins behind the operands that stay
 abbrev pub HasReturnRoom : Code → Engine → Place → ℕ → Type 0
-HasReturnRoom code e place base = calls_back code place e.stock.objects ≡ true → HasRoom code e base
+HasReturnRoom code e lies place = calls_back code lies e.stock.objects ≡ true → HasRoom code e (first_window (reverse e.masters.items) + height (stack_at code.kinds place))
 
--- how the freeing of an object goes on once it is gone: the window of a Deallocate begins behind the operands that stay, and there is room
+-- how the freeing of an object goes on once it is gone: there is room for the call of a Deallocate
 pub record IsEnding (code : Code) (e : Engine) (ending : Ending) : Type 0 where
-  pub base : ending.base ≡ first_window (reverse e.masters.items) + height (stack_at code.kinds ending.place)
   pub place : ending.place + 1 < 2 ^ 64
-  pub room : HasReturnRoom code e ending.storage.place ending.base
+  pub room : HasReturnRoom code e ending.storage.place ending.place

@@ -83,14 +83,13 @@ pub struct Component {
     pub offset: usize,
 }
 
-/// How the freeing of an object goes on once it is gone: how its finalization ended, its storage, the place where that goes on if a Finalize
-/// failed, or else the next one, and the cell where the window of a Deallocate begins (RM 13.11.2).
+/// How the freeing of an object goes on once it is gone: how its finalization ended, its storage, and the place where that goes on if a
+/// Finalize failed, or else the next one (RM 13.11.2).
 #[derive(Clone, Copy)]
 pub struct Ending {
     pub ended: Ended,
     pub storage: Storage,
     pub place: usize,
-    pub base: usize,
 }
 
 /// The Deallocate that the user wrote for the type of a pool: the number of the pool object, the address of the block that is given back, and
@@ -366,13 +365,11 @@ impl Engine {
         ensures err { OnErr result (GoesOn self.old self.new self.old.mode self.old.cells.items) }
     {
         let place = release.place + 1;
-        let base = self.window() + code.kinds.height_at(place, 0);
-        self.prepare_return(code, release.storage.place, base)?;
+        self.prepare_return(code, release.storage.place, place)?;
         let ending = Ending {
             ended: Ended::Complete,
             storage: release.storage,
             place,
-            base,
         };
         self.null_variable(code, release.object, out, slot, ending);
         Ok(())
@@ -485,8 +482,7 @@ impl Engine {
         ensures err { OnErr result (GoesOn self.old self.new self.old.mode self.old.cells.items) }
     {
         let place = release.place + 1;
-        let base = self.window() + code.kinds.height_at(place, 0);
-        self.prepare_return(code, release.storage.place, base)?;
+        self.prepare_return(code, release.storage.place, place)?;
         let part = self.spots.take_last();
         let component = Component {
             object: part.object(),
@@ -497,7 +493,6 @@ impl Engine {
             ended: Ended::Complete,
             storage: release.storage,
             place,
-            base,
         };
         self.null_component(code, release.object, component, ending);
         Ok(())
@@ -575,17 +570,25 @@ impl Engine {
         self.free_designated(code, access, object, offset, position, place)
     }
 
-    /// Makes room for the call of the Deallocate that the user wrote for the pool in which storage lies, if there is one, whose window begins
-    /// with this cell (RM 13.11); nothing else changes.
-    fn prepare_return(&mut self, code: &Code, storage: Place, base: usize) -> Result<(), AllocError>
+    /// Makes room for the call of the Deallocate that the user wrote for the pool in which storage lies, if there is one, which goes on at this
+    /// place (RM 13.11); nothing else changes.
+    #[inline(always)]
+    fn prepare_return(
+        &mut self,
+        code: &Code,
+        storage: Place,
+        place: usize,
+    ) -> Result<(), AllocError>
         requires number { self.old.given_masters + 1 < 2 ^ 64 }
         ensures ok { OnOk result ((more : List ℕ) × GoesOn self.old self.new self.old.mode (self.old.cells.items ++ more)) }
         ensures err { OnErr result (GoesOn self.old self.new self.old.mode self.old.cells.items) }
-        ensures room { OnOk result (HasReturnRoom code.now self.new storage base) }
+        ensures room { OnOk result (HasReturnRoom code.now self.new storage place) }
     {
         if !calls_back(code, &self.stock, storage) {
             return Ok(());
         }
+        let height = code.kinds.height_at(place, 0);
+        let base = self.window().checked_add(height).ok_or(AllocError)?;
         self.prepare(base, code.room, 1)
     }
 
@@ -629,7 +632,8 @@ impl Engine {
             GivenBack::Stops(stop) => self.mode = Mode::Stopped(stop),
             GivenBack::Calls(call) => {
                 let units = ending.storage.units as u64;
-                self.deallocate(code, call, units, next, ending.base);
+                let base = self.window() + code.kinds.height_at(ending.place, 0);
+                self.deallocate(code, call, units, next, base);
             }
         }
     }
@@ -725,13 +729,11 @@ impl Engine {
         ensures ok { OnOk result (Makes code.now self.old self.new (Table.act code.now (Giving (Shows.tried_of ended)) s.control s.operands s.world 0)) }
         ensures err { OnErr result (GoesOn self.old self.new self.old.mode self.old.cells.items) }
     {
-        let base = self.window() + code.kinds.height_at(place, 0);
-        self.prepare_return(code, storage.place, base)?;
+        self.prepare_return(code, storage.place, place)?;
         let ending = Ending {
             ended,
             storage,
             place,
-            base,
         };
         match nulled {
             Nulled::Variable { out, slot } => {

@@ -40,7 +40,7 @@ null_component-requires g c =
     let are : with_spots (kept mid) taken.new.self.items ≡ with_spots (with_cells (kept old) (old.cells.items ++ goes.0)) below = ap (λ (e : Kept). with_spots e taken.new.self.items) goes.1.kept ∙ ap (λ (l : List Spot). with_spots (with_cells (kept old) (old.cells.items ++ goes.0)) l) front.0 in
     let start : c.offset.result ≡ top.offset = c.offset.ensures ∙ ap (λ (y : Spot). y.offset) front.1 in
     let first = same.1 in
-    let ends = ending_at code old mid EndedOf.Complete x.storage (x.place + 1) c.window.result c.height_at.result b.fine.1.0 _ c.requires.0 b.fine.1.2.1 goes.1.kept c.window.ensures c.height_at.ensures c.in_ok-prepare_return.ensures.room in (
+    let ends = ending_at code mid EndedOf.Complete x.storage (x.place + 1) b.fine.1.0 c.requires.0 b.fine.1.2.1 c.in_ok-prepare_return.ensures.room in (
       c.requires.0,
       (
         component_lets_go code old _ c.requires.1.0.0 x.place c.requires.1.0.1 c.requires.1.0.2 x.object part s goes.0 b c.requires.1.1.0 are,

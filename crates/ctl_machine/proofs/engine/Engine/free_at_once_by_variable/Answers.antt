@@ -16,7 +16,7 @@ null_variable-requires g c =
       c.requires.0,
       (
         variable_lets_go code old new c.requires.1.0.0 c.args.out c.args.slot x.place x.object g.s goes.0 b c.requires.1.1.0 goes.1.kept,
-        (refl, ending_at code old new EndedOf.Complete x.storage (x.place + 1) c.window.result c.height_at.result b.stack _ c.requires.0 b.fine.2 goes.1.kept c.window.ensures c.height_at.ensures c.in_ok-prepare_return.ensures.room),
+        (refl, ending_at code new EndedOf.Complete x.storage (x.place + 1) b.stack c.requires.0 b.fine.2 c.in_ok-prepare_return.ensures.room),
       ),
     )
 

@@ -20,7 +20,7 @@ end_in_variable-requires g c =
         resuming_more code old new g.s goes.0 b goes.1.kept,
         (
           (top.0, ap (λ (e : Kept). e.control) goes.1.kept ∙ (top.1 ∙ ap (λ (y : Nulled). FrameOf.Freeing x.object y x.storage x.place ∷ top.0) c.in-Variable.is)),
-          ending_there code old new x.ended x.object x.nulled x.storage x.place c.window.result c.height_at.result top.0 g.s _ valid b top.1 goes.1.kept c.window.ensures c.height_at.ensures c.in_ok-prepare_return.ensures.room,
+          ending_there code old new x.ended x.object x.nulled x.storage x.place top.0 g.s valid b top.1 c.in_ok-prepare_return.ensures.room,
         ),
       ),
     )
@@ -40,7 +40,7 @@ end_in_part-requires g c =
         resuming_more code old new g.s goes.0 b goes.1.kept,
         (
           (top.0, ap (λ (e : Kept). e.control) goes.1.kept ∙ (top.1 ∙ ap (λ (y : Nulled). FrameOf.Freeing x.object y x.storage x.place ∷ top.0) c.in-Part.is)),
-          ending_there code old new x.ended x.object x.nulled x.storage x.place c.window.result c.height_at.result top.0 g.s _ valid b top.1 goes.1.kept c.window.ensures c.height_at.ensures c.in_ok-prepare_return.ensures.room,
+          ending_there code old new x.ended x.object x.nulled x.storage x.place top.0 g.s valid b top.1 c.in_ok-prepare_return.ensures.room,
         ),
       ),
     )
