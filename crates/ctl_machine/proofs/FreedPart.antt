@@ -25,7 +25,6 @@ use Rattle.ctl_code.specs.Table.{Here, act, ahead, by_free, by_free_part, by_ins
 use Rattle.ctl_machine.specs.declared.engine.Engine.{Engine}
 use Rattle.ctl_machine.specs.declared.frame.Ended.{Ended}
 use Rattle.ctl_machine.specs.declared.frame.Frame.{Frame}
-use Rattle.ctl_machine.specs.declared.frame.Frame.TheVariants as FrameOf
 use Rattle.ctl_machine.specs.declared.frame.Mode.TheVariants as ModeOf
 use Rattle.ctl_machine.specs.declared.frame.Nulled.{Nulled}
 use Rattle.ctl_machine.specs.declared.frame.Nulled.TheVariants as NulledOf

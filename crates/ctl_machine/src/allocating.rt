@@ -315,7 +315,7 @@ impl Engine {
     /// finalization of the collection has started, an object with a controlled part is not: Program_Error is raised; and Storage_Error where
     /// the storage pool of the access type is exhausted (RM 13.11). Where the collection or the pool is gone, the program is erroneous
     /// (RM 13.11.2). Unchanged where memory is refused.
-    #[inline(always)]
+    #[inline(never)]
     pub(crate) fn allocate(
         &mut self,
         code: &Code,

@@ -128,7 +128,7 @@ impl Engine {
 
     /// Declares an object of a record type without a value (RM 3.3.1): it is created, and its components are to begin, if anything is
     /// executed for that (RM 7.6); unchanged where memory is refused.
-    #[inline(always)]
+    #[inline(never)]
     pub(crate) fn declare(
         &mut self,
         code: &Code,

@@ -377,7 +377,7 @@ impl Engine {
 
     /// Frees the object that the access value in the variable of this slot designates, in the master so many further out (RM 13.11.2); null
     /// designates none, and nothing is done. Unchanged where memory is refused.
-    #[inline(always)]
+    #[inline(never)]
     pub(crate) fn free_variable(
         &mut self,
         code: &Code,
