@@ -1,4 +1,4 @@
-use Rattle.ctl_machine.specs.Freeing.{behind_instruction, gone_by_variable}
+use Rattle.ctl_machine.specs.Freeing.{gone_by_variable}
 use Rattle.ctl_machine.proofs.Freed.{at_place}
 use Rattle.ctl_machine.proofs.engine.Engine.free_at_once_by_variable.Given as goal
 
