@@ -1,9 +1,11 @@
 -- Numbers and their owners.
-use Rattle.std.specs.Prelude.{◌≡◌, refl, ℕ, ◌+◌, Option, Some, None, Bool, false, ◌&&◌, nat_eq, IfSome, if◌then◌else◌}
+use Rattle.std.specs.Prelude.{◌≡◌, refl, ℕ, ◌+◌, Option, None, Bool, false, ◌&&◌, nat_eq, if◌then◌else◌}
 use Rattle.std.specs.Coded.{Coded, code_by, coded×, coded_ℕ}
 use Rattle.std.specs.Option.{option_map_or}
 use Rattle.std.specs.Ordering.{nat_cmp}
 use Rattle.std.specs.FinMap.{FinMap, code, get, insert}
+use Rattle.owned_numbers.specs.declared.newest.Newest.{Newest}
+use Rattle.owned_numbers.specs.declared.newest.Newest.TheVariants.{Nothing, Pair}
 
 -- the owner of each number that has one, and how many numbers have one
 pub record Owned : Type 0 where
@@ -29,15 +31,16 @@ OwnsAs b owner n old new = (p k : ℕ) → owns p k new ≡ (if nat_eq owner p &
 -- How they are kept: one pair of an owner and a number apart -----------------------------------------------
 
 -- the pair apart is this one
-abbrev pub is_pair : ℕ → ℕ → Option (ℕ × ℕ) → Bool
-is_pair p n None = false
-is_pair p n (Some x) = nat_eq x.0 p && nat_eq x.1 n
+abbrev pub is_pair : ℕ → ℕ → Newest → Bool
+is_pair p n Nothing = false
+is_pair p n (Pair q k) = nat_eq q p && nat_eq k n
 
 -- with the pair apart
-abbrev pub with_newest : Option (ℕ × ℕ) → Owned → Owned
-with_newest None o = o
-with_newest (Some x) o = record { owners = insert o.owners x.1 x.0; size = o.size + 1 }
+abbrev pub with_newest : Newest → Owned → Owned
+with_newest Nothing o = o
+with_newest (Pair p n) o = record { owners = insert o.owners n p; size = o.size + 1 }
 
 -- the number of the pair apart has no other owner
-abbrev pub IsApart : Option (ℕ × ℕ) → Owned → Type 0
-IsApart newest o = IfSome newest (λ x. get o.owners x.1 ≡ None)
+abbrev pub IsApart : Newest → Owned → Type 0
+IsApart Nothing o = Unit {0}
+IsApart (Pair p n) o = get o.owners n ≡ None

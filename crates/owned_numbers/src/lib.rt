@@ -2,6 +2,7 @@
 #![tactic(auto)]
 
 mod lists;
+mod newest;
 mod others;
 mod owned;
 

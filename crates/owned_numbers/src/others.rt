@@ -5,6 +5,7 @@ ghost use Rattle.std.specs.Option.{option_map};
 ghost use Rattle.std.specs.FinMap.{empty, get};
 ghost use Rattle.number_map.specs.Table.{change};
 ghost use Rattle.owned_numbers.specs.Owned.{OwnsAs, is_owner, owns, with_newest};
+ghost use Rattle.owned_numbers.specs.declared.newest.Newest.TheVariants.{Pair};
 
 use crate::lists::{Lists, append, take_out};
 use number_map::NumberMap;
@@ -72,7 +73,7 @@ impl Others {
     /// `AllocError` where the allocator refuses the memory. Nothing changes then.
     pub(crate) fn list(&mut self, owner: u64, number: u64) -> Result<(), AllocError>
         requires { get self.old.owners number ≡ None }
-        ensures ok { OnOk result (self.new ≡ with_newest (Some (owner, number)) self.old) }
+        ensures ok { OnOk result (self.new ≡ with_newest (Pair owner number) self.old) }
         ensures err { OnErr result (self.new ≡ self.old) }
     {
         if self.count >= MOST {

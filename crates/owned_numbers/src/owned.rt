@@ -1,8 +1,9 @@
 //! The numbers with their owners.
 
-ghost use Rattle.std.specs.Prelude.{◌≡◌, ℕ, ◌+◌, ◌<◌, ◌^◌, IfNone, IfSome, None, OnErr, OnOk, Some, false, true, if◌then◌else◌};
-ghost use Rattle.owned_numbers.specs.Owned.{IsApart, OwnsAs, is_pair, owns, with_newest};
+ghost use Rattle.std.specs.Prelude.{◌≡◌, ℕ, ◌+◌, ◌<◌, ◌^◌, IfNone, IfSome, OnErr, OnOk, false, true, if◌then◌else◌};
+ghost use Rattle.owned_numbers.specs.Owned.{OwnsAs, owns};
 
+use crate::newest::Newest;
 use crate::others::Others;
 use std::alloc::{AllocError, Global};
 use std::marker::Model;
@@ -13,7 +14,7 @@ use std::marker::Model;
 /// before the next comes is never hashed, and takes no memory.
 #[derive(Drop)]
 pub struct OwnedNumbers {
-    newest: Option<(u64, u64)>,
+    newest: Newest,
     others: Others,
 }
 
@@ -36,7 +37,7 @@ impl OwnedNumbers {
         ensures size { result.size ≡ 0 }
     {
         OwnedNumbers {
-            newest: None,
+            newest: Newest::Nothing,
             others: Others::new(alloc),
         }
     }
@@ -60,8 +61,8 @@ impl OwnedNumbers {
         ensures size { OnOk result (self.new.size ≡ self.old.size + 1) }
         ensures err { OnErr result (self.new ≡ self.old) }
     {
-        file(self.newest, &mut self.others)?;
-        self.newest = Some((owner, number));
+        self.newest.file(&mut self.others)?;
+        self.newest = Newest::Pair(owner, number);
         Ok(())
     }
 
@@ -71,8 +72,8 @@ impl OwnedNumbers {
         ensures gone { OwnsAs false owner number self.old self.new }
         ensures size { self.new.size + (if owns owner number self.old then 1 else 0) ≡ self.old.size }
     {
-        if is_pair(self.newest, owner, number) {
-            self.newest = None;
+        if self.newest.is_pair(owner, number) {
+            self.newest = Newest::Nothing;
         } else {
             self.others.unlist(owner, number);
         }
@@ -83,48 +84,9 @@ impl OwnedNumbers {
         ensures some { IfSome result (λ n. owns owner n self.now ≡ true) }
         ensures none { IfNone result ((n : ℕ) → owns owner n self.now ≡ false) }
     {
-        match number_of(self.newest, owner) {
+        match self.newest.number_of(owner) {
             Some(number) => Some(number),
             None => self.others.any_of(owner),
         }
-    }
-}
-
-/// Returns whether the pair apart is this one.
-#[inline(always)]
-fn is_pair(newest: Option<(u64, u64)>, owner: u64, number: u64) -> bool
-    ensures { result ≡ is_pair owner number newest }
-{
-    match newest {
-        Some((own, last)) => own == owner && last == number,
-        None => false,
-    }
-}
-
-/// Returns the number of the pair apart, where it has this owner.
-#[inline(always)]
-fn number_of(newest: Option<(u64, u64)>, owner: u64) -> Option<u64>
-    ensures some { IfSome result (λ n. newest ≡ Some (owner, n)) }
-    ensures none { IfNone result ((n : ℕ) → is_pair owner n newest ≡ false) }
-{
-    match newest {
-        Some((own, number)) if own == owner => Some(number),
-        _ => None,
-    }
-}
-
-/// Puts the number that stood apart, where there is one, among the others.
-///
-/// # Errors
-///
-/// `AllocError` where the allocator refuses the memory. Nothing changes then.
-fn file(newest: Option<(u64, u64)>, others: &mut Others) -> Result<(), AllocError>
-    requires { IsApart newest others.old }
-    ensures ok { OnOk result (others.new ≡ with_newest newest others.old) }
-    ensures err { OnErr result (others.new ≡ others.old) }
-{
-    match newest {
-        Some((owner, number)) => others.list(owner, number),
-        None => Ok(()),
     }
 }

@@ -7,7 +7,7 @@ use Rattle.number_map.specs.Table.{change}
 use Rattle.owned_numbers.specs.declared.others.Place.{Place}
 use Rattle.owned_numbers.specs.Lists.{AreListed, Places, owners_of}
 use Rattle.owned_numbers.specs.Owned.{Owned, is_owner, owns}
-use Rattle.owned_numbers.proofs.Newest.{none_gone}
+use Rattle.owned_numbers.proofs.Apart.{none_gone}
 use Rattle.owned_numbers.proofs.Places.{listed_less, listed_moved, owner_is, owners_less, owners_moved}
 use Rattle.owned_numbers.proofs.others.Others.unlist.Goals as goal
 

@@ -1,6 +1,7 @@
 use Rattle.std.proofs.Common.{◌≡◌, ℕ, Option, Some, None, IfNone, IfSome, true, false, sym, ap, ◌∙◌}
+use Rattle.owned_numbers.specs.declared.newest.Newest.{Newest}
 use Rattle.owned_numbers.specs.Owned.{Owned, owns, with_newest}
-use Rattle.owned_numbers.proofs.Newest.{none_there, other_there, own_there}
+use Rattle.owned_numbers.proofs.Apart.{none_there, other_there, own_there}
 use Rattle.owned_numbers.proofs.owned.OwnedNumbers.any_of.Goals as goal
 
 pub returns-in-Some-clause-some : goal.returns-in-Some-clause-some
@@ -8,7 +9,7 @@ returns-in-Some-clause-some c =
     let s = c.self.inside in
     let p = c.args.owner in
     let n = c.in-Some.number in
-    ap (λ (o : Owned). owns p n o) (sym c.self.view_is) ∙ ap (λ (a : Option (ℕ × ℕ)). owns p n (with_newest a s.others)) c.in-Some.ensures.some ∙ own_there s.others p n
+    ap (λ (o : Owned). owns p n o) (sym c.self.view_is) ∙ ap (λ (a : Newest). owns p n (with_newest a s.others)) c.in-Some.ensures.some ∙ own_there s.others p n
 
 each : (r : Option ℕ) (P Q : ℕ → Type 0) → ((n : ℕ) → P n → Q n) → IfSome r P → IfSome r Q
 each None P Q f h = h

@@ -2,7 +2,7 @@ use Rattle.std.proofs.Common.{cond, ap, ◌∙◌}
 use Rattle.std.specs.Prelude.{true, nat_eq, ◌&&◌}
 use Rattle.std.specs.FinMap.{get}
 use Rattle.owned_numbers.specs.Owned.{Owned, owns}
-use Rattle.owned_numbers.proofs.Newest.{listed_as, no_owner}
+use Rattle.owned_numbers.proofs.Apart.{listed_as, no_owner}
 use Rattle.owned_numbers.proofs.owned.OwnedNumbers.list.Goals as goal
 
 pub invariant_of-self-2 : goal.invariant_of-self-2
