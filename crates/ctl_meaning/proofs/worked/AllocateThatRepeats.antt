@@ -6,9 +6,9 @@ use Rattle.ctl_program.specs.declared.types.Root.TheVariants.{BlockPool}
 use Rattle.ctl_program.specs.declared.types.Ty.TheVariants.{Access, Address, Boolean, Count, Record}
 use Rattle.ctl_tree.specs.declared.ending.End.TheVariants.{Stopped}
 use Rattle.ctl_tree.specs.declared.ending.Stop.TheVariants.{BadAddress}
-use Rattle.ctl_meaning.proofs.worked.Build.{Program, access_type, allocated, arm, assign, at, block, checked, choose, collections, component, constant, counted_type, discriminant, library_allocate, live, master, name, new, newline, object, of_collection, part, played, plays, pool, pool_operations, print, prints_a, prints_f, procedure, program, put_text, read, record_type, shown, silent, unary, value, variable}
+use Rattle.ctl_meaning.proofs.worked.Build.{Program, access_type, allocated, arm, assign, at, block, checked, choose, collections, component, computed, constant, counted_type, discriminant, is_computed, library_allocate, live, master, name, new, newline, object, of_collection, part, pool, pool_operations, print, prints_a, prints_f, procedure, program, put_text, read, record_type, silent, unary, value, variable}
 use Rattle.ctl_meaning.specs.Choice.{newest}
-use Rattle.ctl_meaning.specs.Run.{opened_meaning, outcome}
+use Rattle.ctl_meaning.specs.Run.{Outcome, opened_meaning, outcome}
 
 abbrev the_program : Program
 the_program =
@@ -22,9 +22,17 @@ the_program =
     [])
     4
 
-computes : played the_program newest 100 ≡ (allocated 1 16 ∷ live (part 4 []) (of_collection 1) ∷ print (codes "one") ∷ newline ∷ allocated 1 16 ∷ [], [], Some (Stopped BadAddress))
-unfolding opened_meaning played
+abbrev the_outcome : Outcome
+the_outcome = record {
+  trace = allocated 1 16 ∷ live (part 4 []) (of_collection 1) ∷ print (codes "one") ∷ newline ∷ allocated 1 16 ∷ [];
+  picks = [];
+  end = Some (Stopped BadAddress);
+  ticks = 69;
+}
+
+computes : computed the_program newest 100 ≡ the_outcome
+unfolding opened_meaning computed
 computes = refl
 
-runs : shown (outcome (checked the_program) newest 100) ≡ (allocated 1 16 ∷ live (part 4 []) (of_collection 1) ∷ print (codes "one") ∷ newline ∷ allocated 1 16 ∷ [], [], Some (Stopped BadAddress))
-runs = plays the_program newest 100 _ computes
+runs : outcome (checked the_program) newest 100 ≡ the_outcome
+runs = is_computed the_program newest 100 _ computes

@@ -3,9 +3,9 @@ use Rattle.std.proofs.Common.{None, Some, [], codes, refl, ◌∷◌, ◌≡◌}
 use Rattle.ctl_program.specs.declared.types.Root.TheVariants.{Controlled}
 use Rattle.ctl_program.specs.declared.types.Ty.TheVariants.{Access, Record}
 use Rattle.ctl_tree.specs.declared.ending.End.TheVariants.{Done}
-use Rattle.ctl_meaning.proofs.worked.Build.{Program, access_type, assign, block, checked, collected, collections, counted_type, finalized, live, master, new, newline, object, of_collection, operations, part, played, plays, print, prints_a, prints_f, procedure, program, put_text, record_type, shown, silent, variable, when}
+use Rattle.ctl_meaning.proofs.worked.Build.{Program, access_type, assign, block, checked, collected, collections, computed, counted_type, finalized, is_computed, live, master, new, newline, object, of_collection, operations, part, print, prints_a, prints_f, procedure, program, put_text, record_type, silent, variable, when}
 use Rattle.ctl_meaning.specs.Choice.{newest}
-use Rattle.ctl_meaning.specs.Run.{opened_meaning, outcome}
+use Rattle.ctl_meaning.specs.Run.{Outcome, opened_meaning, outcome}
 
 abbrev the_program : Program
 the_program =
@@ -17,9 +17,17 @@ the_program =
     procedure 0 (master 0 (silent ∷ silent ∷ silent ∷ silent ∷ silent ∷ []) (block 2 (silent ∷ silent ∷ silent ∷ silent ∷ collections (0 ∷ []) ∷ silent ∷ object 1 (Access 0) None ∷ []) (assign (variable 2 1) (new 0 (Record 5) None None) ∷ []) [] ∷ []) []) ∷ [])
     3
 
-computes : played the_program newest 300 ≡ (live (part 2 []) (of_collection 1) ∷ finalized (part 2 []) collected ∷ print (codes "PE") ∷ newline ∷ [], [], Some Done)
-unfolding opened_meaning played
+abbrev the_outcome : Outcome
+the_outcome = record {
+  trace = live (part 2 []) (of_collection 1) ∷ finalized (part 2 []) collected ∷ print (codes "PE") ∷ newline ∷ [];
+  picks = [];
+  end = Some Done;
+  ticks = 33;
+}
+
+computes : computed the_program newest 300 ≡ the_outcome
+unfolding opened_meaning computed
 computes = refl
 
-runs : shown (outcome (checked the_program) newest 300) ≡ (live (part 2 []) (of_collection 1) ∷ finalized (part 2 []) collected ∷ print (codes "PE") ∷ newline ∷ [], [], Some Done)
-runs = plays the_program newest 300 _ computes
+runs : outcome (checked the_program) newest 300 ≡ the_outcome
+runs = is_computed the_program newest 300 _ computes

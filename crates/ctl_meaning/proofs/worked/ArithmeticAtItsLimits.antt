@@ -5,9 +5,9 @@ use Rattle.ctl_program.specs.declared.operators.Direction.TheVariants.{Upward}
 use Rattle.ctl_program.specs.declared.operators.UnaryOp.TheVariants.{Minus}
 use Rattle.ctl_program.specs.declared.types.Ty.TheVariants.{Boolean, Integer}
 use Rattle.ctl_tree.specs.declared.ending.End.TheVariants.{Raised}
-use Rattle.ctl_meaning.proofs.worked.Build.{Program, arm, assign, at, chain, checked, choose, constant, exit, for, image, integer_image, master, negative_image, newline, object, operand, played, plays, print, procedure, program, put_line, shown, text, unary, value, variable}
+use Rattle.ctl_meaning.proofs.worked.Build.{Program, arm, assign, at, chain, checked, choose, computed, constant, exit, for, image, integer_image, is_computed, master, negative_image, newline, object, operand, print, procedure, program, put_line, text, unary, value, variable}
 use Rattle.ctl_meaning.specs.Choice.{newest}
-use Rattle.ctl_meaning.specs.Run.{opened_meaning, outcome}
+use Rattle.ctl_meaning.specs.Run.{Outcome, opened_meaning, outcome}
 
 abbrev the_program : Program
 the_program =
@@ -17,9 +17,17 @@ the_program =
     [])
     0
 
-computes : played the_program newest 100 ≡ (print (codes "S" ++ image 12) ∷ newline ∷ print (codes "q" ++ negative_image 3) ∷ newline ∷ print (codes "r" ++ negative_image 1) ∷ newline ∷ print (codes "m" ++ image 1) ∷ newline ∷ print (codes "l" ++ negative_image 2147483648) ∷ newline ∷ [], [], Some (Raised (codes "Constraint_Error")))
-unfolding opened_meaning played
+abbrev the_outcome : Outcome
+the_outcome = record {
+  trace = print (codes "S" ++ image 12) ∷ newline ∷ print (codes "q" ++ negative_image 3) ∷ newline ∷ print (codes "r" ++ negative_image 1) ∷ newline ∷ print (codes "m" ++ image 1) ∷ newline ∷ print (codes "l" ++ negative_image 2147483648) ∷ newline ∷ [];
+  picks = [];
+  end = Some (Raised (codes "Constraint_Error"));
+  ticks = 155;
+}
+
+computes : computed the_program newest 100 ≡ the_outcome
+unfolding opened_meaning computed
 computes = refl
 
-runs : shown (outcome (checked the_program) newest 100) ≡ (print (codes "S" ++ image 12) ∷ newline ∷ print (codes "q" ++ negative_image 3) ∷ newline ∷ print (codes "r" ++ negative_image 1) ∷ newline ∷ print (codes "m" ++ image 1) ∷ newline ∷ print (codes "l" ++ negative_image 2147483648) ∷ newline ∷ [], [], Some (Raised (codes "Constraint_Error")))
-runs = plays the_program newest 100 _ computes
+runs : outcome (checked the_program) newest 100 ≡ the_outcome
+runs = is_computed the_program newest 100 _ computes

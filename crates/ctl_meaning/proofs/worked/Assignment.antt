@@ -3,9 +3,9 @@ use Rattle.std.proofs.Common.{None, Some, [], codes, refl, ◌++◌, ◌∷◌, 
 use Rattle.ctl_program.specs.declared.expression.Step.TheVariants.{Component}
 use Rattle.ctl_program.specs.declared.types.Ty.TheVariants.{Record}
 use Rattle.ctl_tree.specs.declared.ending.End.TheVariants.{Done}
-use Rattle.ctl_meaning.proofs.worked.Build.{Program, adjusted, assign, assign_record, assigned, block, by_name, checked, constant, counted_type, finalized, image, live, master, name, newline, object, of_master, part, played, plays, print, prints_a, prints_f, procedure, program, scope, shown, silent, variable}
+use Rattle.ctl_meaning.proofs.worked.Build.{Program, adjusted, assign, assign_record, assigned, block, by_name, checked, computed, constant, counted_type, finalized, image, is_computed, live, master, name, newline, object, of_master, part, print, prints_a, prints_f, procedure, program, scope, silent, variable}
 use Rattle.ctl_meaning.specs.Choice.{newest}
-use Rattle.ctl_meaning.specs.Run.{opened_meaning, outcome}
+use Rattle.ctl_meaning.specs.Run.{Outcome, opened_meaning, outcome}
 
 abbrev the_program : Program
 the_program =
@@ -16,9 +16,17 @@ the_program =
     procedure 0 (master 0 (silent ∷ silent ∷ silent ∷ silent ∷ silent ∷ []) (block 2 (object 0 (Record 4) None ∷ object 1 (Record 4) None ∷ []) (assign (name 2 0 (Component 4 1 ∷ [])) (constant 1) ∷ assign (name 2 1 (Component 4 1 ∷ [])) (constant 2) ∷ assign_record (variable 2 0) 4 (by_name (variable 2 0) (Record 4)) ∷ assign_record (variable 2 0) 4 (by_name (variable 2 1) (Record 4)) ∷ []) [] ∷ []) []) ∷ [])
     2
 
-computes : played the_program newest 300 ≡ (live (part 1 []) (of_master 2) ∷ live (part 2 []) (of_master 2) ∷ finalized (part 1 []) assigned ∷ print (codes "F" ++ image 1) ∷ newline ∷ adjusted (part 1 []) ∷ print (codes "A" ++ image 2) ∷ newline ∷ finalized (part 2 []) scope ∷ print (codes "F" ++ image 2) ∷ newline ∷ finalized (part 1 []) scope ∷ print (codes "F" ++ image 2) ∷ newline ∷ [], [], Some Done)
-unfolding opened_meaning played
+abbrev the_outcome : Outcome
+the_outcome = record {
+  trace = live (part 1 []) (of_master 2) ∷ live (part 2 []) (of_master 2) ∷ finalized (part 1 []) assigned ∷ print (codes "F" ++ image 1) ∷ newline ∷ adjusted (part 1 []) ∷ print (codes "A" ++ image 2) ∷ newline ∷ finalized (part 2 []) scope ∷ print (codes "F" ++ image 2) ∷ newline ∷ finalized (part 1 []) scope ∷ print (codes "F" ++ image 2) ∷ newline ∷ [];
+  picks = [];
+  end = Some Done;
+  ticks = 77;
+}
+
+computes : computed the_program newest 300 ≡ the_outcome
+unfolding opened_meaning computed
 computes = refl
 
-runs : shown (outcome (checked the_program) newest 300) ≡ (live (part 1 []) (of_master 2) ∷ live (part 2 []) (of_master 2) ∷ finalized (part 1 []) assigned ∷ print (codes "F" ++ image 1) ∷ newline ∷ adjusted (part 1 []) ∷ print (codes "A" ++ image 2) ∷ newline ∷ finalized (part 2 []) scope ∷ print (codes "F" ++ image 2) ∷ newline ∷ finalized (part 1 []) scope ∷ print (codes "F" ++ image 2) ∷ newline ∷ [], [], Some Done)
-runs = plays the_program newest 300 _ computes
+runs : outcome (checked the_program) newest 300 ≡ the_outcome
+runs = is_computed the_program newest 300 _ computes

@@ -3,9 +3,9 @@ use Rattle.std.proofs.Common.{None, Some, [], codes, refl, ◌∷◌, ◌≡◌}
 use Rattle.ctl_program.specs.declared.types.Root.TheVariants.{Controlled}
 use Rattle.ctl_program.specs.declared.types.Ty.TheVariants.{Record}
 use Rattle.ctl_tree.specs.declared.ending.End.TheVariants.{Done}
-use Rattle.ctl_meaning.proofs.worked.Build.{Program, block, checked, exit, finalized, initialized, live, loop, master, newline, object, of_master, operations, part, played, plays, print, procedure, program, put_text, record_type, scope, shown, silent}
+use Rattle.ctl_meaning.proofs.worked.Build.{Program, block, checked, computed, exit, finalized, initialized, is_computed, live, loop, master, newline, object, of_master, operations, part, print, procedure, program, put_text, record_type, scope, silent}
 use Rattle.ctl_meaning.specs.Choice.{newest}
-use Rattle.ctl_meaning.specs.Run.{opened_meaning, outcome}
+use Rattle.ctl_meaning.specs.Run.{Outcome, opened_meaning, outcome}
 
 abbrev the_program : Program
 the_program =
@@ -18,9 +18,17 @@ the_program =
     [])
     3
 
-computes : played the_program newest 100 ≡ (live (part 1 []) (of_master 2) ∷ initialized (part 2 []) ∷ print (codes "i") ∷ newline ∷ live (part 2 []) (of_master 3) ∷ finalized (part 2 []) scope ∷ print (codes "b") ∷ newline ∷ finalized (part 1 []) scope ∷ print (codes "a") ∷ newline ∷ print (codes "out") ∷ newline ∷ [], [], Some Done)
-unfolding opened_meaning played
+abbrev the_outcome : Outcome
+the_outcome = record {
+  trace = live (part 1 []) (of_master 2) ∷ initialized (part 2 []) ∷ print (codes "i") ∷ newline ∷ live (part 2 []) (of_master 3) ∷ finalized (part 2 []) scope ∷ print (codes "b") ∷ newline ∷ finalized (part 1 []) scope ∷ print (codes "a") ∷ newline ∷ print (codes "out") ∷ newline ∷ [];
+  picks = [];
+  end = Some Done;
+  ticks = 40;
+}
+
+computes : computed the_program newest 100 ≡ the_outcome
+unfolding opened_meaning computed
 computes = refl
 
-runs : shown (outcome (checked the_program) newest 100) ≡ (live (part 1 []) (of_master 2) ∷ initialized (part 2 []) ∷ print (codes "i") ∷ newline ∷ live (part 2 []) (of_master 3) ∷ finalized (part 2 []) scope ∷ print (codes "b") ∷ newline ∷ finalized (part 1 []) scope ∷ print (codes "a") ∷ newline ∷ print (codes "out") ∷ newline ∷ [], [], Some Done)
-runs = plays the_program newest 100 _ computes
+runs : outcome (checked the_program) newest 100 ≡ the_outcome
+runs = is_computed the_program newest 100 _ computes

@@ -421,17 +421,26 @@ meaning_is p = both (λ x y. let m : Meaning = record { tables = record { record
 
 -- Runs -------------------------------------------------------------------------------
 
--- what a run comes to, without its ticks
+-- a run whole, computed from what the program means
+unfoldable pub computed : Program → Ask → ℕ → Outcome
+computed p ask clock = outcome_of exceptions (run_meaning (meant p) p.main ask clock)
+
+pub is_computed : (p : Program) (ask : Ask) (clock : ℕ) (x : Outcome) → computed p ask clock ≡ x → outcome (checked p) ask clock ≡ x
+unfolding computed outcome run
+is_computed p ask clock x h = ap (λ m. outcome_of exceptions (run_meaning m p.main ask clock)) (meaning_is p) ∙ h
+
+-- all of an outcome but its ticks, for a run of which only the trace matters
 abbrev pub shown : Outcome → List Event × List Pick × Option End
 shown o = (o.trace, o.picks, o.end)
 
--- a run, computed from what the program means
+-- the same of a run that is computed
 unfoldable pub played : Program → Ask → ℕ → List Event × List Pick × Option End
-played p ask clock = shown (outcome_of exceptions (run_meaning (meant p) p.main ask clock))
+unfolding computed
+played p ask clock = shown (computed p ask clock)
 
 pub plays : (p : Program) (ask : Ask) (clock : ℕ) (x : List Event × List Pick × Option End) → played p ask clock ≡ x → shown (outcome (checked p) ask clock) ≡ x
-unfolding played outcome run
-plays p ask clock x h = ap (λ m. shown (outcome_of exceptions (run_meaning m p.main ask clock))) (meaning_is p) ∙ h
+unfolding played
+plays p ask clock x h = ap shown (is_computed p ask clock _ refl) ∙ h
 
 abbrev pub part : ℕ → List ℕ → Part
 part object path = record { object = object; path = path }

@@ -4,9 +4,9 @@ use Rattle.ctl_program.specs.declared.expression.Step.TheVariants.{Component}
 use Rattle.ctl_program.specs.declared.types.Root.TheVariants.{Controlled}
 use Rattle.ctl_program.specs.declared.types.Ty.TheVariants.{Record}
 use Rattle.ctl_tree.specs.declared.ending.End.TheVariants.{Done}
-use Rattle.ctl_meaning.proofs.worked.Build.{Program, assign, block, checked, component, constant, counted_type, finalized, image, live, master, name, newline, object, of_master, operations, part, pick, played, plays, print, prints_a, prints_f, procedure, program, put_text, record_type, scope, shown, silent}
+use Rattle.ctl_meaning.proofs.worked.Build.{Program, assign, block, checked, component, computed, constant, counted_type, finalized, image, is_computed, live, master, name, newline, object, of_master, operations, part, pick, print, prints_a, prints_f, procedure, program, put_text, record_type, scope, silent}
 use Rattle.ctl_meaning.specs.Choice.{newest}
-use Rattle.ctl_meaning.specs.Run.{opened_meaning, outcome}
+use Rattle.ctl_meaning.specs.Run.{Outcome, opened_meaning, outcome}
 
 abbrev the_program : Program
 the_program =
@@ -18,9 +18,17 @@ the_program =
     procedure 0 (master 0 (silent ∷ silent ∷ silent ∷ silent ∷ silent ∷ []) (block 1 (silent ∷ silent ∷ silent ∷ object 0 (Record 5) None ∷ []) (assign (name 2 0 (Component 5 1 ∷ Component 4 1 ∷ [])) (constant 1) ∷ assign (name 2 0 (Component 5 2 ∷ Component 4 1 ∷ [])) (constant 2) ∷ []) [] ∷ []) []) ∷ [])
     3
 
-computes : played the_program newest 300 ≡ (live (part 1 (2 ∷ [])) (of_master 2) ∷ live (part 1 (1 ∷ [])) (of_master 2) ∷ live (part 1 []) (of_master 2) ∷ finalized (part 1 []) scope ∷ print (codes "whole") ∷ newline ∷ finalized (part 1 (2 ∷ [])) scope ∷ print (codes "F" ++ image 2) ∷ newline ∷ finalized (part 1 (1 ∷ [])) scope ∷ print (codes "F" ++ image 1) ∷ newline ∷ [], (pick 2 1) ∷ (pick 2 1) ∷ [], Some Done)
-unfolding opened_meaning played
+abbrev the_outcome : Outcome
+the_outcome = record {
+  trace = live (part 1 (2 ∷ [])) (of_master 2) ∷ live (part 1 (1 ∷ [])) (of_master 2) ∷ live (part 1 []) (of_master 2) ∷ finalized (part 1 []) scope ∷ print (codes "whole") ∷ newline ∷ finalized (part 1 (2 ∷ [])) scope ∷ print (codes "F" ++ image 2) ∷ newline ∷ finalized (part 1 (1 ∷ [])) scope ∷ print (codes "F" ++ image 1) ∷ newline ∷ [];
+  picks = (pick 2 1) ∷ (pick 2 1) ∷ [];
+  end = Some Done;
+  ticks = 66;
+}
+
+computes : computed the_program newest 300 ≡ the_outcome
+unfolding opened_meaning computed
 computes = refl
 
-runs : shown (outcome (checked the_program) newest 300) ≡ (live (part 1 (2 ∷ [])) (of_master 2) ∷ live (part 1 (1 ∷ [])) (of_master 2) ∷ live (part 1 []) (of_master 2) ∷ finalized (part 1 []) scope ∷ print (codes "whole") ∷ newline ∷ finalized (part 1 (2 ∷ [])) scope ∷ print (codes "F" ++ image 2) ∷ newline ∷ finalized (part 1 (1 ∷ [])) scope ∷ print (codes "F" ++ image 1) ∷ newline ∷ [], (pick 2 1) ∷ (pick 2 1) ∷ [], Some Done)
-runs = plays the_program newest 300 _ computes
+runs : outcome (checked the_program) newest 300 ≡ the_outcome
+runs = is_computed the_program newest 300 _ computes

@@ -3,9 +3,9 @@ use Rattle.std.proofs.Common.{Some, [], codes, refl, ◌∷◌, ◌≡◌}
 use Rattle.ctl_program.specs.declared.operators.BinaryOp.TheVariants.{Divide}
 use Rattle.ctl_program.specs.declared.types.Ty.TheVariants.{Integer}
 use Rattle.ctl_tree.specs.declared.ending.End.TheVariants.{Raised}
-use Rattle.ctl_meaning.proofs.worked.Build.{Program, assign, chain, checked, constant, master, object, operand, played, plays, procedure, program, shown, value, variable}
+use Rattle.ctl_meaning.proofs.worked.Build.{Program, assign, chain, checked, computed, constant, is_computed, master, object, operand, procedure, program, value, variable}
 use Rattle.ctl_meaning.specs.Choice.{newest}
-use Rattle.ctl_meaning.specs.Run.{opened_meaning, outcome}
+use Rattle.ctl_meaning.specs.Run.{Outcome, opened_meaning, outcome}
 
 abbrev the_program : Program
 the_program =
@@ -15,9 +15,17 @@ the_program =
     [])
     0
 
-computes : played the_program newest 10 ≡ ([], [], Some (Raised (codes "Constraint_Error")))
-unfolding opened_meaning played
+abbrev the_outcome : Outcome
+the_outcome = record {
+  trace = [];
+  picks = [];
+  end = Some (Raised (codes "Constraint_Error"));
+  ticks = 9;
+}
+
+computes : computed the_program newest 10 ≡ the_outcome
+unfolding opened_meaning computed
 computes = refl
 
-runs : shown (outcome (checked the_program) newest 10) ≡ ([], [], Some (Raised (codes "Constraint_Error")))
-runs = plays the_program newest 10 _ computes
+runs : outcome (checked the_program) newest 10 ≡ the_outcome
+runs = is_computed the_program newest 10 _ computes

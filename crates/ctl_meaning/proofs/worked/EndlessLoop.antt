@@ -1,8 +1,8 @@
 -- A loop without end is cut where the clock is 0.
 use Rattle.std.proofs.Common.{None, [], codes, refl, ◌∷◌, ◌≡◌}
-use Rattle.ctl_meaning.proofs.worked.Build.{Program, checked, loop, master, newline, played, plays, print, procedure, program, put_text, shown}
+use Rattle.ctl_meaning.proofs.worked.Build.{Program, checked, computed, is_computed, loop, master, newline, print, procedure, program, put_text}
 use Rattle.ctl_meaning.specs.Choice.{newest}
-use Rattle.ctl_meaning.specs.Run.{opened_meaning, outcome}
+use Rattle.ctl_meaning.specs.Run.{Outcome, opened_meaning, outcome}
 
 abbrev the_program : Program
 the_program =
@@ -12,9 +12,17 @@ the_program =
     [])
     0
 
-computes : played the_program newest 3 ≡ (print (codes "x") ∷ newline ∷ print (codes "x") ∷ newline ∷ print (codes "x") ∷ newline ∷ [], [], None)
-unfolding opened_meaning played
+abbrev the_outcome : Outcome
+the_outcome = record {
+  trace = print (codes "x") ∷ newline ∷ print (codes "x") ∷ newline ∷ print (codes "x") ∷ newline ∷ [];
+  picks = [];
+  end = None;
+  ticks = 10;
+}
+
+computes : computed the_program newest 3 ≡ the_outcome
+unfolding opened_meaning computed
 computes = refl
 
-runs : shown (outcome (checked the_program) newest 3) ≡ (print (codes "x") ∷ newline ∷ print (codes "x") ∷ newline ∷ print (codes "x") ∷ newline ∷ [], [], None)
-runs = plays the_program newest 3 _ computes
+runs : outcome (checked the_program) newest 3 ≡ the_outcome
+runs = is_computed the_program newest 3 _ computes

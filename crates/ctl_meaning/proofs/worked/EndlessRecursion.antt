@@ -1,8 +1,8 @@
 -- A recursion without end is cut where the clock is 0.
 use Rattle.std.proofs.Common.{None, [], refl, ◌∷◌, ◌≡◌}
-use Rattle.ctl_meaning.proofs.worked.Build.{Program, call, checked, master, played, plays, procedure, program, shown, silent}
+use Rattle.ctl_meaning.proofs.worked.Build.{Program, call, checked, computed, is_computed, master, procedure, program, silent}
 use Rattle.ctl_meaning.specs.Choice.{newest}
-use Rattle.ctl_meaning.specs.Run.{opened_meaning, outcome}
+use Rattle.ctl_meaning.specs.Run.{Outcome, opened_meaning, outcome}
 
 abbrev the_program : Program
 the_program =
@@ -13,9 +13,17 @@ the_program =
     [])
     1
 
-computes : played the_program newest 5 ≡ ([], [], None)
-unfolding opened_meaning played
+abbrev the_outcome : Outcome
+the_outcome = record {
+  trace = [];
+  picks = [];
+  end = None;
+  ticks = 12;
+}
+
+computes : computed the_program newest 5 ≡ the_outcome
+unfolding opened_meaning computed
 computes = refl
 
-runs : shown (outcome (checked the_program) newest 5) ≡ ([], [], None)
-runs = plays the_program newest 5 _ computes
+runs : outcome (checked the_program) newest 5 ≡ the_outcome
+runs = is_computed the_program newest 5 _ computes

@@ -5,9 +5,9 @@ use Rattle.ctl_program.specs.declared.operators.BinaryOp.TheVariants.{Equal}
 use Rattle.ctl_program.specs.declared.types.Root.TheVariants.{Controlled}
 use Rattle.ctl_program.specs.declared.types.Ty.TheVariants.{Boolean, Integer, Record}
 use Rattle.ctl_tree.specs.declared.ending.End.TheVariants.{Done}
-use Rattle.ctl_meaning.proofs.worked.Build.{Program, arm, assign, assign_record, assigned, block, by_name, chain, checked, choose, constant, counted_type, finalized, image, integer_image, live, master, name, newline, object, of_master, operand, operations, part, played, plays, print, prints_a, prints_f, procedure, program, put_line, put_text, raise, read, record_type, scope, shown, silent, text, variable, when}
+use Rattle.ctl_meaning.proofs.worked.Build.{Program, arm, assign, assign_record, assigned, block, by_name, chain, checked, choose, computed, constant, counted_type, finalized, image, integer_image, is_computed, live, master, name, newline, object, of_master, operand, operations, part, print, prints_a, prints_f, procedure, program, put_line, put_text, raise, read, record_type, scope, silent, text, variable, when}
 use Rattle.ctl_meaning.specs.Choice.{newest}
-use Rattle.ctl_meaning.specs.Run.{opened_meaning, outcome}
+use Rattle.ctl_meaning.specs.Run.{Outcome, opened_meaning, outcome}
 
 abbrev the_program : Program
 the_program =
@@ -19,9 +19,17 @@ the_program =
     procedure 0 (master 0 (silent ∷ silent ∷ silent ∷ silent ∷ silent ∷ []) (block 2 (silent ∷ silent ∷ silent ∷ object 0 (Record 5) None ∷ object 1 (Record 5) None ∷ []) (assign (name 2 0 (Component 5 1 ∷ [])) (constant 1) ∷ assign (name 2 1 (Component 5 1 ∷ [])) (constant 2) ∷ assign_record (variable 2 0) 5 (by_name (variable 2 1) (Record 5)) ∷ []) (when 1 (put_text (codes "PE") ∷ assign (name 2 0 (Component 5 1 ∷ [])) (constant 3) ∷ []) ∷ []) ∷ []) []) ∷ [])
     3
 
-computes : played the_program newest 300 ≡ (live (part 1 []) (of_master 2) ∷ live (part 2 []) (of_master 2) ∷ finalized (part 1 []) assigned ∷ print (codes "R" ++ image 1) ∷ newline ∷ print (codes "PE") ∷ newline ∷ finalized (part 2 []) scope ∷ print (codes "R" ++ image 2) ∷ newline ∷ finalized (part 1 []) scope ∷ print (codes "R" ++ image 3) ∷ newline ∷ [], [], Some Done)
-unfolding opened_meaning played
+abbrev the_outcome : Outcome
+the_outcome = record {
+  trace = live (part 1 []) (of_master 2) ∷ live (part 2 []) (of_master 2) ∷ finalized (part 1 []) assigned ∷ print (codes "R" ++ image 1) ∷ newline ∷ print (codes "PE") ∷ newline ∷ finalized (part 2 []) scope ∷ print (codes "R" ++ image 2) ∷ newline ∷ finalized (part 1 []) scope ∷ print (codes "R" ++ image 3) ∷ newline ∷ [];
+  picks = [];
+  end = Some Done;
+  ticks = 96;
+}
+
+computes : computed the_program newest 300 ≡ the_outcome
+unfolding opened_meaning computed
 computes = refl
 
-runs : shown (outcome (checked the_program) newest 300) ≡ (live (part 1 []) (of_master 2) ∷ live (part 2 []) (of_master 2) ∷ finalized (part 1 []) assigned ∷ print (codes "R" ++ image 1) ∷ newline ∷ print (codes "PE") ∷ newline ∷ finalized (part 2 []) scope ∷ print (codes "R" ++ image 2) ∷ newline ∷ finalized (part 1 []) scope ∷ print (codes "R" ++ image 3) ∷ newline ∷ [], [], Some Done)
-runs = plays the_program newest 300 _ computes
+runs : outcome (checked the_program) newest 300 ≡ the_outcome
+runs = is_computed the_program newest 300 _ computes

@@ -3,9 +3,9 @@ use Rattle.std.proofs.Common.{None, Some, [], codes, refl, ◌∷◌, ◌≡◌}
 use Rattle.ctl_program.specs.declared.types.Root.TheVariants.{Controlled}
 use Rattle.ctl_program.specs.declared.types.Ty.TheVariants.{Record}
 use Rattle.ctl_tree.specs.declared.ending.End.TheVariants.{Done}
-use Rattle.ctl_meaning.proofs.worked.Build.{Program, block, checked, component, counted_type, initialized, master, newline, null, object, operations, part, pick, played, plays, print, prints_a, prints_f, procedure, program, put_text, raise, record_type, shown, silent, when}
+use Rattle.ctl_meaning.proofs.worked.Build.{Program, block, checked, component, computed, counted_type, initialized, is_computed, master, newline, null, object, operations, part, pick, print, prints_a, prints_f, procedure, program, put_text, raise, record_type, silent, when}
 use Rattle.ctl_meaning.specs.Choice.{newest}
-use Rattle.ctl_meaning.specs.Run.{opened_meaning, outcome}
+use Rattle.ctl_meaning.specs.Run.{Outcome, opened_meaning, outcome}
 
 abbrev the_program : Program
 the_program =
@@ -18,9 +18,17 @@ the_program =
     procedure 0 (master 0 (silent ∷ silent ∷ silent ∷ silent ∷ silent ∷ []) (block 0 (silent ∷ silent ∷ silent ∷ []) (block 1 (silent ∷ silent ∷ silent ∷ object 0 (Record 6) None ∷ []) (null ∷ []) [] ∷ []) (when 0 (put_text (codes "CE") ∷ []) ∷ []) ∷ []) []) ∷ [])
     4
 
-computes : played the_program newest 300 ≡ (initialized (part 1 (3 ∷ [])) ∷ print (codes "bad") ∷ newline ∷ print (codes "CE") ∷ newline ∷ [], (pick 3 2) ∷ [], Some Done)
-unfolding opened_meaning played
+abbrev the_outcome : Outcome
+the_outcome = record {
+  trace = initialized (part 1 (3 ∷ [])) ∷ print (codes "bad") ∷ newline ∷ print (codes "CE") ∷ newline ∷ [];
+  picks = (pick 3 2) ∷ [];
+  end = Some Done;
+  ticks = 35;
+}
+
+computes : computed the_program newest 300 ≡ the_outcome
+unfolding opened_meaning computed
 computes = refl
 
-runs : shown (outcome (checked the_program) newest 300) ≡ (initialized (part 1 (3 ∷ [])) ∷ print (codes "bad") ∷ newline ∷ print (codes "CE") ∷ newline ∷ [], (pick 3 2) ∷ [], Some Done)
-runs = plays the_program newest 300 _ computes
+runs : outcome (checked the_program) newest 300 ≡ the_outcome
+runs = is_computed the_program newest 300 _ computes

@@ -6,9 +6,9 @@ use Rattle.ctl_program.specs.declared.operators.Operation.TheVariants.{Finalize}
 use Rattle.ctl_program.specs.declared.types.Root.TheVariants.{Controlled}
 use Rattle.ctl_program.specs.declared.types.Ty.TheVariants.{Access, Boolean, Integer, Record}
 use Rattle.ctl_tree.specs.declared.ending.End.TheVariants.{Done}
-use Rattle.ctl_meaning.proofs.worked.Build.{Program, access_to, access_type, arm, assign, at, block, chain, checked, choose, collections, component, constant, convert, counted_type, dispatch, finalized, image, integer_image, live, master, name, newline, object, of_master, operand, operations, part, played, plays, print, prints_a, prints_f, procedure, program, put_line, put_text, read, record_type, scope, shown, silent, text, value, variable}
+use Rattle.ctl_meaning.proofs.worked.Build.{Program, access_to, access_type, arm, assign, at, block, chain, checked, choose, collections, component, computed, constant, convert, counted_type, dispatch, finalized, image, integer_image, is_computed, live, master, name, newline, object, of_master, operand, operations, part, print, prints_a, prints_f, procedure, program, put_line, put_text, read, record_type, scope, silent, text, value, variable}
 use Rattle.ctl_meaning.specs.Choice.{newest}
-use Rattle.ctl_meaning.specs.Run.{opened_meaning, outcome}
+use Rattle.ctl_meaning.specs.Run.{Outcome, opened_meaning, outcome}
 
 abbrev the_program : Program
 the_program =
@@ -21,9 +21,17 @@ the_program =
     [])
     3
 
-computes : played the_program newest 100 ≡ (live (part 3 []) (of_master 2) ∷ print ((codes "R" ++ image 3) ++ image 0) ∷ newline ∷ print (codes "null") ∷ newline ∷ finalized (part 3 []) scope ∷ print ((codes "R" ++ image 3) ++ image 0) ∷ newline ∷ [], [], Some Done)
-unfolding opened_meaning played
+abbrev the_outcome : Outcome
+the_outcome = record {
+  trace = live (part 3 []) (of_master 2) ∷ print ((codes "R" ++ image 3) ++ image 0) ∷ newline ∷ print (codes "null") ∷ newline ∷ finalized (part 3 []) scope ∷ print ((codes "R" ++ image 3) ++ image 0) ∷ newline ∷ [];
+  picks = [];
+  end = Some Done;
+  ticks = 80;
+}
+
+computes : computed the_program newest 100 ≡ the_outcome
+unfolding opened_meaning computed
 computes = refl
 
-runs : shown (outcome (checked the_program) newest 100) ≡ (live (part 3 []) (of_master 2) ∷ print ((codes "R" ++ image 3) ++ image 0) ∷ newline ∷ print (codes "null") ∷ newline ∷ finalized (part 3 []) scope ∷ print ((codes "R" ++ image 3) ++ image 0) ∷ newline ∷ [], [], Some Done)
-runs = plays the_program newest 100 _ computes
+runs : outcome (checked the_program) newest 100 ≡ the_outcome
+runs = is_computed the_program newest 100 _ computes

@@ -3,9 +3,9 @@ use Rattle.std.proofs.Common.{None, Some, [], refl, ◌∷◌, ◌≡◌}
 use Rattle.ctl_program.specs.declared.types.Ty.TheVariants.{Access, Record}
 use Rattle.ctl_tree.specs.declared.ending.End.TheVariants.{Stopped}
 use Rattle.ctl_tree.specs.declared.ending.Stop.TheVariants.{ForeignFree}
-use Rattle.ctl_meaning.proofs.worked.Build.{Program, access_to, access_type, assign, at, block, checked, collections, counted_type, free, live, master, object, of_master, part, played, plays, prints_a, prints_f, procedure, program, shown, silent, variable}
+use Rattle.ctl_meaning.proofs.worked.Build.{Program, access_to, access_type, assign, at, block, checked, collections, computed, counted_type, free, is_computed, live, master, object, of_master, part, prints_a, prints_f, procedure, program, silent, variable}
 use Rattle.ctl_meaning.specs.Choice.{newest}
-use Rattle.ctl_meaning.specs.Run.{opened_meaning, outcome}
+use Rattle.ctl_meaning.specs.Run.{Outcome, opened_meaning, outcome}
 
 abbrev the_program : Program
 the_program =
@@ -17,9 +17,17 @@ the_program =
     [])
     2
 
-computes : played the_program newest 100 ≡ (live (part 1 []) (of_master 2) ∷ [], [], Some (Stopped ForeignFree))
-unfolding opened_meaning played
+abbrev the_outcome : Outcome
+the_outcome = record {
+  trace = live (part 1 []) (of_master 2) ∷ [];
+  picks = [];
+  end = Some (Stopped ForeignFree);
+  ticks = 20;
+}
+
+computes : computed the_program newest 100 ≡ the_outcome
+unfolding opened_meaning computed
 computes = refl
 
-runs : shown (outcome (checked the_program) newest 100) ≡ (live (part 1 []) (of_master 2) ∷ [], [], Some (Stopped ForeignFree))
-runs = plays the_program newest 100 _ computes
+runs : outcome (checked the_program) newest 100 ≡ the_outcome
+runs = is_computed the_program newest 100 _ computes

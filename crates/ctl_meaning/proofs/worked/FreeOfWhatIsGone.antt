@@ -4,9 +4,9 @@ use Rattle.ctl_program.specs.declared.expression.Step.TheVariants.{Component, De
 use Rattle.ctl_program.specs.declared.types.Ty.TheVariants.{Access, Record}
 use Rattle.ctl_tree.specs.declared.ending.End.TheVariants.{Stopped}
 use Rattle.ctl_tree.specs.declared.ending.Stop.TheVariants.{UseAfterFree}
-use Rattle.ctl_meaning.proofs.worked.Build.{Program, access_type, assign, block, checked, collections, constant, counted_type, finalized, free, freed, image, live, master, name, new, newline, object, of_collection, part, played, plays, print, prints_a, prints_f, procedure, program, put_text, shown, silent, value, variable, when}
+use Rattle.ctl_meaning.proofs.worked.Build.{Program, access_type, assign, block, checked, collections, computed, constant, counted_type, finalized, free, freed, image, is_computed, live, master, name, new, newline, object, of_collection, part, print, prints_a, prints_f, procedure, program, put_text, silent, value, variable, when}
 use Rattle.ctl_meaning.specs.Choice.{newest}
-use Rattle.ctl_meaning.specs.Run.{opened_meaning, outcome}
+use Rattle.ctl_meaning.specs.Run.{Outcome, opened_meaning, outcome}
 
 abbrev the_program : Program
 the_program =
@@ -18,9 +18,17 @@ the_program =
     [])
     2
 
-computes : played the_program newest 100 ≡ (print (codes "CE") ∷ newline ∷ live (part 3 []) (of_collection 1) ∷ finalized (part 3 []) freed ∷ print (codes "F" ++ image 0) ∷ newline ∷ [], [], Some (Stopped UseAfterFree))
-unfolding opened_meaning played
+abbrev the_outcome : Outcome
+the_outcome = record {
+  trace = print (codes "CE") ∷ newline ∷ live (part 3 []) (of_collection 1) ∷ finalized (part 3 []) freed ∷ print (codes "F" ++ image 0) ∷ newline ∷ [];
+  picks = [];
+  end = Some (Stopped UseAfterFree);
+  ticks = 46;
+}
+
+computes : computed the_program newest 100 ≡ the_outcome
+unfolding opened_meaning computed
 computes = refl
 
-runs : shown (outcome (checked the_program) newest 100) ≡ (print (codes "CE") ∷ newline ∷ live (part 3 []) (of_collection 1) ∷ finalized (part 3 []) freed ∷ print (codes "F" ++ image 0) ∷ newline ∷ [], [], Some (Stopped UseAfterFree))
-runs = plays the_program newest 100 _ computes
+runs : outcome (checked the_program) newest 100 ≡ the_outcome
+runs = is_computed the_program newest 100 _ computes

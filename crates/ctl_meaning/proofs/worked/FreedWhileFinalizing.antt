@@ -5,9 +5,9 @@ use Rattle.ctl_program.specs.declared.types.Root.TheVariants.{Controlled}
 use Rattle.ctl_program.specs.declared.types.Ty.TheVariants.{Access, Integer, Record}
 use Rattle.ctl_tree.specs.declared.ending.End.TheVariants.{Stopped}
 use Rattle.ctl_tree.specs.declared.ending.Stop.TheVariants.{FreeWhileFinalizing}
-use Rattle.ctl_meaning.proofs.worked.Build.{Program, access_type, assign, block, checked, collected, collections, component, constant, counted_type, finalized, free, freed, image, integer_image, live, master, name, new, newline, object, of_collection, operations, part, pick, played, plays, print, prints_a, prints_f, procedure, program, put_line, read, record_type, shown, silent, text, value, variable}
+use Rattle.ctl_meaning.proofs.worked.Build.{Program, access_type, assign, block, checked, collected, collections, component, computed, constant, counted_type, finalized, free, freed, image, integer_image, is_computed, live, master, name, new, newline, object, of_collection, operations, part, pick, print, prints_a, prints_f, procedure, program, put_line, read, record_type, silent, text, value, variable}
 use Rattle.ctl_meaning.specs.Choice.{newest}
-use Rattle.ctl_meaning.specs.Run.{opened_meaning, outcome}
+use Rattle.ctl_meaning.specs.Run.{Outcome, opened_meaning, outcome}
 
 abbrev the_program : Program
 the_program =
@@ -19,9 +19,17 @@ the_program =
     procedure 0 (master 0 (silent ∷ silent ∷ silent ∷ silent ∷ silent ∷ []) (block 3 (silent ∷ silent ∷ silent ∷ silent ∷ collections (0 ∷ []) ∷ silent ∷ silent ∷ object 1 (Access 0) None ∷ object 2 (Access 0) None ∷ []) (assign (variable 2 1) (new 0 (Record 5) None None) ∷ assign (variable 2 2) (new 0 (Record 5) None None) ∷ assign (name 2 1 (Dereference ∷ Component 5 1 ∷ [])) (constant 1) ∷ assign (name 2 2 (Dereference ∷ Component 5 1 ∷ [])) (constant 2) ∷ assign (name 2 1 (Dereference ∷ Component 5 2 ∷ [])) (value 2 2 (Access 0)) ∷ assign (name 2 2 (Dereference ∷ Component 5 2 ∷ [])) (value 2 1 (Access 0)) ∷ []) [] ∷ []) []) ∷ [])
     3
 
-computes : played the_program newest 300 ≡ (live (part 3 []) (of_collection 1) ∷ live (part 4 []) (of_collection 1) ∷ finalized (part 4 []) collected ∷ print (codes "N" ++ image 2) ∷ newline ∷ finalized (part 3 []) freed ∷ print (codes "N" ++ image 1) ∷ newline ∷ [], (pick 2 1) ∷ [], (Some (Stopped FreeWhileFinalizing)))
-unfolding opened_meaning played
+abbrev the_outcome : Outcome
+the_outcome = record {
+  trace = live (part 3 []) (of_collection 1) ∷ live (part 4 []) (of_collection 1) ∷ finalized (part 4 []) collected ∷ print (codes "N" ++ image 2) ∷ newline ∷ finalized (part 3 []) freed ∷ print (codes "N" ++ image 1) ∷ newline ∷ [];
+  picks = (pick 2 1) ∷ [];
+  end = (Some (Stopped FreeWhileFinalizing));
+  ticks = 80;
+}
+
+computes : computed the_program newest 300 ≡ the_outcome
+unfolding opened_meaning computed
 computes = refl
 
-runs : shown (outcome (checked the_program) newest 300) ≡ (live (part 3 []) (of_collection 1) ∷ live (part 4 []) (of_collection 1) ∷ finalized (part 4 []) collected ∷ print (codes "N" ++ image 2) ∷ newline ∷ finalized (part 3 []) freed ∷ print (codes "N" ++ image 1) ∷ newline ∷ [], (pick 2 1) ∷ [], (Some (Stopped FreeWhileFinalizing)))
-runs = plays the_program newest 300 _ computes
+runs : outcome (checked the_program) newest 300 ≡ the_outcome
+runs = is_computed the_program newest 300 _ computes

@@ -4,9 +4,9 @@ use Rattle.ctl_program.specs.declared.expression.Step.TheVariants.{Component, De
 use Rattle.ctl_program.specs.declared.operators.BinaryOp.TheVariants.{Equal}
 use Rattle.ctl_program.specs.declared.types.Ty.TheVariants.{Access, Boolean, Integer, Record}
 use Rattle.ctl_tree.specs.declared.ending.End.TheVariants.{Done}
-use Rattle.ctl_meaning.proofs.worked.Build.{Program, access_to, access_type, arm, assign, at, block, chain, checked, choose, collected, collections, constant, convert, counted_type, finalized, image, integer_image, live, master, name, new, newline, object, of_collection, of_master, operand, part, played, plays, print, prints_a, prints_f, procedure, program, put_line, put_text, read, scope, shown, silent, text, value, variable}
+use Rattle.ctl_meaning.proofs.worked.Build.{Program, access_to, access_type, arm, assign, at, block, chain, checked, choose, collected, collections, computed, constant, convert, counted_type, finalized, image, integer_image, is_computed, live, master, name, new, newline, object, of_collection, of_master, operand, part, print, prints_a, prints_f, procedure, program, put_line, put_text, read, scope, silent, text, value, variable}
 use Rattle.ctl_meaning.specs.Choice.{newest}
-use Rattle.ctl_meaning.specs.Run.{opened_meaning, outcome}
+use Rattle.ctl_meaning.specs.Run.{Outcome, opened_meaning, outcome}
 
 abbrev the_program : Program
 the_program =
@@ -18,9 +18,17 @@ the_program =
     [])
     2
 
-computes : played the_program newest 100 ≡ (live (part 1 []) (of_master 2) ∷ live (part 4 []) (of_collection 1) ∷ print (codes "v" ++ image 6) ∷ newline ∷ print (codes "same") ∷ newline ∷ finalized (part 4 []) collected ∷ print (codes "F" ++ image 6) ∷ newline ∷ finalized (part 1 []) scope ∷ print (codes "F" ++ image 5) ∷ newline ∷ [], [], Some Done)
-unfolding opened_meaning played
+abbrev the_outcome : Outcome
+the_outcome = record {
+  trace = live (part 1 []) (of_master 2) ∷ live (part 4 []) (of_collection 1) ∷ print (codes "v" ++ image 6) ∷ newline ∷ print (codes "same") ∷ newline ∷ finalized (part 4 []) collected ∷ print (codes "F" ++ image 6) ∷ newline ∷ finalized (part 1 []) scope ∷ print (codes "F" ++ image 5) ∷ newline ∷ [];
+  picks = [];
+  end = Some Done;
+  ticks = 93;
+}
+
+computes : computed the_program newest 100 ≡ the_outcome
+unfolding opened_meaning computed
 computes = refl
 
-runs : shown (outcome (checked the_program) newest 100) ≡ (live (part 1 []) (of_master 2) ∷ live (part 4 []) (of_collection 1) ∷ print (codes "v" ++ image 6) ∷ newline ∷ print (codes "same") ∷ newline ∷ finalized (part 4 []) collected ∷ print (codes "F" ++ image 6) ∷ newline ∷ finalized (part 1 []) scope ∷ print (codes "F" ++ image 5) ∷ newline ∷ [], [], Some Done)
-runs = plays the_program newest 100 _ computes
+runs : outcome (checked the_program) newest 100 ≡ the_outcome
+runs = is_computed the_program newest 100 _ computes

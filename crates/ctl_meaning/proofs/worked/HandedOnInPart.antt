@@ -4,9 +4,9 @@ use Rattle.ctl_program.specs.declared.expression.Step.TheVariants.{Component}
 use Rattle.ctl_program.specs.declared.types.Root.TheVariants.{Untagged}
 use Rattle.ctl_program.specs.declared.types.Ty.TheVariants.{Integer, Record}
 use Rattle.ctl_tree.specs.declared.ending.End.TheVariants.{Done}
-use Rattle.ctl_meaning.proofs.worked.Build.{Program, assign, by_name, by_value, call, call_of, checked, component, constant, function, image, integer_image, master, name, newline, no_operations, object, played, plays, print, procedure, program, put_line, read, record_type, return, shown, silent, value, variable}
+use Rattle.ctl_meaning.proofs.worked.Build.{Program, assign, by_name, by_value, call, call_of, checked, component, computed, constant, function, image, integer_image, is_computed, master, name, newline, no_operations, object, print, procedure, program, put_line, read, record_type, return, silent, value, variable}
 use Rattle.ctl_meaning.specs.Choice.{newest}
-use Rattle.ctl_meaning.specs.Run.{opened_meaning, outcome}
+use Rattle.ctl_meaning.specs.Run.{Outcome, opened_meaning, outcome}
 
 abbrev the_program : Program
 the_program =
@@ -19,9 +19,17 @@ the_program =
     procedure 0 (master 0 (silent ∷ silent ∷ silent ∷ silent ∷ silent ∷ []) (call 3 (by_value (call_of 0 [] (Record 5)) (Record 5) ∷ []) ∷ []) []) ∷ [])
     4
 
-computes : played the_program newest 300 ≡ (print (image 7) ∷ newline ∷ [], [], Some Done)
-unfolding opened_meaning played
+abbrev the_outcome : Outcome
+the_outcome = record {
+  trace = print (image 7) ∷ newline ∷ [];
+  picks = [];
+  end = Some Done;
+  ticks = 46;
+}
+
+computes : computed the_program newest 300 ≡ the_outcome
+unfolding opened_meaning computed
 computes = refl
 
-runs : shown (outcome (checked the_program) newest 300) ≡ (print (image 7) ∷ newline ∷ [], [], Some Done)
-runs = plays the_program newest 300 _ computes
+runs : outcome (checked the_program) newest 300 ≡ the_outcome
+runs = is_computed the_program newest 300 _ computes

@@ -5,9 +5,9 @@ use Rattle.ctl_program.specs.declared.operators.BinaryOp.TheVariants.{Add, Less}
 use Rattle.ctl_program.specs.declared.types.Root.TheVariants.{Controlled}
 use Rattle.ctl_program.specs.declared.types.Ty.TheVariants.{Access, Boolean, Integer, Record}
 use Rattle.ctl_tree.specs.declared.ending.End.TheVariants.{Done}
-use Rattle.ctl_meaning.proofs.worked.Build.{Program, access_type, arm, assign, block, chain, checked, choose, collected, collections, component, constant, counted_type, finalized, image, initialized, integer_image, live, master, name, new, newline, object, of_collection, operand, operations, part, pick, played, plays, print, prints_a, prints_f, procedure, program, put_line, read, record_type, shown, silent, text, value, variable}
+use Rattle.ctl_meaning.proofs.worked.Build.{Program, access_type, arm, assign, block, chain, checked, choose, collected, collections, component, computed, constant, counted_type, finalized, image, initialized, integer_image, is_computed, live, master, name, new, newline, object, of_collection, operand, operations, part, pick, print, prints_a, prints_f, procedure, program, put_line, read, record_type, silent, text, value, variable}
 use Rattle.ctl_meaning.specs.Choice.{listed}
-use Rattle.ctl_meaning.specs.Run.{opened_meaning, outcome}
+use Rattle.ctl_meaning.specs.Run.{Outcome, opened_meaning, outcome}
 
 abbrev the_program : Program
 the_program =
@@ -20,9 +20,17 @@ the_program =
     procedure 0 (master 0 (silent ∷ silent ∷ silent ∷ silent ∷ silent ∷ []) (block 3 (object 0 Integer (Some (constant 0)) ∷ silent ∷ silent ∷ silent ∷ silent ∷ silent ∷ collections (0 ∷ []) ∷ silent ∷ silent ∷ object 2 (Access 0) None ∷ []) (assign (variable 2 2) (new 0 (Record 5) None None) ∷ []) [] ∷ []) []) ∷ [])
     4
 
-computes : played the_program (listed (4 ∷ 0 ∷ [])) 300 ≡ (initialized (part 3 []) ∷ initialized (part 4 []) ∷ initialized (part 5 []) ∷ live (part 5 []) (of_collection 1) ∷ live (part 4 []) (of_collection 1) ∷ live (part 3 []) (of_collection 1) ∷ finalized (part 4 []) collected ∷ print (codes "N" ++ image 2) ∷ newline ∷ finalized (part 3 []) collected ∷ print (codes "N" ++ image 1) ∷ newline ∷ finalized (part 5 []) collected ∷ print (codes "N" ++ image 3) ∷ newline ∷ [], (pick 3 1) ∷ (pick 2 0) ∷ [], Some Done)
-unfolding opened_meaning played
+abbrev the_outcome : Outcome
+the_outcome = record {
+  trace = initialized (part 3 []) ∷ initialized (part 4 []) ∷ initialized (part 5 []) ∷ live (part 5 []) (of_collection 1) ∷ live (part 4 []) (of_collection 1) ∷ live (part 3 []) (of_collection 1) ∷ finalized (part 4 []) collected ∷ print (codes "N" ++ image 2) ∷ newline ∷ finalized (part 3 []) collected ∷ print (codes "N" ++ image 1) ∷ newline ∷ finalized (part 5 []) collected ∷ print (codes "N" ++ image 3) ∷ newline ∷ [];
+  picks = (pick 3 1) ∷ (pick 2 0) ∷ [];
+  end = Some Done;
+  ticks = 137;
+}
+
+computes : computed the_program (listed (4 ∷ 0 ∷ [])) 300 ≡ the_outcome
+unfolding opened_meaning computed
 computes = refl
 
-runs : shown (outcome (checked the_program) (listed (4 ∷ 0 ∷ [])) 300) ≡ (initialized (part 3 []) ∷ initialized (part 4 []) ∷ initialized (part 5 []) ∷ live (part 5 []) (of_collection 1) ∷ live (part 4 []) (of_collection 1) ∷ live (part 3 []) (of_collection 1) ∷ finalized (part 4 []) collected ∷ print (codes "N" ++ image 2) ∷ newline ∷ finalized (part 3 []) collected ∷ print (codes "N" ++ image 1) ∷ newline ∷ finalized (part 5 []) collected ∷ print (codes "N" ++ image 3) ∷ newline ∷ [], (pick 3 1) ∷ (pick 2 0) ∷ [], Some Done)
-runs = plays the_program (listed (4 ∷ 0 ∷ [])) 300 _ computes
+runs : outcome (checked the_program) (listed (4 ∷ 0 ∷ [])) 300 ≡ the_outcome
+runs = is_computed the_program (listed (4 ∷ 0 ∷ [])) 300 _ computes

@@ -2,9 +2,9 @@
 use Rattle.std.proofs.Common.{None, Some, [], codes, refl, ◌∷◌, ◌≡◌}
 use Rattle.ctl_program.specs.declared.types.Ty.TheVariants.{Access, Record}
 use Rattle.ctl_tree.specs.declared.ending.End.TheVariants.{Done}
-use Rattle.ctl_meaning.proofs.worked.Build.{Program, access_type, assign, at, block, checked, collections, constant, counted_type, discriminant, master, new, newline, object, played, plays, pool, print, prints_a, prints_f, procedure, program, put_text, shown, silent, variable, when}
+use Rattle.ctl_meaning.proofs.worked.Build.{Program, access_type, assign, at, block, checked, collections, computed, constant, counted_type, discriminant, is_computed, master, new, newline, object, pool, print, prints_a, prints_f, procedure, program, put_text, silent, variable, when}
 use Rattle.ctl_meaning.specs.Choice.{newest}
-use Rattle.ctl_meaning.specs.Run.{opened_meaning, outcome}
+use Rattle.ctl_meaning.specs.Run.{Outcome, opened_meaning, outcome}
 
 abbrev the_program : Program
 the_program =
@@ -16,9 +16,17 @@ the_program =
     [])
     2
 
-computes : played the_program newest 100 ≡ (print (codes "SE") ∷ newline ∷ [], [], Some Done)
-unfolding opened_meaning played
+abbrev the_outcome : Outcome
+the_outcome = record {
+  trace = print (codes "SE") ∷ newline ∷ [];
+  picks = [];
+  end = Some Done;
+  ticks = 27;
+}
+
+computes : computed the_program newest 100 ≡ the_outcome
+unfolding opened_meaning computed
 computes = refl
 
-runs : shown (outcome (checked the_program) newest 100) ≡ (print (codes "SE") ∷ newline ∷ [], [], Some Done)
-runs = plays the_program newest 100 _ computes
+runs : outcome (checked the_program) newest 100 ≡ the_outcome
+runs = is_computed the_program newest 100 _ computes

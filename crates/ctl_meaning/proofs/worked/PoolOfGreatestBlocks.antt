@@ -1,9 +1,9 @@
 -- A block pool of 1 blocks of 4096 storage units.
 use Rattle.std.proofs.Common.{Some, [], refl, ◌∷◌, ◌≡◌}
 use Rattle.ctl_tree.specs.declared.ending.End.TheVariants.{Done}
-use Rattle.ctl_meaning.proofs.worked.Build.{Program, block, checked, constant, discriminant, master, null, played, plays, pool, procedure, program, shown}
+use Rattle.ctl_meaning.proofs.worked.Build.{Program, block, checked, computed, constant, discriminant, is_computed, master, null, pool, procedure, program}
 use Rattle.ctl_meaning.specs.Choice.{newest}
-use Rattle.ctl_meaning.specs.Run.{opened_meaning, outcome}
+use Rattle.ctl_meaning.specs.Run.{Outcome, opened_meaning, outcome}
 
 abbrev the_program : Program
 the_program =
@@ -13,9 +13,17 @@ the_program =
     [])
     0
 
-computes : played the_program newest 10 ≡ ([], [], Some Done)
-unfolding opened_meaning played
+abbrev the_outcome : Outcome
+the_outcome = record {
+  trace = [];
+  picks = [];
+  end = Some Done;
+  ticks = 12;
+}
+
+computes : computed the_program newest 10 ≡ the_outcome
+unfolding opened_meaning computed
 computes = refl
 
-runs : shown (outcome (checked the_program) newest 10) ≡ ([], [], Some Done)
-runs = plays the_program newest 10 _ computes
+runs : outcome (checked the_program) newest 10 ≡ the_outcome
+runs = is_computed the_program newest 10 _ computes

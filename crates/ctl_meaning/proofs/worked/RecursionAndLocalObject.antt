@@ -4,9 +4,9 @@ use Rattle.ctl_program.specs.declared.expression.Step.TheVariants.{Component}
 use Rattle.ctl_program.specs.declared.operators.BinaryOp.TheVariants.{Less, Multiply, Subtract}
 use Rattle.ctl_program.specs.declared.types.Ty.TheVariants.{Boolean, Integer, Record}
 use Rattle.ctl_tree.specs.declared.ending.End.TheVariants.{Done}
-use Rattle.ctl_meaning.proofs.worked.Build.{Program, arm, assign, block, by_name, by_value, call, call_of, chain, checked, choose, constant, counted_type, finalized, function, image, integer_image, live, master, name, newline, object, of_master, operand, part, played, plays, print, prints_a, prints_f, procedure, program, put_line, read, return, scope, shown, silent, text, value, variable}
+use Rattle.ctl_meaning.proofs.worked.Build.{Program, arm, assign, block, by_name, by_value, call, call_of, chain, checked, choose, computed, constant, counted_type, finalized, function, image, integer_image, is_computed, live, master, name, newline, object, of_master, operand, part, print, prints_a, prints_f, procedure, program, put_line, read, return, scope, silent, text, value, variable}
 use Rattle.ctl_meaning.specs.Choice.{newest}
-use Rattle.ctl_meaning.specs.Run.{opened_meaning, outcome}
+use Rattle.ctl_meaning.specs.Run.{Outcome, opened_meaning, outcome}
 
 abbrev the_program : Program
 the_program =
@@ -21,9 +21,17 @@ the_program =
     [])
     5
 
-computes : played the_program newest 100 ≡ (live (part 1 []) (of_master 2) ∷ print (codes "f" ++ image 479001600) ∷ newline ∷ live (part 2 []) (of_master 15) ∷ finalized (part 2 []) scope ∷ print (codes "F" ++ image 7) ∷ newline ∷ print (codes "g" ++ image 7) ∷ newline ∷ finalized (part 1 []) scope ∷ print (codes "F" ++ image 5) ∷ newline ∷ [], [], Some Done)
-unfolding opened_meaning played
+abbrev the_outcome : Outcome
+the_outcome = record {
+  trace = live (part 1 []) (of_master 2) ∷ print (codes "f" ++ image 479001600) ∷ newline ∷ live (part 2 []) (of_master 15) ∷ finalized (part 2 []) scope ∷ print (codes "F" ++ image 7) ∷ newline ∷ print (codes "g" ++ image 7) ∷ newline ∷ finalized (part 1 []) scope ∷ print (codes "F" ++ image 5) ∷ newline ∷ [];
+  picks = [];
+  end = Some Done;
+  ticks = 285;
+}
+
+computes : computed the_program newest 100 ≡ the_outcome
+unfolding opened_meaning computed
 computes = refl
 
-runs : shown (outcome (checked the_program) newest 100) ≡ (live (part 1 []) (of_master 2) ∷ print (codes "f" ++ image 479001600) ∷ newline ∷ live (part 2 []) (of_master 15) ∷ finalized (part 2 []) scope ∷ print (codes "F" ++ image 7) ∷ newline ∷ print (codes "g" ++ image 7) ∷ newline ∷ finalized (part 1 []) scope ∷ print (codes "F" ++ image 5) ∷ newline ∷ [], [], Some Done)
-runs = plays the_program newest 100 _ computes
+runs : outcome (checked the_program) newest 100 ≡ the_outcome
+runs = is_computed the_program newest 100 _ computes

@@ -5,9 +5,9 @@ use Rattle.ctl_program.specs.declared.types.Root.TheVariants.{Controlled}
 use Rattle.ctl_program.specs.declared.types.Ty.TheVariants.{Access, Handle, Record}
 use Rattle.ctl_tree.specs.declared.ending.End.TheVariants.{Stopped}
 use Rattle.ctl_tree.specs.declared.ending.Stop.TheVariants.{FreeWhileFinalizing}
-use Rattle.ctl_meaning.proofs.worked.Build.{Program, access_type, assign, at, block, checked, collections, constant, discriminant, finalized, free, freed, live, master, new, newline, object, of_collection, operations, part, played, plays, pool, print, procedure, program, put_text, record_type, release, shown, silent, subpool, value, variable}
+use Rattle.ctl_meaning.proofs.worked.Build.{Program, access_type, assign, at, block, checked, collections, computed, constant, discriminant, finalized, free, freed, is_computed, live, master, new, newline, object, of_collection, operations, part, pool, print, procedure, program, put_text, record_type, release, silent, subpool, value, variable}
 use Rattle.ctl_meaning.specs.Choice.{newest}
-use Rattle.ctl_meaning.specs.Run.{opened_meaning, outcome}
+use Rattle.ctl_meaning.specs.Run.{Outcome, opened_meaning, outcome}
 
 abbrev the_program : Program
 the_program =
@@ -18,9 +18,17 @@ the_program =
     [])
     1
 
-computes : played the_program newest 100 ≡ (live (part 4 []) (of_collection 1) ∷ finalized (part 4 []) freed ∷ print (codes "n") ∷ newline ∷ [], [], Some (Stopped FreeWhileFinalizing))
-unfolding opened_meaning played
+abbrev the_outcome : Outcome
+the_outcome = record {
+  trace = live (part 4 []) (of_collection 1) ∷ finalized (part 4 []) freed ∷ print (codes "n") ∷ newline ∷ [];
+  picks = [];
+  end = Some (Stopped FreeWhileFinalizing);
+  ticks = 29;
+}
+
+computes : computed the_program newest 100 ≡ the_outcome
+unfolding opened_meaning computed
 computes = refl
 
-runs : shown (outcome (checked the_program) newest 100) ≡ (live (part 4 []) (of_collection 1) ∷ finalized (part 4 []) freed ∷ print (codes "n") ∷ newline ∷ [], [], Some (Stopped FreeWhileFinalizing))
-runs = plays the_program newest 100 _ computes
+runs : outcome (checked the_program) newest 100 ≡ the_outcome
+runs = is_computed the_program newest 100 _ computes

@@ -4,9 +4,9 @@ use Rattle.ctl_program.specs.declared.expression.Step.TheVariants.{Component}
 use Rattle.ctl_program.specs.declared.types.Root.TheVariants.{BlockPool, Controlled}
 use Rattle.ctl_program.specs.declared.types.Ty.TheVariants.{Access, Address, Boolean, Count, Integer, Record}
 use Rattle.ctl_tree.specs.declared.ending.End.TheVariants.{Done}
-use Rattle.ctl_meaning.proofs.worked.Build.{Program, access_type, allocated, arm, assign, at, block, checked, choose, collected, collections, component, constant, counted_type, deallocated, discriminant, finalized, free, freed, image, library_allocate, live, master, name, new, newline, object, of_collection, operations, part, pick, played, plays, pool, pool_operations, print, prints_a, prints_f, procedure, program, read, record_type, shown, silent, value, variable}
+use Rattle.ctl_meaning.proofs.worked.Build.{Program, access_type, allocated, arm, assign, at, block, checked, choose, collected, collections, component, computed, constant, counted_type, deallocated, discriminant, finalized, free, freed, image, is_computed, library_allocate, live, master, name, new, newline, object, of_collection, operations, part, pick, pool, pool_operations, print, prints_a, prints_f, procedure, program, read, record_type, silent, value, variable}
 use Rattle.ctl_meaning.specs.Choice.{newest}
-use Rattle.ctl_meaning.specs.Run.{opened_meaning, outcome}
+use Rattle.ctl_meaning.specs.Run.{Outcome, opened_meaning, outcome}
 
 abbrev the_program : Program
 the_program =
@@ -20,9 +20,17 @@ the_program =
     [])
     4
 
-computes : played the_program newest 100 ≡ (allocated 1 16 ∷ live (part 4 []) (of_collection 1) ∷ allocated 1 24 ∷ live (part 5 []) (of_collection 1) ∷ finalized (part 5 []) freed ∷ print (codes "F" ++ image 0) ∷ newline ∷ deallocated 1 24 ∷ allocated 1 16 ∷ live (part 6 []) (of_collection 1) ∷ finalized (part 6 []) collected ∷ print (codes "F" ++ image 0) ∷ newline ∷ finalized (part 4 []) collected ∷ print (codes "F" ++ image 0) ∷ newline ∷ [], pick 2 1 ∷ [], Some Done)
-unfolding opened_meaning played
+abbrev the_outcome : Outcome
+the_outcome = record {
+  trace = allocated 1 16 ∷ live (part 4 []) (of_collection 1) ∷ allocated 1 24 ∷ live (part 5 []) (of_collection 1) ∷ finalized (part 5 []) freed ∷ print (codes "F" ++ image 0) ∷ newline ∷ deallocated 1 24 ∷ allocated 1 16 ∷ live (part 6 []) (of_collection 1) ∷ finalized (part 6 []) collected ∷ print (codes "F" ++ image 0) ∷ newline ∷ finalized (part 4 []) collected ∷ print (codes "F" ++ image 0) ∷ newline ∷ [];
+  picks = pick 2 1 ∷ [];
+  end = Some Done;
+  ticks = 144;
+}
+
+computes : computed the_program newest 100 ≡ the_outcome
+unfolding opened_meaning computed
 computes = refl
 
-runs : shown (outcome (checked the_program) newest 100) ≡ (allocated 1 16 ∷ live (part 4 []) (of_collection 1) ∷ allocated 1 24 ∷ live (part 5 []) (of_collection 1) ∷ finalized (part 5 []) freed ∷ print (codes "F" ++ image 0) ∷ newline ∷ deallocated 1 24 ∷ allocated 1 16 ∷ live (part 6 []) (of_collection 1) ∷ finalized (part 6 []) collected ∷ print (codes "F" ++ image 0) ∷ newline ∷ finalized (part 4 []) collected ∷ print (codes "F" ++ image 0) ∷ newline ∷ [], pick 2 1 ∷ [], Some Done)
-runs = plays the_program newest 100 _ computes
+runs : outcome (checked the_program) newest 100 ≡ the_outcome
+runs = is_computed the_program newest 100 _ computes

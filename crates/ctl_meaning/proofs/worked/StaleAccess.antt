@@ -5,9 +5,9 @@ use Rattle.ctl_program.specs.declared.types.Root.TheVariants.{BlockPool}
 use Rattle.ctl_program.specs.declared.types.Ty.TheVariants.{Access, Address, Boolean, Count, Integer, Record}
 use Rattle.ctl_tree.specs.declared.ending.End.TheVariants.{Stopped}
 use Rattle.ctl_tree.specs.declared.ending.Stop.TheVariants.{UseAfterFree}
-use Rattle.ctl_meaning.proofs.worked.Build.{Program, access_type, allocated, arm, assign, at, block, checked, choose, collections, component, constant, counted_type, deallocated, discriminant, finalized, free, freed, image, integer_image, library_allocate, live, master, name, new, newline, object, of_collection, part, played, plays, pool, pool_operations, print, prints_a, prints_f, procedure, program, put_line, put_text, read, record_type, shown, silent, value, variable}
+use Rattle.ctl_meaning.proofs.worked.Build.{Program, access_type, allocated, arm, assign, at, block, checked, choose, collections, component, computed, constant, counted_type, deallocated, discriminant, finalized, free, freed, image, integer_image, is_computed, library_allocate, live, master, name, new, newline, object, of_collection, part, pool, pool_operations, print, prints_a, prints_f, procedure, program, put_line, put_text, read, record_type, silent, value, variable}
 use Rattle.ctl_meaning.specs.Choice.{newest}
-use Rattle.ctl_meaning.specs.Run.{opened_meaning, outcome}
+use Rattle.ctl_meaning.specs.Run.{Outcome, opened_meaning, outcome}
 
 abbrev the_program : Program
 the_program =
@@ -20,9 +20,17 @@ the_program =
     procedure 0 (master 0 (silent ∷ silent ∷ silent ∷ silent ∷ silent ∷ []) (block 1 (silent ∷ silent ∷ silent ∷ silent ∷ silent ∷ pool 0 5 (discriminant 0 (constant 16) ∷ discriminant 1 (constant 1) ∷ []) ∷ []) (block 3 (silent ∷ silent ∷ collections (0 ∷ []) ∷ silent ∷ object 1 (Access 0) None ∷ object 2 (Access 0) None ∷ []) (assign (variable 3 1) (new 0 (Record 4) None None) ∷ assign (variable 3 2) (value 3 1 (Access 0)) ∷ free 0 (variable 3 1) ∷ assign (variable 3 1) (new 0 (Record 4) None None) ∷ put_text (codes "new") ∷ put_line (integer_image (read (name 3 2 (Dereference ∷ Component 4 1 ∷ [])) Integer) ∷ []) ∷ []) [] ∷ []) [] ∷ []) []) ∷ [])
     4
 
-computes : played the_program newest 300 ≡ (allocated 1 16 ∷ live (part 4 []) (of_collection 1) ∷ finalized (part 4 []) freed ∷ print (codes "F" ++ image 0) ∷ newline ∷ deallocated 1 16 ∷ allocated 1 16 ∷ live (part 5 []) (of_collection 1) ∷ print (codes "new") ∷ newline ∷ [], [], (Some (Stopped UseAfterFree)))
-unfolding opened_meaning played
+abbrev the_outcome : Outcome
+the_outcome = record {
+  trace = allocated 1 16 ∷ live (part 4 []) (of_collection 1) ∷ finalized (part 4 []) freed ∷ print (codes "F" ++ image 0) ∷ newline ∷ deallocated 1 16 ∷ allocated 1 16 ∷ live (part 5 []) (of_collection 1) ∷ print (codes "new") ∷ newline ∷ [];
+  picks = [];
+  end = (Some (Stopped UseAfterFree));
+  ticks = 101;
+}
+
+computes : computed the_program newest 300 ≡ the_outcome
+unfolding opened_meaning computed
 computes = refl
 
-runs : shown (outcome (checked the_program) newest 300) ≡ (allocated 1 16 ∷ live (part 4 []) (of_collection 1) ∷ finalized (part 4 []) freed ∷ print (codes "F" ++ image 0) ∷ newline ∷ deallocated 1 16 ∷ allocated 1 16 ∷ live (part 5 []) (of_collection 1) ∷ print (codes "new") ∷ newline ∷ [], [], (Some (Stopped UseAfterFree)))
-runs = plays the_program newest 300 _ computes
+runs : outcome (checked the_program) newest 300 ≡ the_outcome
+runs = is_computed the_program newest 300 _ computes
