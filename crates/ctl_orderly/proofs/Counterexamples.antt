@@ -6,10 +6,10 @@ use Rattle.ctl_program.specs.declared.types.Root.TheVariants.{Controlled}
 use Rattle.ctl_program.specs.declared.types.Ty.TheVariants.{Record, Access}
 use Rattle.ctl_tree.specs.declared.ending.End.TheVariants.{Done}
 use Rattle.ctl_tree.specs.declared.event.Event.{Event}
-use Rattle.ctl_meaning.proofs.worked.Build.{Program, access_type, assign, at, checked, collections, component, constant, counted_type, discriminant, failed, finalized, initialized, live, master, new, object, of_collection, operations, part, played, plays, pool, prints_a, prints_f, procedure, program, raise, record_type, shown, variable}
+use Rattle.ctl_meaning.proofs.worked.Build.{Program, access_type, assign, at, checked, collections, component, computed, constant, counted_type, discriminant, failed, finalized, initialized, is_computed, live, master, new, object, of_collection, operations, part, pool, prints_a, prints_f, procedure, program, raise, record_type, variable}
 use Rattle.ctl_meaning.specs.Choice.{newest}
 use Rattle.ctl_meaning.specs.Lists.{opened_lists}
-use Rattle.ctl_meaning.specs.Run.{opened_meaning, outcome}
+use Rattle.ctl_meaning.specs.Run.{Outcome, opened_meaning, outcome}
 use Rattle.ctl_meaning.specs.Audit.{NotLive, LeftOpen, flaw_of, opened_audit}
 
 -- A record type with a component of itself --------------------------------------------------
@@ -25,13 +25,16 @@ of_itself =
 abbrev events_of_itself : List Event
 events_of_itself = initialized (part 1 (1 ∷ 1 ∷ 1 ∷ 1 ∷ 1 ∷ [])) ∷ finalized (part 1 (1 ∷ 1 ∷ 1 ∷ 1 ∷ 1 ∷ 1 ∷ [])) failed ∷ []
 
-computes_itself : played of_itself newest 1 ≡ (events_of_itself, [], None)
-unfolding opened_meaning played
+abbrev outcome_of_itself : Outcome
+outcome_of_itself = record { trace = events_of_itself; picks = []; end = None; ticks = 19 }
+
+computes_itself : computed of_itself newest 1 ≡ outcome_of_itself
+unfolding opened_meaning computed
 computes_itself = refl
 
 -- with one call, a part is closed that does not live
-runs_itself : shown (outcome (checked of_itself) newest 1) ≡ (events_of_itself, [], None)
-runs_itself = plays of_itself newest 1 _ computes_itself
+runs_itself : outcome (checked of_itself) newest 1 ≡ outcome_of_itself
+runs_itself = is_computed of_itself newest 1 _ computes_itself
 
 flaw_of_itself : flaw_of events_of_itself false ≡ Some (record { kind = NotLive; index = 1 })
 unfolding opened_audit opened_lists
@@ -52,13 +55,16 @@ pool_behind =
 abbrev events_behind : List Event
 events_behind = live (part 3 []) (of_collection 1) ∷ []
 
-computes_behind : played pool_behind newest 10 ≡ (events_behind, [], Some Done)
-unfolding opened_meaning played
+abbrev outcome_behind : Outcome
+outcome_behind = record { trace = events_behind; picks = []; end = Some Done; ticks = 21 }
+
+computes_behind : computed pool_behind newest 10 ≡ outcome_behind
+unfolding opened_meaning computed
 computes_behind = refl
 
 -- it ends, and a part that came to life is not closed
-runs_behind : shown (outcome (checked pool_behind) newest 10) ≡ (events_behind, [], Some Done)
-runs_behind = plays pool_behind newest 10 _ computes_behind
+runs_behind : outcome (checked pool_behind) newest 10 ≡ outcome_behind
+runs_behind = is_computed pool_behind newest 10 _ computes_behind
 
 flaw_behind : flaw_of events_behind true ≡ Some (record { kind = LeftOpen; index = 0 })
 unfolding opened_audit opened_lists

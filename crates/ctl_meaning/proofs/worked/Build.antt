@@ -429,19 +429,6 @@ pub is_computed : (p : Program) (ask : Ask) (clock : ℕ) (x : Outcome) → comp
 unfolding computed outcome run
 is_computed p ask clock x h = ap (λ m. outcome_of exceptions (run_meaning m p.main ask clock)) (meaning_is p) ∙ h
 
--- all of an outcome but its ticks, for a run of which only the trace matters
-abbrev pub shown : Outcome → List Event × List Pick × Option End
-shown o = (o.trace, o.picks, o.end)
-
--- the same of a run that is computed
-unfoldable pub played : Program → Ask → ℕ → List Event × List Pick × Option End
-unfolding computed
-played p ask clock = shown (computed p ask clock)
-
-pub plays : (p : Program) (ask : Ask) (clock : ℕ) (x : List Event × List Pick × Option End) → played p ask clock ≡ x → shown (outcome (checked p) ask clock) ≡ x
-unfolding played
-plays p ask clock x h = ap shown (is_computed p ask clock _ refl) ∙ h
-
 abbrev pub part : ℕ → List ℕ → Part
 part object path = record { object = object; path = path }
 
