@@ -127,6 +127,7 @@ impl Engine {
     }
 
     /// Answers the number of the collection that the slot of an access type holds where it is seen (RM 3.10, 8.3); 0 where it holds none.
+    #[inline(always)]
     pub(crate) fn set_held(&self, code: &Code, access: &Var) -> u64
         ghost s: { State }
         requires holds { Holds code.now (kept self.now) s.control s.operands s.world }
@@ -152,6 +153,7 @@ impl Engine {
     }
 
     /// Finds the collection of an access type where that is seen (RM 3.10, 8.3), if it stands.
+    #[inline(always)]
     fn set_seen(&self, code: &Code, access: &Var) -> Option<Owned>
         ghost s: { State }
         requires holds { Holds code.now (kept self.now) s.control s.operands s.world }
@@ -376,6 +378,7 @@ impl Engine {
 
     /// Tells whether the object of this number may join its collection: it exists and is a new one, and the collection still stands
     /// (RM 4.8).
+    #[inline(always)]
     fn may_join(&self, code: &Code, object: u64) -> bool
         ghost s: { State }
         requires { Holds code.now (kept self.now) s.control s.operands s.world }

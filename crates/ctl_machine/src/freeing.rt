@@ -207,6 +207,7 @@ fn give_to_pool(stock: &mut Objects, number: u64, address: u64) -> GivenBack
 
 /// Gives back the storage of an object that is gone (RM 13.11.2): a block goes back to its pool, by the Deallocate that the user wrote for
 /// its type, which is still to be called, or by the library's. Where the pool is gone, the program is erroneous, and nothing changes.
+#[inline(always)]
 fn give_back(code: &Code, stock: &mut Objects, storage: Place) -> GivenBack
     ensures objects { stock.new.objects ≡ stock.old.objects }
     ensures needs { stock.new.needs ≡ stock.old.needs }
@@ -229,6 +230,7 @@ fn give_back(code: &Code, stock: &mut Objects, storage: Place) -> GivenBack
 }
 
 /// Tells whether storage is given back by a Deallocate that the user wrote: that of the pool in which the block lies (RM 13.11).
+#[inline(always)]
 fn calls_back(code: &Code, stock: &Objects, storage: Place) -> bool
     ensures { result ≡ Freeing.calls_back code.now storage stock.now.objects }
 {

@@ -81,6 +81,7 @@ fn allocate_of(code: &Code, ty: Ty) -> Option<usize>
 
 impl Engine {
     /// Answers the number of the object that a variable holds where it is seen, or of which it holds a part (RM 3.10, 8.3).
+    #[inline(always)]
     fn object_held(&self, code: &Code, variable: &Var) -> Option<u64>
         ghost s: { State }
         requires { Holds code.now (kept self.now) s.control s.operands s.world }
@@ -109,6 +110,7 @@ impl Engine {
     }
 
     /// Answers who grants storage of the pool of this number (RM 13.11).
+    #[inline(always)]
     fn pool_grantor(&self, code: &Code, pool: u64) -> Grantor
         ghost s: { State }
         requires { Holds code.now (kept self.now) s.control s.operands s.world }
@@ -127,6 +129,7 @@ impl Engine {
     }
 
     /// Answers who grants storage of the pool that a variable holds where it is seen (RM 13.11).
+    #[inline(always)]
     fn grantor_held(&self, code: &Code, variable: &Var) -> Grantor
         ghost s: { State }
         requires { Holds code.now (kept self.now) s.control s.operands s.world }
@@ -175,6 +178,7 @@ impl Engine {
     /// Allocates an object of a record type, with cells of 0, for the collection of this number in a free block of an open pool, whose object
     /// exists; answers what comes next where there is none: Storage_Error is raised (RM 13.11). Unchanged then, and where memory is refused:
     /// there is none for more addresses than a number can be.
+    #[inline(always)]
     fn add_in_pool(
         &mut self,
         code: &Code,

@@ -37,6 +37,7 @@ pub enum Request {
 }
 
 /// Tells whether a pool exists and is open.
+#[inline(always)]
 pub(crate) fn is_open(stock: &Objects, pool: u64) -> bool
     ensures open { IsTrue result → IsOpen pool (storage_of stock.now) }
     ensures exists { IsTrue result → is_some (object_in pool stock.now.objects) ≡ true }

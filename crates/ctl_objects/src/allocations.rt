@@ -300,6 +300,7 @@ impl Allocations {
     }
 
     /// Takes a step of an object. It answers whether the object exists.
+    #[inline(always)]
     pub fn step(&mut self, number: u64, step: Step) -> bool
         ensures exists { result ≡ is_some (object_in number self.old.objects) }
         ensures stepped { self.new.objects ≡ change_in number (with_step step) self.old.objects }
@@ -515,6 +516,7 @@ impl Allocations {
 
     /// Gives a block back to an open pool (RM 13.11), where it is out under the address and holds no
     /// object, and answers whether that is so.
+    #[inline(always)]
     pub fn give_block(&mut self, pool: u64, address: u64) -> BlockReturn
         requires { IsOpen pool (storage_of self.old) }
         ensures answer { (next : ℕ) (x : W.Pools) → ArePools next x (storage_of self.old) → result ≡ returned (is_vacant_at pool address self.old.objects x) }

@@ -271,6 +271,7 @@ impl Declarations {
     }
 
     /// Takes a step of an object. It answers whether the object exists.
+    #[inline(always)]
     pub fn step(&mut self, number: u64, step: Step) -> bool
         ensures exists { result ≡ is_some (object_in number self.old) }
         ensures stepped { self.new ≡ change_in number (with_step step) self.old }

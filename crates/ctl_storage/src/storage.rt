@@ -375,6 +375,7 @@ impl ObjectStorage {
     }
 
     /// Answers whether a pool is open.
+    #[inline(always)]
     fn state(&self, number: u64) -> PoolState
         ensures { result ≡ state_of (is_some (get self.now.blocks number)) }
     {
@@ -433,6 +434,7 @@ impl ObjectStorage {
 
     /// Gives a block back to an open pool (RM 13.11): where it is out under the address and holds
     /// no object. It answers whether that is so; nothing changes where it is not.
+    #[inline(always)]
     pub fn give_block(&mut self, pool: u64, address: u64) -> BlockReturn
         requires { IsOpen pool self.old }
         ensures answer { (next : ℕ) (x : W.Pools) → ArePools next x self.old → result ≡ returned (is_vacant_at pool address self.old.objects x) }

@@ -8,6 +8,12 @@ ghost use Rattle.ctl_values.specs.Operators.{IsDivision};
 use ctl_program::operators::{BinaryOp, UnaryOp};
 use ctl_program::types::Ty;
 
+/// Integer'Last, and Storage_Count'Last (RM 3.5.4, 13.7.1).
+const LARGEST: i64 = 2_147_483_647;
+
+/// Integer'First (RM 3.5.4).
+const SMALLEST: i64 = -2_147_483_648;
+
 /// Answers the number in a cell: a negative one counts down from 2 ** 64.
 pub fn signed(cell: u64) -> i64
     ensures { result ≡ Numbers.signed cell }
@@ -40,11 +46,13 @@ pub fn is_true(cell: u64) -> bool
 fn is_in_range(ty: Ty, number: i64) -> bool
     ensures { result ≡ Numbers.in_range ty number }
 {
-    let lowest = match ty {
-        Ty::Count => 0,
-        _ => -2_147_483_648,
-    };
-    lowest <= number && number <= 2_147_483_647
+    if number < SMALLEST || LARGEST < number {
+        return false;
+    }
+    match ty {
+        Ty::Count => 0 <= number,
+        _ => true,
+    }
 }
 
 /// Answers the cell of a number of this type; none where it is out of range, which raises Constraint_Error (RM 3.5.4).
