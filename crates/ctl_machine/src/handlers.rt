@@ -40,6 +40,7 @@ impl Engine {
     }
 
     /// Has the exceptions of the newest master handled so from here on, if its frame is the newest, and goes on so.
+    #[inline(always)]
     fn set_handling(&mut self, handling: Handling, mode: Mode)
         ensures { ChangesHandling self.old self.new handling mode }
     {

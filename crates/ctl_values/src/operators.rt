@@ -130,6 +130,7 @@ pub fn unary(op: UnaryOp, ty: Ty, cell: u64) -> Option<u64>
 }
 
 /// Applies an operator whose right operand is a divisor (RM 4.5.5); none where that is zero, or the result is out of range.
+#[inline(always)]
 fn divided(op: BinaryOp, ty: Ty, left: u64, right: u64) -> Option<u64>
     requires { IsDivision op }
     ensures { result ≡ Numbers.binary op ty left right }
