@@ -39,8 +39,8 @@ IsFound code env records (Some x) = (are_followed (start_of x) (steps_before x) 
 
 -- what is found behind these steps
 pub steps_found : (code : Code) (env : W.Frames) (records : List RecordType) (b : Start) (ss : List Step) (o : Option Reached) → behind_steps b ss ≡ o → ((x : Reached) → behind_steps b ss ≡ Some x → is_begun b records ≡ true → IsBegun code env b) → IsFound code env records o
-steps_found code masters records b ss None is begun = tt
-steps_found code masters records b ss (Some x) is begun =
+steps_found code env records b ss None is begun = tt
+steps_found code env records b ss (Some x) is begun =
     let h = behind_is b ss x is in
     (h.walked, λ runs. subst (IsBegun code env) h.start (begun x is (subst (λ z. is_begun z records ≡ true) (sym h.start) runs)))
 
