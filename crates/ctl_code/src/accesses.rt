@@ -3,7 +3,7 @@
 ghost use Rattle.std.specs.Prelude.{◌≡◌, ◌↔◌, ℕ, ◌+◌, ◌≤◌, ◌^◌, ◌<◌, IsTrue};
 ghost use Rattle.ctl_code.specs.declared.code.Instr.TheVariants as I;
 ghost use Rattle.ctl_code.specs.Kinds.{changed, stack_at};
-ghost use Rattle.ctl_code.specs.Valid.{HasCollection, HasVariable, IsAllocable, IsFine, IsGathered, IsHoused, Leads, MayHaveVariable, over_numbers};
+ghost use Rattle.ctl_code.specs.Valid.{HasCollection, HasVariable, IsAllocable, IsFine, IsGathered, Leads, MayHaveVariable, over_numbers};
 ghost use Rattle.ctl_code.specs.Windows.{HasSlot, depth};
 
 use crate::code::Code;
@@ -50,9 +50,10 @@ fn may_have_variable(code: &Code, place: usize, variable: Option<Var>) -> bool
     }
 }
 
-/// Tells whether the collection of an access type has a slot of a master around an instruction, and so has its pool (RM 3.10, 13.11).
-fn is_housed(code: &Code, place: usize, access: usize) -> bool
-    ensures { IsTrue result ↔ IsHoused code.now access (stack_at code.now.kinds place) }
+/// Tells whether the master of the collection of an access type stands around an instruction, and has its slot; and so for its pool
+/// (RM 3.10, 13.11).
+fn has_collection(code: &Code, place: usize, access: usize) -> bool
+    ensures { IsTrue result ↔ HasCollection code.now (stack_at code.now.kinds place) access }
 {
     match code.accesses.get(access) {
         Some(home) => {
@@ -125,7 +126,7 @@ pub(crate) fn is_new_fine(
         && code.kinds.height_at(place, 0) == at
         && leads_to_address(code, place)
         && leads_behind_next(code, place, 0, Some(Kind::Operand(ty)))
-        && is_housed(code, place, access)
+        && has_collection(code, place, access)
 }
 
 /// Checks an allocator at the address that an Allocate gave (RM 4.8, 13.11).
@@ -156,17 +157,7 @@ pub(crate) fn is_new_copy_fine(
         && is_allocable(code, code.kinds.depth_at(place), access, record)
         && is_operand(code, place, 0, at, Ty::Record(record))
         && leads_on(code, place, 1, Some(Kind::Operand(ty)))
-        && is_housed(code, place, access)
-}
-
-/// Tells whether the collection of an access type stands in one of so many masters around a place (RM 7.6.1).
-fn has_collection(code: &Code, masters: usize, access: usize) -> bool
-    ensures { IsTrue result ↔ HasCollection code.now masters access }
-{
-    match code.accesses.get(access) {
-        Some(home) => 1 <= home.collection.level && home.collection.level <= masters,
-        None => false,
-    }
+        && has_collection(code, place, access)
 }
 
 /// Checks that an object is freed whose access value is in a variable (RM 13.11.2).
@@ -180,10 +171,9 @@ pub(crate) fn is_free_fine(
     requires { place + 1 < 2 ^ 64 }
     ensures { IsTrue result ↔ IsFine code.now place (I.Free access out slot) (stack_at code.now.kinds place) }
 {
-    has_collection(code, code.kinds.depth_at(place), access)
+    has_collection(code, place, access)
         && leads_on(code, place, 0, None)
         && leads_behind_next(code, place, 0, None)
-        && is_housed(code, place, access)
         && code.kinds.has_slot(place, out, slot)
 }
 
@@ -192,9 +182,8 @@ pub(crate) fn is_free_part_fine(code: &Code, place: usize, access: usize, record
     requires { place + 1 < 2 ^ 64 }
     ensures { (position : ℕ) → IsTrue result ↔ IsFine code.now place (I.FreePart access «record» position) (stack_at code.now.kinds place) }
 {
-    has_collection(code, code.kinds.depth_at(place), access)
+    has_collection(code, place, access)
         && is_part(code, place, 0, record)
         && leads_on(code, place, 1, None)
         && leads_behind_next(code, place, 1, None)
-        && is_housed(code, place, access)
 }

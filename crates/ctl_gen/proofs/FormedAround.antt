@@ -11,7 +11,7 @@ use Rattle.ctl_code.specs.declared.kinds.Kind.{Kind}
 use Rattle.ctl_code.specs.declared.kinds.Kind.TheVariants.{Operand, Block, Body}
 use Rattle.ctl_code.specs.declared.code.Code.{Code}
 use Rattle.ctl_code.specs.Windows.{HasSlot, depth, height, slot_over, variable_at}
-use Rattle.ctl_code.specs.Valid.{HasVariable, IsAtEnd, IsFine, IsHoused, Leads, over_numbers}
+use Rattle.ctl_code.specs.Valid.{HasCollection, HasVariable, IsAtEnd, IsFine, Leads, over_numbers}
 use Rattle.ctl_layout.specs.Around.{Landing, OutOfMaster, BeforeLoop, Around, behind, land, further, newest_at, out_to}
 use Rattle.ctl_layout.specs.Layout.{leaves_code}
 use Rattle.ctl_gen.proofs.Formed.{FormedAt, leads_at}
@@ -147,9 +147,9 @@ variable_there env s v h a names =
     let out = out_by (depth s) v.level (depth s - v.level) (omega (arith, deep, high)) around.0 in
     (around.0, omega (arith, deep, high), subst (λ o. HasSlot s o v.slot) out (a.1 v h names))
 
--- wherever these masters stand, the collection of an access type has its slot there, and so has its pool
-abbrev pub IsHousedIn : Code → W.Frames → ℕ → Type 0
-IsHousedIn code env access = (s : List Kind) → Agrees env s → IsHoused code access s
+-- wherever these masters stand, the collection of an access type has its slot there
+abbrev pub IsHoused : Code → W.Frames → ℕ → Type 0
+IsHoused code env access = (s : List Kind) → Agrees env s → HasCollection code s access
 
 -- Where a stretch can be left ----------------------------------------------------------------------
 

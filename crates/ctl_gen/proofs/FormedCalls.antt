@@ -31,7 +31,7 @@ use Rattle.ctl_layout.proofs.Extensions.{both_true}
 use Rattle.ctl_gen.specs.Emitted.{taking_actuals}
 use Rattle.ctl_gen.proofs.EmittedCalls.{actuals_left, height_over}
 use Rattle.ctl_gen.proofs.Formed.{Behind, Formed, both, none, one}
-use Rattle.ctl_gen.proofs.FormedAround.{Agrees, IsHousedIn, IsNamed, agrees_over}
+use Rattle.ctl_gen.proofs.FormedAround.{Agrees, IsHoused, IsNamed, agrees_over}
 use Rattle.ctl_gen.proofs.FormedParts.{IsFound, part_formed}
 use Rattle.ctl_gen.proofs.Walked.{part_begun}
 use Rattle.ctl_gen.proofs.FormedTypes.{run_scalar}
@@ -154,7 +154,7 @@ named_level (W.slot found there) = omega arith
 
 -- the collection of an access type in view stands around in its slot, and its record type, which the table has, is declared around that
 abbrev pub MayNew : Code → W.Setting → Type 0
-MayNew code k = (env : W.Frames) (a t : ℕ) → (to : W.HasAccess k env a) → to.is.designated ≡ Record t → IsAllocable code (length env) a t × IsHousedIn code env a × IsRecord code t
+MayNew code k = (env : W.Frames) (a t : ℕ) → (to : W.HasAccess k env a) → to.is.designated ≡ Record t → IsAllocable code (length env) a t × IsHoused code env a × IsRecord code t
 
 -- inside these masters
 module _ (code : Code) (env : W.Frames) where

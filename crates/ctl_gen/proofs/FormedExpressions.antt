@@ -28,7 +28,7 @@ use Rattle.ctl_layout.proofs.Extensions.{both_true}
 use Rattle.ctl_layout.proofs.Layers.{actual_copied, actual_part, actual_value, new_reached, part_source, reached_given, reached_variable, read_reached, value_access, value_call, value_chain, value_constant, value_convert, value_discriminant, value_new, value_read, value_short, value_subpool, value_unary}
 use Rattle.ctl_layout.proofs.TreeLayers.{operator_roll}
 use Rattle.ctl_gen.proofs.Formed.{none}
-use Rattle.ctl_gen.proofs.FormedAround.{IsHousedIn}
+use Rattle.ctl_gen.proofs.FormedAround.{IsHoused}
 use Rattle.ctl_gen.proofs.FormedParts.{IsFound, steps_found}
 use Rattle.ctl_gen.proofs.Walked.{IsWalked, copied_walked, copy_reaches, value_dereferenced, variable_first, variable_walked}
 use Rattle.ctl_gen.proofs.FormedCalls.{GoodActual, GoodActuals, MayCall, MayNew, copy_good, function_own, good_as, kind_by, reference_good, value_good}
@@ -59,7 +59,7 @@ module _ (code : Code) (records : List RecordType) where
   not_missing x same h = absurd (let e = sym (ap (λ (z : ValueCode). z.runs records) same) ∙ h in cc)
 
   -- an allocator with the value of a part, whose name begins with a variable
-  copied_fine : (env : W.Frames) (a u : ℕ) (o : Option Reached) → IsWalked o → IsAllocable code (length env) a u → IsHousedIn code env a → IsFound code env records o → (new_copy a u (in_variable o)).runs records ≡ true → Fine code env (new_copy a u (in_variable o)) (TyOf.Access a)
+  copied_fine : (env : W.Frames) (a u : ℕ) (o : Option Reached) → IsWalked o → IsAllocable code (length env) a u → IsHoused code env a → IsFound code env records o → (new_copy a u (in_variable o)).runs records ≡ true → Fine code env (new_copy a u (in_variable o)) (TyOf.Access a)
   copied_fine env a u o walked allocable housed found = by (in_variable o) refl (variable_walked o walked)
     where
       by : (q : Option Reached) → in_variable o ≡ q → IsWalked q → (new_copy a u q).runs records ≡ true → Fine code env (new_copy a u q) (TyOf.Access a)
@@ -75,7 +75,7 @@ module _ (code : Code) (records : List RecordType) where
   IsCopyFound env (Some x) = (u : ℕ) → IsFound code env records (copied u (value_code x))
 
   -- an allocator, which is run where it has no handle, and no value but that of a part
-  allocated_fine : (env : W.Frames) (a : ℕ) (t : Ty) (handle : Option ValueCode) (x : Option Expr) → ((u : ℕ) → t ≡ TyOf.Record u → IsAllocable code (length env) a u × IsHousedIn code env a × IsRecord code u) → IsCopyFound env x → (new a t handle (option_map value_code x)).runs records ≡ true → Fine code env (new a t handle (option_map value_code x)) (TyOf.Access a)
+  allocated_fine : (env : W.Frames) (a : ℕ) (t : Ty) (handle : Option ValueCode) (x : Option Expr) → ((u : ℕ) → t ≡ TyOf.Record u → IsAllocable code (length env) a u × IsHoused code env a × IsRecord code u) → IsCopyFound env x → (new a t handle (option_map value_code x)).runs records ≡ true → Fine code env (new a t handle (option_map value_code x)) (TyOf.Access a)
   allocated_fine env a (TyOf.Record u) None None may found runs = inl (new_own code env a u (may u refl).0 (may u refl).1 (may u refl).2)
   allocated_fine env a (TyOf.Record u) None (Some x) may found runs = copied_fine env a u (copied u (value_code x)) (copied_walked u x) (may u refl).0 (may u refl).1 (found u) runs
   allocated_fine env a (TyOf.Record u) (Some h) x may found runs = absurd (cc)

@@ -30,7 +30,7 @@ use Rattle.ctl_code.specs.declared.code.Way.TheVariants as WayOf
 use Rattle.ctl_code.specs.declared.code.Code.{Code}
 use Rattle.ctl_code.specs.Windows.{HasSlot}
 use Rattle.ctl_meaning.specs.Outcome.{program_error}
-use Rattle.ctl_code.specs.Valid.{IsAtEnd, IsDeclarable, IsException, HasCollection, IsScalar}
+use Rattle.ctl_code.specs.Valid.{IsAtEnd, IsDeclarable, IsException, IsScalar}
 use Rattle.ctl_layout.specs.Around.{Site, among, behind, local_at, out_to}
 use Rattle.ctl_layout.specs.Parts.{Reached, Variable, Part, Object, part_runs, parts_run}
 use Rattle.ctl_layout.specs.Values.{ValueCode, actual_code, copied, sourced, value_code, value_type, reached_by}
@@ -42,7 +42,7 @@ use Rattle.ctl_layout.proofs.Extensions.{both_true}
 use Rattle.ctl_layout.proofs.TreeLayers.{arm_roll, layer_of, master_roll, handler_roll}
 use Rattle.ctl_gen.proofs.Place.{HasAt}
 use Rattle.ctl_gen.proofs.Formed.{both, both_at, Formed, FormedAt, none, one}
-use Rattle.ctl_gen.proofs.FormedAround.{Agrees, IsHousedIn, agrees_inside, leave_behind, leaves_formed, newest_slot, newest_there}
+use Rattle.ctl_gen.proofs.FormedAround.{Agrees, IsHoused, agrees_inside, leave_behind, leaves_formed, newest_slot, newest_there}
 use Rattle.ctl_gen.proofs.FormedArms.{GoodArms, branches_stay}
 use Rattle.ctl_gen.proofs.FormedHandlers.{AreChoices, AreExceptions, GoodHandlers, StaysAtEnd, handled_stays}
 use Rattle.ctl_gen.proofs.FormedCalls.{MayCall, MayNew, call_formed, named_level}
@@ -60,9 +60,9 @@ pub slots_told : {k : W.Setting} {env : W.Frames} {f : W.Frame} {a : D.Around} {
 slots_told (D.master {f = f} {is = items} {body = body} {hs = hs} elaborated done handled) =
     ap (λ (z : MasterCode). z.slots) (master_roll (record { slots = length f; items = items; body = body; handlers = hs }))
 
--- the table has the home of each access type in view, which stands around
+-- the table has the home of each access type in view, which has its slot in one of the masters around
 abbrev pub MaySee : Code → W.Setting → Type 0
-MaySee code k = (env : W.Frames) (a : ℕ) → (to : W.HasAccess k env a) → (slice_get code.accesses.items a ≡ Some (Layout.home_of to.is)) × HasCollection code (length env) a × IsHousedIn code env a
+MaySee code k = (env : W.Frames) (a : ℕ) → (to : W.HasAccess k env a) → (slice_get code.accesses.items a ≡ Some (Layout.home_of to.is)) × IsHoused code env a
 
 -- the operations of each record type that is declared around a place are declared there too, and so is each subprogram that can be called
 -- there, with slots for its formals; the collection of each access type stands in its slot of one of the masters around; the operations of a
@@ -182,14 +182,14 @@ module _ (code : Code) (records : List RecordType) (k : W.Setting) (declarable :
       let f = both_true (part_runs source records) (is_assignable (site env) t) e.1 in
       record_formed code env records target source t a.stack agrees to from (part_begun records target e.0) (part_begun records source f.0) (subst (λ n. IsDeclarable code n t) (sym agrees.0) (assignable (length env) t (both_true _ _ f.1).1)) p
 
-  free_good : (env : W.Frames) (access : ℕ) (o : Option Reached) → IsFound code env records o → HasCollection code (length env) access → IsHousedIn code env access → GoodStatement env (free access o)
-  free_good env access None found around housed runs a n p agrees texts can = absurd (cc)
-  free_good env access (Some (Object b steps)) found around housed runs a n p agrees texts can = absurd (cc)
-  free_good env access (Some (Part b steps t position)) found around housed runs a n p agrees texts can =
-      free_part_formed code env access b steps t position a.stack agrees fails found.0 (found.1 (both_true _ _ runs).0) (subst (λ m. HasCollection code m access) (sym agrees.0) around) (housed a.stack agrees) p
-  free_good env access (Some (Variable v)) found around housed runs a n p agrees texts can =
+  free_good : (env : W.Frames) (access : ℕ) (o : Option Reached) → IsFound code env records o → IsHoused code env access → GoodStatement env (free access o)
+  free_good env access None found housed runs a n p agrees texts can = absurd (cc)
+  free_good env access (Some (Object b steps)) found housed runs a n p agrees texts can = absurd (cc)
+  free_good env access (Some (Part b steps t position)) found housed runs a n p agrees texts can =
+      free_part_formed code env access b steps t position a.stack agrees fails found.0 (found.1 (both_true _ _ runs).0) (housed a.stack agrees) p
+  free_good env access (Some (Variable v)) found housed runs a n p agrees texts can =
       let named = found.1 refl in
-      free_formed code access (out_to a.stack v) v.slot a.stack fails (subst (λ m. HasCollection code m access) (sym agrees.0) around) (housed a.stack agrees) (agrees.1 v named.0 named.1) p
+      free_formed code access (out_to a.stack v) v.slot a.stack fails (housed a.stack agrees) (agrees.1 v named.0 named.1) p
 
   -- The library's Allocate and Deallocate, which are run for a pool in a variable (13.11) -----------
 
@@ -322,7 +322,7 @@ module _ (code : Code) (records : List RecordType) (k : W.Setting) (declarable :
     statement_good {env} (D.dispatch {o = o} {x = x} views) = not_missing env _ (layer_of _ (sym (rolls-Dispatch o x)))
     statement_good {env} (D.library_allocate {p = p} {x = x} {size = size} {alignment = alignment} (T.view covers denotes_pool) rooted denotes h g) = good_as env _ _ (layer_of _ (sym (rolls-LibraryAllocate p x size alignment))) (allocate_good env (reached_by p) (reached_by x) size alignment (name_found code records k may_call may_new denotes_pool) (name_found code records k may_call may_new denotes) h g)
     statement_good {env} (D.library_deallocate {p = p} {x = x} {size = size} {alignment = alignment} (T.view covers denotes) rooted address h g) = good_as env _ _ (layer_of _ (sym (rolls-LibraryDeallocate p x size alignment))) (deallocate_good env (reached_by p) x size alignment (name_found code records k may_call may_new denotes) address h g)
-    statement_good {env} (D.free {t = t} {x = x} has denotes) = good_as env _ _ (layer_of _ (sym (rolls-Free t x))) (free_good env t (reached_by x) (name_found code records k may_call may_new denotes) (seen env t has).1 (seen env t has).2)
+    statement_good {env} (D.free {t = t} {x = x} has denotes) = good_as env _ _ (layer_of _ (sym (rolls-Free t x))) (free_good env t (reached_by x) (name_found code records k may_call may_new denotes) (seen env t has).1)
     statement_good {env} (D.release {x = x} denotes) = not_missing env _ (layer_of _ (sym (rolls-Release x)))
     statement_good {env} (D.raise_again handles) = good_as env _ _ (layer_of _ (sym rolls-RaiseAgain)) (λ runs a n p agrees texts can. one code InstrOf.RaiseAgain a.stack (Some a.stack) (λ q next. tt) p)
 

@@ -16,7 +16,7 @@ use Rattle.ctl_code.specs.declared.code.Instr.TheVariants as InstrOf
 use Rattle.ctl_code.specs.declared.code.Code.{Code}
 use Rattle.ctl_code.specs.declared.template.TextPart.{TextPart}
 use Rattle.ctl_code.specs.Windows.{HasSlot, depth, height, variable_at}
-use Rattle.ctl_code.specs.Valid.{IsCellOf, IsDeclarable, IsException, IsFine, IsHoused, HasCollection, Leads}
+use Rattle.ctl_code.specs.Valid.{IsCellOf, IsDeclarable, IsException, IsFine, HasCollection, Leads}
 use Rattle.ctl_layout.specs.Parts.{Start, Reached, Variable, are_followed, located_code, part_code, part_runs}
 use Rattle.ctl_layout.specs.Around.{Line, Around, behind, local_at, local_cell, new_operand, newest_at, newest_cell, out_to}
 use Rattle.ctl_layout.specs.Values.{ValueCode, held, value_type}
@@ -135,15 +135,15 @@ module _ (code : Code) where
   freed_formed i over s known fine p h = (h.0, (fine p h.1.0 h.1.1, (known, tt)))
 
   -- an object is freed whose access value is in a variable, or in a component of a part (13.11.2)
-  pub free_formed : (access out slot : ℕ) (s : List Kind) → IsException code program_error → HasCollection code (depth s) access → IsHoused code access s → HasSlot s out slot → Formed code ((InstrOf.Free access out slot, s) ∷ failed_code s) s (Some s)
-  free_formed access out slot s known seen housed there = freed_formed (InstrOf.Free access out slot) s s known (λ p next behind_it. (seen, next, behind_it, housed, there))
+  pub free_formed : (access out slot : ℕ) (s : List Kind) → IsException code program_error → HasCollection code s access → HasSlot s out slot → Formed code ((InstrOf.Free access out slot, s) ∷ failed_code s) s (Some s)
+  free_formed access out slot s known seen there = freed_formed (InstrOf.Free access out slot) s s known (λ p next behind_it. (seen, next, behind_it, there))
 
-  pub free_part_formed : (env : W.Frames) (access : ℕ) (b : Start) (steps : List Step) (t position : ℕ) (s : List Kind) → Agrees env s → IsException code program_error → are_followed b steps ≡ true → IsBegun code env b → HasCollection code (depth s) access → IsHoused code access s → Formed code (free_part_code access b steps t position s) s (Some s)
-  free_part_formed env access b steps t position s agrees known followed begun seen housed =
+  pub free_part_formed : (env : W.Frames) (access : ℕ) (b : Start) (steps : List Step) (t position : ℕ) (s : List Kind) → Agrees env s → IsException code program_error → are_followed b steps ≡ true → IsBegun code env b → HasCollection code s access → Formed code (free_part_code access b steps t position s) s (Some s)
+  free_part_formed env access b steps t position s agrees known followed begun seen =
       let over = Operand (Record t) ∷ s in
       let free = InstrOf.FreePart access t position in
       both code (located_code b steps t s) ((free, over) ∷ failed_code s) s over (Some s) (located_formed code env b steps t s agrees followed begun)
-      (freed_formed free over s known (λ p next behind_it. (seen, (s, refl, (next, behind_it)), housed)))
+      (freed_formed free over s known (λ p next behind_it. (seen, (s, refl, (next, behind_it)))))
 
   -- The library's Allocate and Deallocate (13.11) ----------------------------------------------------
 

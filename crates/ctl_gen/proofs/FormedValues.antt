@@ -32,7 +32,7 @@ use Rattle.ctl_layout.specs.Parts.{Start, OfVariable, OfValue, Reached, Variable
 use Rattle.ctl_layout.specs.Values.{Held, OperatorCode, ValueCode, address_numbers, binary_code, chain, common_type, constant, designating, evaluated, first_type, held, held_by, in_cell, last_type, left_held, moved_to, new, new_copy, new_copy_code, next_target, operand_type, operator_by, operator_code, operator_for, operators_code, other_code, others_code, read, short, unary, value_type}
 use Rattle.ctl_layout.proofs.Extensions.{both_true}
 use Rattle.ctl_gen.proofs.Formed.{Formed, both, has_end, leads_at, none, one}
-use Rattle.ctl_gen.proofs.FormedAround.{Agrees, IsHousedIn, IsNamed}
+use Rattle.ctl_gen.proofs.FormedAround.{Agrees, IsHoused, IsNamed}
 use Rattle.ctl_gen.proofs.FormedParts.{IsBegun, IsFound, located_formed, part_formed, read_fine}
 use Rattle.ctl_gen.proofs.Walked.{start_of, steps_before}
 use Rattle.ctl_gen.proofs.FormedTypes.{IsAccessType, IsLike, arithmetic_of, boolean_plain, cell_like, cell_of, equality_relates, is_relation, like_access, like_back, like_scalar, like_then, logical_of, number_of, number_scalar, of_arithmetic, of_logical, of_relation, ordering_relates, relation_of, run_scalar, same_unless, unary_plain}
@@ -334,7 +334,7 @@ module _ (code : Code) (env : W.Frames) where
       })
 
   -- an allocator: behind the call of an Allocate there stand numbers (13.11)
-  allocated_formed : (access t : ℕ) (ty : Ty) (s : List Kind) → Valid.IsScalar ty → Agrees env s → IsAllocable code (length env) access t → IsHousedIn code env access → IsRecord code t → Formed code ((InstrOf.Skip 0, s) ∷ (InstrOf.New access t ty (height s), s) ∷ (InstrOf.NewIn t ty (height s), over_numbers address_numbers s) ∷ []) s (Some (KindOf.Operand ty ∷ s))
+  allocated_formed : (access t : ℕ) (ty : Ty) (s : List Kind) → Valid.IsScalar ty → Agrees env s → IsAllocable code (length env) access t → IsHoused code env access → IsRecord code t → Formed code ((InstrOf.Skip 0, s) ∷ (InstrOf.New access t ty (height s), s) ∷ (InstrOf.NewIn t ty (height s), over_numbers address_numbers s) ∷ []) s (Some (KindOf.Operand ty ∷ s))
   allocated_formed access t ty s scalar agrees allocable housed known p h =
       let there : p + 1 ≡ p + 1 + 0 = omega arith in
       let may = subst (λ n. IsAllocable code n access t) (sym agrees.0) allocable in
@@ -347,7 +347,7 @@ module _ (code : Code) (env : W.Frames) where
       )
 
   -- the value of an allocator is a new operand, and then goes where it is wanted
-  pub new_own : (access t : ℕ) → IsAllocable code (length env) access t → IsHousedIn code env access → IsRecord code t → Own (new access (TyOf.Record t) None None) (TyOf.Access access)
+  pub new_own : (access t : ℕ) → IsAllocable code (length env) access t → IsHoused code env access → IsRecord code t → Own (new access (TyOf.Record t) None None) (TyOf.Access access)
   new_own access t allocable housed known =
       own_as (new access (TyOf.Record t) None None) (TyOf.Access access) refl tt
       (λ ty scalar. record {
@@ -361,7 +361,7 @@ module _ (code : Code) (env : W.Frames) where
       })
 
   -- and so is that of an allocator with the value of a part, which is found before
-  pub copied_own : (access t : ℕ) (x : Reached) → are_followed (start_of x) (steps_before x) ≡ true → IsBegun code env (start_of x) → IsAllocable code (length env) access t → IsHousedIn code env access → Own (new_copy access t (Some x)) (TyOf.Access access)
+  pub copied_own : (access t : ℕ) (x : Reached) → are_followed (start_of x) (steps_before x) ≡ true → IsBegun code env (start_of x) → IsAllocable code (length env) access t → IsHoused code env access → Own (new_copy access t (Some x)) (TyOf.Access access)
   copied_own access t x followed begun allocable housed =
       own_as (new_copy access t (Some x)) (TyOf.Access access) refl tt
       (λ ty scalar. record {

@@ -35,7 +35,7 @@ use Rattle.ctl_gen.proofs.Known.{both_true}
 use Rattle.ctl_gen.proofs.Place.{HasAt, has_all}
 use Rattle.ctl_gen.proofs.Place as Place
 use Rattle.ctl_gen.proofs.Formed.{AreFine, fine_both, FormedAt, Has, has_back, has_front}
-use Rattle.ctl_gen.proofs.FormedAround.{Agrees, IsHousedIn, agrees_body, named_around, variable_there}
+use Rattle.ctl_gen.proofs.FormedAround.{Agrees, IsHoused, agrees_body, named_around, variable_there}
 use Rattle.ctl_gen.proofs.FormedLayouts.{EachAtHome, alike, declarable, declarable_in, home_of, layouts_laid, not_more}
 use Rattle.ctl_gen.proofs.FormedCalls.{MayCall, MayNew, kind_by, named_level}
 use Rattle.ctl_gen.proofs.FormedMasters.{MaySee, master_good, slots_told}
@@ -319,7 +319,7 @@ module _ (program : Checked) (code : Code) (laid : IsLaidOut program code) (kind
   pool_there env home s None encloses agrees P.standard = tt
   pool_there env home s (Some v) encloses agrees (P.from_pool {t = t} names rooted pool) = variable_there env s v (W.Declared (Record t)) agrees (named_around home env v (W.Declared (Record t)) encloses names)
 
-  housed : (env : W.Frames) (a : ℕ) → W.HasAccess typed.k env a → IsHousedIn code env a
+  housed : (env : W.Frames) (a : ℕ) → W.HasAccess typed.k env a → IsHoused code env a
   housed env a to s agrees =
       let fine = access_fine env a to in (
         Layout.home_of to.is,
@@ -329,11 +329,7 @@ module _ (program : Checked) (code : Code) (laid : IsLaidOut program code) (kind
       )
 
   seen : MaySee code typed.k
-  seen env a to =
-      let fine = access_fine env a to in
-      let level = fine.level in
-      let least = not_more to.home env to.encloses in
-      (collection_there env a to, (Layout.home_of to.is, collection_there env a to, named_level fine.collection, omega (arith, level, least)), housed env a to)
+  seen env a to = (collection_there env a to, housed env a to)
 
   -- and its record type is in view there
   may_new : MayNew code typed.k
