@@ -4,7 +4,7 @@ ghost use Rattle.std.specs.Prelude.{◌≡◌, ◌↔◌, ℕ, ◌+◌, ◌≤�
 ghost use Rattle.ctl_code.specs.declared.code.Instr.TheVariants as I;
 ghost use Rattle.ctl_code.specs.Kinds.{changed, stack_at};
 ghost use Rattle.ctl_code.specs.Valid.{HasCollection, HasVariable, IsAllocable, IsFine, IsGathered, Leads, MayHaveVariable, over_numbers};
-ghost use Rattle.ctl_code.specs.Windows.{HasSlot, depth};
+ghost use Rattle.ctl_code.specs.Windows.{depth};
 
 use crate::code::Code;
 use crate::fine::{is_operand, is_part, leads_on};
@@ -40,7 +40,7 @@ fn has_variable(code: &Code, place: usize, variable: Var) -> bool
             .has_slot(place, depth - variable.level, variable.slot)
 }
 
-/// Tells whether there is no variable, or it stands around an instruction.
+/// Tells whether there is no variable, or its master stands around an instruction and has its slot.
 fn may_have_variable(code: &Code, place: usize, variable: Option<Var>) -> bool
     ensures { IsTrue result ↔ MayHaveVariable (stack_at code.now.kinds place) variable }
 {

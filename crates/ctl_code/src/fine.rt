@@ -607,7 +607,8 @@ fn is_copy_fine(code: &Code, place: usize, slot: usize, number: usize) -> bool
         && code.kinds.has_slot(place, 0, slot)
 }
 
-/// Checks that what a slot of a master gives, which need not belong to the body, is put (RM 4.1, 4.1.3, 3.10.2).
+/// Checks that the value of a variable, whose master may stand around the body, that of a component of the object in such a slot, or an
+/// access value of this object is put (RM 4.1, 4.1.3, 3.10.2).
 fn is_fetch_fine(code: &Code, place: usize, out: usize, slot: usize, ty: Ty, to: Cell) -> bool
     requires { place + 1 < 2 ^ 64 }
     ensures { let stack = stack_at code.now.kinds place in IsTrue result ↔ (IsScalar ty × Puts code.now place to ty stack × HasSlot stack out slot) }
@@ -623,7 +624,7 @@ fn is_store_fine(code: &Code, place: usize, from: Cell, ty: Ty, out: usize, slot
     is_scalar(ty) && drops(code, place, from, ty) && code.kinds.has_slot(place, out, slot)
 }
 
-/// Checks that the part of a record type in such a slot is put, in this cell (RM 4.1).
+/// Checks that the object in such a slot is put as a part of a record type, in this cell (RM 4.1).
 fn is_locate_fine(
     code: &Code,
     place: usize,

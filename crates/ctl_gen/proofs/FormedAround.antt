@@ -1,5 +1,5 @@
--- What stands in the window agrees with the masters around: as many are there, and each slot of them that is for something is there. And where
--- a stretch can be left.
+-- What stands in the window agrees with the masters around: as many stand there, and so does each slot of them that is for something. And
+-- where a stretch can be left.
 use Rattle.std.proofs.Common.{◌≡◌, ℕ, zero, suc, ◌+◌, ◌-◌, ◌<◌, ◌≤◌, List, [], ◌∷◌, ◌++◌, length, take, Some, None, Bool, true, false, ◌⊎◌, inl, inr, refl, sym, ap, subst, arith, length-append}
 use Rattle.std.specs.Prelude.{nat_lt, if◌then◌else◌, slice_get}
 use Rattle.std.proofs.lemmas.Bool.Decides.{nat_tests}
@@ -54,7 +54,7 @@ one_of (x ∷ env) f (suc level) g e = further_in (one_of env f level g e)
 
 -- Masters around ----------------------------------------------------------------------------------
 
--- as many masters stand there as are around, and each slot of them that is for something is there
+-- as many masters stand there as are around, and each slot of them that is for something is there, as far as the window says
 abbrev pub Agrees : W.Frames → List Kind → Type 0
 Agrees env s = (depth s ≡ length env) × ((v : Var) (h : W.Holding) → W.Names env v h → HasSlot s (out_to s v) v.slot)
 
