@@ -41,7 +41,7 @@ out_by d level out e some = tested (nat_lt (level - 1) d) refl
     tested true g = omega (arith, e, some)
     tested false g = absurd (grind (arith, nat_tests))
 
--- a slot of a master inside these is one of its frame, or one of these
+-- a master of these and one more, the innermost, is that one or one of these
 one_of : (env : W.Frames) (f : W.Frame) (level : ℕ) (g : W.Frame) → slice_get (env ++ f ∷ []) level ≡ Some g → ((level ≡ length env) × (f ≡ g)) ⊎ (slice_get env level ≡ Some g)
 one_of [] f zero g e = inl (refl, cc e)
 one_of [] f (suc level) g e = absurd (cc e)
