@@ -3,7 +3,7 @@
 ghost use Rattle.std.specs.Prelude.{◌≡◌, ◌↔◌, ℕ, ◌+◌, ◌≤◌, ◌^◌, ◌<◌, IsTrue};
 ghost use Rattle.ctl_code.specs.declared.code.Instr.TheVariants as I;
 ghost use Rattle.ctl_code.specs.Kinds.{changed, stack_at};
-ghost use Rattle.ctl_code.specs.Valid.{HasCollection, IsAccess, IsAllocable, IsFine, Leads, over_numbers};
+ghost use Rattle.ctl_code.specs.Valid.{HasCollection, HasVariable, IsAllocable, IsFine, IsGathered, Leads, MayHaveVariable, over_numbers};
 ghost use Rattle.ctl_code.specs.Windows.{depth};
 
 use crate::code::Code;
@@ -11,7 +11,7 @@ use crate::fine::{is_operand, is_part, leads_on};
 use crate::kinds::Kind;
 use crate::layouts::is_declarable;
 use crate::types::is_scalar;
-use ctl_program::types::Ty;
+use ctl_program::types::{Ty, Var};
 
 /// Tells whether the collection of an access type stands in one of so many masters around a place, and objects of a record type may be
 /// declared where it does (RM 4.8).
@@ -28,23 +28,63 @@ fn is_allocable(code: &Code, masters: usize, access: usize, record: usize) -> bo
     }
 }
 
-/// Tells whether it is the number of an access type (RM 3.10).
-fn is_access(code: &Code, access: usize) -> bool
-    ensures { IsTrue result ↔ IsAccess code.now access }
+/// Tells whether the master of a variable stands around an instruction, and has its slot where the body has entered it (RM 7.6.1).
+fn has_variable(code: &Code, place: usize, variable: Var) -> bool
+    ensures { IsTrue result ↔ HasVariable (stack_at code.now.kinds place) variable }
+{
+    let depth = code.kinds.depth_at(place);
+    1 <= variable.level
+        && variable.level <= depth
+        && code
+            .kinds
+            .has_slot(place, depth - variable.level, variable.slot)
+}
+
+/// Tells whether there is no variable, or its master stands around an instruction and has its slot.
+fn may_have_variable(code: &Code, place: usize, variable: Option<Var>) -> bool
+    ensures { IsTrue result ↔ MayHaveVariable (stack_at code.now.kinds place) variable }
+{
+    match variable {
+        Some(variable) => has_variable(code, place, variable),
+        None => true,
+    }
+}
+
+/// Tells whether the master of the collection of an access type stands around an instruction, and has its slot; and so for its pool
+/// (RM 3.10, 13.11).
+fn has_collection(code: &Code, place: usize, access: usize) -> bool
+    ensures { IsTrue result ↔ HasCollection code.now (stack_at code.now.kinds place) access }
 {
     match code.accesses.get(access) {
-        Some(_) => true,
+        Some(home) => {
+            has_variable(code, place, home.collection) && may_have_variable(code, place, home.pool)
+        }
         None => false,
     }
 }
 
-/// Checks that a collection is made (RM 7.6.1): of an access type of the table, in a master.
+/// Tells whether the collection of an access type is one of the newest master, and has a slot there (RM 3.10, 7.6.1).
+fn is_gathered(code: &Code, place: usize, access: usize) -> bool
+    ensures { IsTrue result ↔ IsGathered code.now access (stack_at code.now.kinds place) }
+{
+    match code.accesses.get(access) {
+        Some(home) => {
+            home.collection.level == code.kinds.depth_at(place)
+                && code.kinds.has_slot(place, 0, home.collection.slot)
+        }
+        None => false,
+    }
+}
+
+/// Checks that a collection is made (RM 7.6.1): of an access type of the table, in its slot of the newest master.
 pub(crate) fn is_gather_fine(code: &Code, place: usize, access: usize) -> bool
     requires { place + 1 < 2 ^ 64 }
     ensures { let stack = stack_at code.now.kinds place in
-        IsTrue result ↔ (IsAccess code.now access × (1 ≤ depth stack) × Leads code.now (place + 1) stack) }
+        IsTrue result ↔ (IsGathered code.now access stack × (1 ≤ depth stack) × Leads code.now (place + 1) stack) }
 {
-    is_access(code, access) && 1 <= code.kinds.depth_at(place) && leads_on(code, place, 0, None)
+    is_gathered(code, place, access)
+        && 1 <= code.kinds.depth_at(place)
+        && leads_on(code, place, 0, None)
 }
 
 /// Tells whether the change of the stack that an instruction makes leads behind the next place.
@@ -86,6 +126,7 @@ pub(crate) fn is_new_fine(
         && code.kinds.height_at(place, 0) == at
         && leads_to_address(code, place)
         && leads_behind_next(code, place, 0, Some(Kind::Operand(ty)))
+        && has_collection(code, place, access)
 }
 
 /// Checks an allocator at the address that an Allocate gave (RM 4.8, 13.11).
@@ -116,26 +157,24 @@ pub(crate) fn is_new_copy_fine(
         && is_allocable(code, code.kinds.depth_at(place), access, record)
         && is_operand(code, place, 0, at, Ty::Record(record))
         && leads_on(code, place, 1, Some(Kind::Operand(ty)))
-}
-
-/// Tells whether the collection of an access type stands in one of so many masters around a place (RM 7.6.1).
-fn has_collection(code: &Code, masters: usize, access: usize) -> bool
-    ensures { IsTrue result ↔ HasCollection code.now masters access }
-{
-    match code.accesses.get(access) {
-        Some(home) => 1 <= home.collection.level && home.collection.level <= masters,
-        None => false,
-    }
+        && has_collection(code, place, access)
 }
 
 /// Checks that an object is freed whose access value is in a variable (RM 13.11.2).
-pub(crate) fn is_free_fine(code: &Code, place: usize, access: usize) -> bool
+pub(crate) fn is_free_fine(
+    code: &Code,
+    place: usize,
+    access: usize,
+    out: usize,
+    slot: usize,
+) -> bool
     requires { place + 1 < 2 ^ 64 }
-    ensures { (out slot : ℕ) → IsTrue result ↔ IsFine code.now place (I.Free access out slot) (stack_at code.now.kinds place) }
+    ensures { IsTrue result ↔ IsFine code.now place (I.Free access out slot) (stack_at code.now.kinds place) }
 {
-    has_collection(code, code.kinds.depth_at(place), access)
+    has_collection(code, place, access)
         && leads_on(code, place, 0, None)
         && leads_behind_next(code, place, 0, None)
+        && code.kinds.has_slot(place, out, slot)
 }
 
 /// Checks that an object is freed whose access value is in a component: the part that has it stands on top (RM 13.11.2).
@@ -143,7 +182,7 @@ pub(crate) fn is_free_part_fine(code: &Code, place: usize, access: usize, record
     requires { place + 1 < 2 ^ 64 }
     ensures { (position : ℕ) → IsTrue result ↔ IsFine code.now place (I.FreePart access «record» position) (stack_at code.now.kinds place) }
 {
-    has_collection(code, code.kinds.depth_at(place), access)
+    has_collection(code, place, access)
         && is_part(code, place, 0, record)
         && leads_on(code, place, 1, None)
         && leads_behind_next(code, place, 1, None)

@@ -10,8 +10,8 @@ ghost use Rattle.ctl_code.specs.declared.code.Cell.{Cell};
 ghost use Rattle.ctl_code.specs.declared.code.Operator.{Operator};
 ghost use Rattle.ctl_code.specs.declared.code.Instr.TheVariants as I;
 ghost use Rattle.ctl_code.specs.Kinds.{changed, stack_at};
-ghost use Rattle.ctl_code.specs.Valid.{HasFormals, HaveOperands, IsCalled, IsOperandAt, Bounded, DropsPart, IsAtEnd, IsDeclarable, IsEntry, IsFine, IsInScope, IsText, Leads, Puts, Taken, Takes, Under};
-ghost use Rattle.ctl_code.specs.Windows.{depth, height, variable_at};
+ghost use Rattle.ctl_code.specs.Valid.{HasFormals, HaveOperands, IsCalled, IsOperandAt, Bounded, DropsPart, IsAtEnd, IsDeclarable, IsEntry, IsFine, IsInScope, IsScalar, IsText, Leads, Puts, Taken, Takes, Under};
+ghost use Rattle.ctl_code.specs.Windows.{HasSlot, depth, height, variable_at};
 
 use crate::accesses::{
     is_free_fine, is_free_part_fine, is_gather_fine, is_new_copy_fine, is_new_fine, is_new_in_fine,
@@ -495,7 +495,7 @@ fn is_call_fine(code: &Code, place: usize, number: usize, actuals: usize, copies
             .leads_over_numbers(place, actuals, copies, place + 1)
 }
 
-/// Checks that a copy goes back: it is the last of so many numbers, in this cell (RM 6.4.1).
+/// Checks that a copy goes back to a variable: it is the last of so many numbers, in this cell (RM 6.4.1).
 fn is_copy_back_fine(
     code: &Code,
     place: usize,
@@ -511,6 +511,7 @@ fn is_copy_back_fine(
         && code.kinds.has_numbers(place, depth)
         && code.kinds.height_at(place, depth) == at
         && leads_on(code, place, 0, None)
+        && code.kinds.has_slot(place, out, slot)
 }
 
 /// Checks that so many numbers are dropped.
@@ -586,22 +587,56 @@ fn has_operands(code: &Code, place: usize, count: usize) -> bool
     true
 }
 
-/// Checks the declaration of an object (RM 3.3.1).
-fn is_declare_fine(code: &Code, place: usize, number: usize) -> bool
+/// Checks the declaration of an object in a slot of the newest master (RM 3.3.1).
+fn is_declare_fine(code: &Code, place: usize, slot: usize, number: usize) -> bool
     requires { place + 1 < 2 ^ 64 }
-    ensures { let stack = stack_at code.now.kinds place in
-        IsTrue result ↔ (IsDeclarable code.now (depth stack) number × Leads code.now (place + 1) stack) }
+    ensures { IsTrue result ↔ IsFine code.now place (I.Declare slot number) (stack_at code.now.kinds place) }
 {
-    is_declarable(code, code.kinds.depth_at(place), number) && leads_on(code, place, 0, None)
+    is_declarable(code, code.kinds.depth_at(place), number)
+        && leads_on(code, place, 0, None)
+        && code.kinds.has_slot(place, 0, slot)
 }
 
-/// Checks the declaration of an object with the value of a part (RM 3.3.1).
-fn is_copy_fine(code: &Code, place: usize, number: usize) -> bool
+/// Checks the declaration of an object in a slot of the newest master with the value of a part (RM 3.3.1).
+fn is_copy_fine(code: &Code, place: usize, slot: usize, number: usize) -> bool
     requires { place + 1 < 2 ^ 64 }
-    ensures { let stack = stack_at code.now.kinds place in
-        IsTrue result ↔ (IsDeclarable code.now (depth stack) number × DropsPart code.now place number stack) }
+    ensures { IsTrue result ↔ IsFine code.now place (I.DeclareCopy slot number) (stack_at code.now.kinds place) }
 {
-    is_declarable(code, code.kinds.depth_at(place), number) && drops_part(code, place, 0, number)
+    is_declarable(code, code.kinds.depth_at(place), number)
+        && drops_part(code, place, 0, number)
+        && code.kinds.has_slot(place, 0, slot)
+}
+
+/// Checks that the value of a variable, whose master may stand around the body, that of a component of the object in such a slot, or an
+/// access value of this object is put (RM 4.1, 4.1.3, 3.10.2).
+fn is_fetch_fine(code: &Code, place: usize, out: usize, slot: usize, ty: Ty, to: Cell) -> bool
+    requires { place + 1 < 2 ^ 64 }
+    ensures { let stack = stack_at code.now.kinds place in IsTrue result ↔ (IsScalar ty × Puts code.now place to ty stack × HasSlot stack out slot) }
+{
+    is_scalar(ty) && puts(code, place, 0, to, ty) && code.kinds.has_slot(place, out, slot)
+}
+
+/// Checks that such a variable takes a value (RM 5.2).
+fn is_store_fine(code: &Code, place: usize, from: Cell, ty: Ty, out: usize, slot: usize) -> bool
+    requires { place + 1 < 2 ^ 64 }
+    ensures { IsTrue result ↔ IsFine code.now place (I.Store from ty out slot) (stack_at code.now.kinds place) }
+{
+    is_scalar(ty) && drops(code, place, from, ty) && code.kinds.has_slot(place, out, slot)
+}
+
+/// Checks that the object in such a slot is put as a part of a record type, in this cell (RM 4.1).
+fn is_locate_fine(
+    code: &Code,
+    place: usize,
+    out: usize,
+    slot: usize,
+    record: usize,
+    at: usize,
+) -> bool
+    requires { place + 1 < 2 ^ 64 }
+    ensures { IsTrue result ↔ IsFine code.now place (I.Locate out slot «record» at) (stack_at code.now.kinds place) }
+{
+    puts_operand(code, place, 0, at, Ty::Record(record)) && code.kinds.has_slot(place, out, slot)
 }
 
 /// Checks the assignment of the value of one part to another (RM 5.2).
@@ -705,14 +740,14 @@ pub fn is_fine(code: &Code, place: usize, instr: &Instr) -> bool
         Instr::Handle(length) => is_handle_fine(code, place, length),
         Instr::Catch { exception, length } => is_catch_fine(code, place, exception, length),
         Instr::RaiseAgain => true,
-        Instr::Declare { slot: _, record } => is_declare_fine(code, place, record),
-        Instr::DeclareCopy { record, .. } => is_copy_fine(code, place, record),
+        Instr::Declare { slot, record } => is_declare_fine(code, place, slot, record),
+        Instr::DeclareCopy { slot, record } => is_copy_fine(code, place, slot, record),
         Instr::DeclarePool {
+            slot,
             record,
             order: _,
             at,
-            ..
-        } => is_pool_fine(code, place, record, at),
+        } => is_pool_fine(code, place, slot, record, at),
         Instr::Gather { access, count: _ } => is_gather_fine(code, place, access),
         Instr::New {
             access,
@@ -727,22 +762,30 @@ pub fn is_fine(code: &Code, place: usize, instr: &Instr) -> bool
             at,
         } => is_new_copy_fine(code, place, access, record, ty, at),
         Instr::NewIn { record, ty, at } => is_new_in_fine(code, place, record, ty, at),
-        Instr::TakeBlock {
-            record,
-            out: _,
-            slot: _,
-        } => is_taking_fine(code, place, record),
+        Instr::TakeBlock { record, out, slot } => is_taking_fine(code, place, record, out, slot),
         Instr::GiveBlock { record } => is_giving_fine(code, place, record),
-        Instr::Free { access, .. } => is_free_fine(code, place, access),
+        Instr::Free { access, out, slot } => is_free_fine(code, place, access, out, slot),
         Instr::FreePart { access, record, .. } => is_free_part_fine(code, place, access, record),
         Instr::Dereference { record, at } => is_dereference_fine(code, place, record, at),
         Instr::Number | Instr::NewLine => leads_on(code, place, 0, None),
         Instr::Set { value, ty, to } => is_cell_of(ty, value) && puts(code, place, 0, to, ty),
         Instr::Move { from, ty, to } => is_scalar(ty) && passes(code, place, 0, from, ty, to, ty),
-        Instr::Fetch { ty, to, .. }
-        | Instr::FetchPart { ty, to, .. }
-        | Instr::Designate { ty, to, .. } => is_scalar(ty) && puts(code, place, 0, to, ty),
-        Instr::Locate { record, at, .. } => { puts_operand(code, place, 0, at, Ty::Record(record)) }
+        Instr::Fetch { out, slot, ty, to }
+        | Instr::FetchPart {
+            out,
+            slot,
+            record: _,
+            position: _,
+            ty,
+            to,
+        }
+        | Instr::Designate { out, slot, ty, to } => is_fetch_fine(code, place, out, slot, ty, to),
+        Instr::Locate {
+            out,
+            slot,
+            record,
+            at,
+        } => is_locate_fine(code, place, out, slot, record, at),
         Instr::Select { record, part, .. } => selects(code, place, record, part),
         Instr::TakePart { record, ty, to, .. } => is_scalar(ty)
             && takes_part(code, place, record, ty, to),
@@ -753,7 +796,12 @@ pub fn is_fine(code: &Code, place: usize, instr: &Instr) -> bool
             ..
         } => is_scalar(ty) && stores_part(code, place, from, ty, record),
         Instr::Assign { record } => is_assign_fine(code, place, record),
-        Instr::Store { from, ty, .. } => is_scalar(ty) && drops(code, place, from, ty),
+        Instr::Store {
+            from,
+            ty,
+            out,
+            slot,
+        } => is_store_fine(code, place, from, ty, out, slot),
         Instr::Unary { op, ty, from, to } => is_unary_of(op, ty)
             && passes(code, place, 0, from, ty, to, ty),
         Instr::Binary { .. } | Instr::BinaryConstant { .. } => is_binary_fine(code, place, instr),

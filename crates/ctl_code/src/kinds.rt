@@ -4,7 +4,7 @@ ghost use Rattle.std.specs.Prelude.{◌≡◌, ◌↔◌, ℕ, ◌≤◌, [], �
 ghost use Rattle.ctl_code.specs.declared.kinds.Kind.{Kind};
 ghost use Rattle.ctl_code.specs.Kinds.{below_newest, changed, stack_at, stack_in, stacks_in};
 ghost use Rattle.ctl_code.specs.Valid.{HaveNumbers, images_of, over_numbers};
-ghost use Rattle.ctl_code.specs.Windows.{depth, height, variable_at};
+ghost use Rattle.ctl_code.specs.Windows.{HasSlot, depth, height, variable_at};
 
 use crate::images::has_images_on;
 use crate::stacks::Stacks;
@@ -134,6 +134,14 @@ impl Kinds {
     {
         let stack = number_under(&self.stacks, self.before.as_slice(), place, under);
         self.stacks.variable_at(stack, out, slot)
+    }
+
+    /// Tells whether the master so many further out stands around the instruction at a place, and has this slot where the body has entered it.
+    pub fn has_slot(&self, place: usize, out: usize, slot: usize) -> bool
+        ensures { IsTrue result ↔ HasSlot (stack_at self.now place) out slot }
+    {
+        let stack = number_under(&self.stacks, self.before.as_slice(), place, 0);
+        self.stacks.has_slot(stack, out, slot)
     }
 
     /// Answers how many masters stand around the instruction at a place.

@@ -6,7 +6,7 @@ ghost use Rattle.ctl_code.specs.declared.code.Instr.TheVariants as I;
 ghost use Rattle.ctl_code.specs.declared.kinds.Kind.TheVariants.{Operand};
 ghost use Rattle.ctl_code.specs.Kinds.{stack_at};
 ghost use Rattle.ctl_code.specs.Valid.{DropsPart, IsDeclarable, IsFine, Leads, Under};
-ghost use Rattle.ctl_code.specs.Windows.{depth, height};
+ghost use Rattle.ctl_code.specs.Windows.{HasSlot, depth, height};
 
 use crate::code::Code;
 use crate::fine::{drops_part, has, is_operand, leads_on};
@@ -29,12 +29,27 @@ fn has_request(code: &Code, place: usize) -> bool
     has(code, place, 0, Kind::Operand(Ty::Count)) && has(code, place, 1, Kind::Operand(Ty::Count))
 }
 
-/// Checks a call of the library's Allocate: the part that is the pool stands below a size and an alignment (RM 13.11).
-pub(crate) fn is_taking_fine(code: &Code, place: usize, record: usize) -> bool
+/// Tells whether the part that is a pool stands below a size and an alignment, and the next place finds what is below it (RM 13.11).
+fn takes_request(code: &Code, place: usize, record: usize) -> bool
     requires { place + 1 < 2 ^ 64 }
     ensures { IsTrue result ↔ Under (Operand Count ∷ Operand Count ∷ []) (stack_at code.now.kinds place) (DropsPart code.now place «record») }
 {
     has_request(code, place) && drops_part(code, place, 2, record)
+}
+
+/// Checks a call of the library's Allocate: the part that is the pool stands below a size and an alignment, and there is the variable that
+/// takes the address (RM 13.11).
+pub(crate) fn is_taking_fine(
+    code: &Code,
+    place: usize,
+    record: usize,
+    out: usize,
+    slot: usize,
+) -> bool
+    requires { place + 1 < 2 ^ 64 }
+    ensures { IsTrue result ↔ IsFine code.now place (I.TakeBlock «record» out slot) (stack_at code.now.kinds place) }
+{
+    takes_request(code, place, record) && code.kinds.has_slot(place, out, slot)
 }
 
 /// Checks a call of the library's Deallocate: the part that is the pool stands below an address, a size and an alignment (RM 13.11).
@@ -47,13 +62,15 @@ pub(crate) fn is_giving_fine(code: &Code, place: usize, record: usize) -> bool
         && drops_part(code, place, 3, record)
 }
 
-/// Checks the declaration of a block pool: its discriminants stand on top, the first of them in this cell (RM 13.11).
-pub(crate) fn is_pool_fine(code: &Code, place: usize, number: usize, at: usize) -> bool
+/// Checks the declaration of a block pool in a slot of the newest master: its discriminants stand on top, the first of them in this cell
+/// (RM 13.11).
+pub(crate) fn is_pool_fine(code: &Code, place: usize, slot: usize, number: usize, at: usize) -> bool
     requires { place + 1 < 2 ^ 64 }
     ensures { let stack = stack_at code.now.kinds place in
-        IsTrue result ↔ (IsDeclarable code.now (depth stack) number × Under (Operand Count ∷ Operand Count ∷ []) stack (λ below. (at ≡ height below) × Leads code.now (place + 1) below)) }
+        IsTrue result ↔ (IsDeclarable code.now (depth stack) number × Under (Operand Count ∷ Operand Count ∷ []) stack (λ below. (at ≡ height below) × Leads code.now (place + 1) below) × HasSlot stack 0 slot) }
 {
     is_declarable(code, code.kinds.depth_at(place), number)
         && has_discriminants(code, place, at)
         && leads_on(code, place, 2, None)
+        && code.kinds.has_slot(place, 0, slot)
 }

@@ -4,7 +4,7 @@ ghost use Rattle.std.specs.Prelude.{◌≡◌, ◌↔◌, ◌+◌, ◌-◌, ◌<
 ghost use Rattle.ctl_code.specs.declared.kinds.Kind.{Kind};
 ghost use Rattle.ctl_code.specs.Kinds.{stack_in, with_top};
 ghost use Rattle.ctl_code.specs.Valid.{HaveNumbers, over_numbers};
-ghost use Rattle.ctl_code.specs.Windows.{depth, height, slot_over, variable_at};
+ghost use Rattle.ctl_code.specs.Windows.{HasSlot, depth, height, slot_over, variable_at};
 
 use crate::kinds::{Kind, is_same_kind};
 use ctl_program::types::Ty;
@@ -172,6 +172,25 @@ impl Stacks {
             left = link.below;
         }
         None
+    }
+
+    /// Tells whether the master so many further out than the newest stands there, and has this slot where the body has entered it.
+    pub fn has_slot(&self, stack: usize, out: usize, slot: usize) -> bool
+        ensures { IsTrue result ↔ HasSlot (stack_in self.now stack) out slot }
+    {
+        let (mut left, mut out) = (stack, out);
+        while let Some(link) = self.link(left) {
+            match link.kind {
+                Kind::Block(slots) | Kind::Body { level: _, slots } if out == 0 => {
+                    return slot < slots;
+                }
+                Kind::Operand(_) => {}
+                Kind::Block(_) => out -= 1,
+                Kind::Body { level, slots: _ } => return out <= level,
+            }
+            left = link.below;
+        }
+        false
     }
 
     /// Answers the stack without so many of its newest.

@@ -28,9 +28,9 @@ use Rattle.ctl_code.specs.declared.code.DiscriminantOrder.{DiscriminantOrder}
 use Rattle.ctl_code.specs.declared.code.Instr.TheVariants as InstrOf
 use Rattle.ctl_code.specs.declared.code.Way.TheVariants as WayOf
 use Rattle.ctl_code.specs.declared.code.Code.{Code}
-use Rattle.ctl_code.specs.Windows.{depth, variable_at}
+use Rattle.ctl_code.specs.Windows.{HasSlot}
 use Rattle.ctl_meaning.specs.Outcome.{program_error}
-use Rattle.ctl_code.specs.Valid.{IsAtEnd, IsDeclarable, IsException, HasCollection, IsScalar}
+use Rattle.ctl_code.specs.Valid.{IsAtEnd, IsDeclarable, IsException, IsScalar}
 use Rattle.ctl_layout.specs.Around.{Site, among, behind, local_at, out_to}
 use Rattle.ctl_layout.specs.Parts.{Reached, Variable, Part, Object, part_runs, parts_run}
 use Rattle.ctl_layout.specs.Values.{ValueCode, actual_code, copied, sourced, value_code, value_type, reached_by}
@@ -42,13 +42,13 @@ use Rattle.ctl_layout.proofs.Extensions.{both_true}
 use Rattle.ctl_layout.proofs.TreeLayers.{arm_roll, layer_of, master_roll, handler_roll}
 use Rattle.ctl_gen.proofs.Place.{HasAt}
 use Rattle.ctl_gen.proofs.Formed.{both, both_at, Formed, FormedAt, none, one}
-use Rattle.ctl_gen.proofs.FormedAround.{Agrees, agrees_inside, leave_behind, leaves_formed, newest_there}
+use Rattle.ctl_gen.proofs.FormedAround.{Agrees, IsHoused, agrees_inside, leave_behind, leaves_formed, newest_slot, newest_there}
 use Rattle.ctl_gen.proofs.FormedArms.{GoodArms, branches_stay}
 use Rattle.ctl_gen.proofs.FormedHandlers.{AreChoices, AreExceptions, GoodHandlers, StaysAtEnd, handled_stays}
 use Rattle.ctl_gen.proofs.FormedCalls.{MayCall, MayNew, call_formed, named_level}
 use Rattle.ctl_gen.proofs.FormedExpressions.{copied_found, name_found, source_found, actuals_good, has_formals, typed_fine}
 use Rattle.ctl_gen.proofs.FormedLines.{block_formed}
-use Rattle.ctl_gen.proofs.FormedParts.{IsBegun, IsFound, record_formed}
+use Rattle.ctl_gen.proofs.FormedParts.{IsFound, record_formed}
 use Rattle.ctl_gen.proofs.Walked.{part_begun}
 use Rattle.ctl_gen.proofs.FormedStatements.{MayDeclare, Stays, all_stay, allocate_formed, assign_formed, assign_part_formed, copy_formed, deallocate_formed, declaration_formed, for_stays, free_formed, free_part_formed, leaves_stay, leaves_when_stay, loop_stays, pool_formed, returned_formed, tested_turns, valued_formed}
 use Rattle.ctl_gen.proofs.FormedTexts.{print_formed}
@@ -60,10 +60,14 @@ pub slots_told : {k : W.Setting} {env : W.Frames} {f : W.Frame} {a : D.Around} {
 slots_told (D.master {f = f} {is = items} {body = body} {hs = hs} elaborated done handled) =
     ap (λ (z : MasterCode). z.slots) (master_roll (record { slots = length f; items = items; body = body; handlers = hs }))
 
+-- the table has the home of each access type in view, which has its slot in one of the masters around
+abbrev pub MaySee : Code → W.Setting → Type 0
+MaySee code k = (env : W.Frames) (a : ℕ) → (to : W.HasAccess k env a) → (slice_get code.accesses.items a ≡ Some (Layout.home_of to.is)) × IsHoused code env a
+
 -- the operations of each record type that is declared around a place are declared there too, and so is each subprogram that can be called
--- there, with slots for its formals; the collection of each access type stands in one of the masters around; the operations of a record type
--- are declared inside as many masters as its level says; and Program_Error is an exception of the table
-module _ (code : Code) (records : List RecordType) (k : W.Setting) (declarable : (env : W.Frames) (t : ℕ) → W.HasRecord k env t → IsDeclarable code (length env) t) (may_call : MayCall code k) (may_new : MayNew code k) (seen : (env : W.Frames) (a : ℕ) → W.HasAccess k env a → HasCollection code (length env) a) (assignable : (masters t : ℕ) → is_declared_in masters (slice_get records t) ≡ true → IsDeclarable code masters t) (raisable : (x : ℕ) → x < k.exceptions → x < length code.exceptions.items) (fails : IsException code program_error) where
+-- there, with slots for its formals; the collection of each access type stands in its slot of one of the masters around; the operations of a
+-- record type are declared inside as many masters as its level says; and Program_Error is an exception of the table
+module _ (code : Code) (records : List RecordType) (k : W.Setting) (declarable : (env : W.Frames) (t : ℕ) → W.HasRecord k env t → IsDeclarable code (length env) t) (may_call : MayCall code k) (may_new : MayNew code k) (seen : MaySee code k) (assignable : (masters t : ℕ) → is_declared_in masters (slice_get records t) ≡ true → IsDeclarable code masters t) (raisable : (x : ℕ) → x < k.exceptions → x < length code.exceptions.items) (fails : IsException code program_error) where
   -- Items ------------------------------------------------------------------------------------------
 
   may_declare : (env : W.Frames) (ty : Ty) → W.InView k env ty → MayDeclare code (length env) ty
@@ -78,29 +82,28 @@ module _ (code : Code) (records : List RecordType) (k : W.Setting) (declarable :
   abbrev GoodItem : W.Frames → ItemCode → Type 0
   GoodItem env x = x.runs records ≡ true → (s : List Kind) → Agrees env s → Formed code (x.code s) s (Some s)
 
-  -- the cell of a slot that a declaration fills
-  filled : (env : W.Frames) (slot : ℕ) (h : W.Holding) (s : List Kind) → Fills env slot h → Agrees env s → (at : ℕ) × (variable_at s 0 slot ≡ Some at)
-  filled env slot h s (D.fills names) agrees = agrees.slots (record { level = length env; slot = slot }) h names refl
+  -- the slot that a declaration fills is there
+  filled : (env : W.Frames) (slot : ℕ) (h : W.Holding) (s : List Kind) → Fills env slot h → Agrees env s → HasSlot s 0 slot
+  filled env slot h s (D.fills names) agrees = newest_slot env s (record { level = length env; slot = slot }) h agrees names refl
 
-  valued_good : (masters slot : ℕ) (ty : Ty) (x : ValueCode) (s : List Kind) → depth s ≡ masters → (at : ℕ) × (variable_at s 0 slot ≡ Some at) → (x.runs records ≡ true → Fine code masters x ty) → (valued slot ty x).runs records ≡ true → Formed code ((valued slot ty x).code s) s (Some s)
-  valued_good masters slot ty x s deep cell fine runs =
+  valued_good : (env : W.Frames) (slot : ℕ) (ty : Ty) (x : ValueCode) (s : List Kind) → Agrees env s → HasSlot s 0 slot → (x.runs records ≡ true → Fine code env x ty) → (valued slot ty x).runs records ≡ true → Formed code ((valued slot ty x).code s) s (Some s)
+  valued_good env slot ty x s agrees there fine runs =
       let g = both_true (is_run_type ty) (x.runs records) runs in
-      valued_formed code masters slot cell.0 ty x s deep cell.1 (usable_as code masters x ty (run_scalar ty g.0) (fine g.1))
+      valued_formed code env slot ty x s agrees there (usable_as code env x ty (run_scalar ty g.0) (fine g.1))
 
   -- a declaration with a value
-  given_good : (env : W.Frames) (slot : ℕ) (ty : Ty) (e : Expr) {s : List Kind} → W.InView k env ty → (at : ℕ) × (variable_at s 0 slot ≡ Some at) → ((t : ℕ) → IsFound code (length env) records (copied t (value_code e))) → ((value_code e).runs records ≡ true → Fine code (length env) (value_code e) ty) → (with_value slot ty (value_code e)).runs records ≡ true → Agrees env s → Formed code ((with_value slot ty (value_code e)).code s) s (Some s)
-  given_good env slot (Record t) e {s} view cell found fine runs agrees = copy_formed code records slot t (copied t (value_code e)) s (subst (λ n. IsFound code n records (copied t (value_code e))) (sym agrees.deep) (found t)) runs (subst (λ n. IsDeclarable code n t) (sym agrees.deep) (declarable env t view))
-  given_good env slot Integer e {s} view cell found fine runs agrees = valued_good (length env) slot Integer (value_code e) s agrees.deep cell fine runs
-  given_good env slot Count e {s} view cell found fine runs agrees = valued_good (length env) slot Count (value_code e) s agrees.deep cell fine runs
-  given_good env slot Boolean e {s} view cell found fine runs agrees = valued_good (length env) slot Boolean (value_code e) s agrees.deep cell fine runs
-  given_good env slot Address e {s} view cell found fine runs agrees = valued_good (length env) slot Address (value_code e) s agrees.deep cell fine runs
-  given_good env slot Handle e {s} view cell found fine runs agrees = valued_good (length env) slot Handle (value_code e) s agrees.deep cell fine runs
-  given_good env slot (Access a) e {s} view cell found fine runs agrees = valued_good (length env) slot (Access a) (value_code e) s agrees.deep cell fine runs
+  given_good : (env : W.Frames) (slot : ℕ) (ty : Ty) (e : Expr) {s : List Kind} → W.InView k env ty → HasSlot s 0 slot → ((t : ℕ) → IsFound code env records (copied t (value_code e))) → ((value_code e).runs records ≡ true → Fine code env (value_code e) ty) → (with_value slot ty (value_code e)).runs records ≡ true → Agrees env s → Formed code ((with_value slot ty (value_code e)).code s) s (Some s)
+  given_good env slot (Record t) e {s} view there found fine runs agrees = copy_formed code env records slot t (copied t (value_code e)) s agrees there (found t) runs (subst (λ n. IsDeclarable code n t) (sym agrees.0) (declarable env t view))
+  given_good env slot Integer e {s} view there found fine runs agrees = valued_good env slot Integer (value_code e) s agrees there fine runs
+  given_good env slot Count e {s} view there found fine runs agrees = valued_good env slot Count (value_code e) s agrees there fine runs
+  given_good env slot Boolean e {s} view there found fine runs agrees = valued_good env slot Boolean (value_code e) s agrees there fine runs
+  given_good env slot Address e {s} view there found fine runs agrees = valued_good env slot Address (value_code e) s agrees there fine runs
+  given_good env slot Handle e {s} view there found fine runs agrees = valued_good env slot Handle (value_code e) s agrees there fine runs
+  given_good env slot (Access a) e {s} view there found fine runs agrees = valued_good env slot (Access a) (value_code e) s agrees there fine runs
 
   object_good : (env : W.Frames) (slot : ℕ) (ty : Ty) (o : Option Expr) → Fills env slot (W.Declared ty) → W.InView k env ty → Perhaps k env o ty → GoodItem env (item_code (Object slot ty o))
   object_good env slot ty None fresh view T.left_out runs s agrees =
-      let cell = filled env slot (W.Declared ty) s fresh agrees in
-      declaration_formed code records slot cell.0 ty s runs cell.1 (subst (λ n. MayDeclare code n ty) (sym agrees.deep) (may_declare env ty view))
+      declaration_formed code records slot ty s runs (filled env slot (W.Declared ty) s fresh agrees) (subst (λ n. MayDeclare code n ty) (sym agrees.0) (may_declare env ty view))
   object_good env slot ty (Some e) fresh view (T.given h) runs s agrees = given_good env slot ty e view (filled env slot (W.Declared ty) s fresh agrees) (λ t. copied_found code records k may_call may_new t h) (typed_fine code records k may_call may_new h) runs agrees
 
   -- each collection is made in the master of its access type
@@ -109,9 +112,8 @@ module _ (code : Code) (records : List RecordType) (k : W.Setting) (declarable :
   gathers_good {env} (D.one_more_collection {a = a} {more = more} of level names rest) count s agrees =
       let least = named_level names in
       let gather = InstrOf.Gather a (Layout.layer_of more (count + 1)) in
-      let around = seen env a of in
       both code ((gather, s) ∷ []) (gathers_code more (count + 1) s) s s (Some s)
-      (one code gather s (Some s) (λ p next. ((around.0, around.1), omega (arith, least, level, agrees.deep), next)))
+      (one code gather s (Some s) (λ p next. ((Layout.home_of of.is, (seen env a of).0, level ∙ sym agrees.0, newest_slot env s of.is.collection (W.Collection a) agrees names level), (let deep = agrees.0 in omega (arith, least, level, deep)), next)))
       (gathers_good rest (count + 1) s agrees)
 
   collections_good : {env : W.Frames} (as' : List ℕ) → D.Gathers k env as' → GoodItem env (item_code (Collections as'))
@@ -119,30 +121,29 @@ module _ (code : Code) (records : List RecordType) (k : W.Setting) (declarable :
   collections_good (a ∷ more) h = λ runs s agrees. gathers_good h 0 s agrees
 
   -- a block pool is declared with a value for each of its discriminants
-  ordered_good : (env : W.Frames) (slot t : ℕ) (o : Option DiscriminantOrder) (x y : Expr) → W.InView k env (Record t) → T.Typed k env x Count → T.Typed k env y Count → GoodItem env (ordered_pool slot t o (value_code x) (value_code y))
-  ordered_good env slot t None x y view h g = λ runs s agrees. absurd (cc)
-  ordered_good env slot t (Some order) x y view h g = λ runs s agrees.
-      let masters = length env in
+  ordered_good : (env : W.Frames) (slot t : ℕ) (o : Option DiscriminantOrder) (x y : Expr) → Fills env slot (W.Declared (Record t)) → W.InView k env (Record t) → T.Typed k env x Count → T.Typed k env y Count → GoodItem env (ordered_pool slot t o (value_code x) (value_code y))
+  ordered_good env slot t None x y fresh view h g = λ runs s agrees. absurd (cc)
+  ordered_good env slot t (Some order) x y fresh view h g = λ runs s agrees.
       let both_run = (both_true (is_pool records t) ((value_code x).runs records && (value_code y).runs records) runs).1 in
       let each_runs = both_true ((value_code x).runs records) ((value_code y).runs records) both_run in
-      let usable = λ (e : Expr) (fine : Fine code masters (value_code e) Count). usable_as code masters (value_code e) Count tt fine in
-      pool_formed code masters slot t order (value_code x) (value_code y) s agrees.deep
+      let usable = λ (e : Expr) (fine : Fine code env (value_code e) Count). usable_as code env (value_code e) Count tt fine in
+      pool_formed code env slot t order (value_code x) (value_code y) s agrees (filled env slot (W.Declared (Record t)) s fresh agrees)
       (usable x (typed_fine code records k may_call may_new h each_runs.0))
       (usable y (typed_fine code records k may_call may_new g each_runs.1))
-      (subst (λ n. IsDeclarable code n t) (sym agrees.deep) (declarable env t view))
+      (subst (λ n. IsDeclarable code n t) (sym agrees.0) (declarable env t view))
 
   -- which are both of them, in one order or the other
-  pool_good : {env : W.Frames} {r : Root} {ds : List Association} (slot t : ℕ) → W.InView k env (Record t) → D.Given k env r ds → GoodItem env (item_code (Pool slot t ds))
-  pool_good slot t view D.no_more_values = λ runs s agrees. absurd (cc)
-  pool_good slot t view (D.one_more_value d h D.no_more_values) = λ runs s agrees. absurd (cc)
-  pool_good {env} slot t view (D.one_more_value {i = i} {x = x} d h (D.one_more_value {i = j} {x = y} e g D.no_more_values)) = ordered_good env slot t (order_of i j) x y view h g
-  pool_good slot t view (D.one_more_value d h (D.one_more_value e g (D.one_more_value f m rest))) = λ runs s agrees. absurd (cc)
+  pool_good : {env : W.Frames} {r : Root} {ds : List Association} (slot t : ℕ) → Fills env slot (W.Declared (Record t)) → W.InView k env (Record t) → D.Given k env r ds → GoodItem env (item_code (Pool slot t ds))
+  pool_good slot t fresh view D.no_more_values = λ runs s agrees. absurd (cc)
+  pool_good slot t fresh view (D.one_more_value d h D.no_more_values) = λ runs s agrees. absurd (cc)
+  pool_good {env} slot t fresh view (D.one_more_value {i = i} {x = x} d h (D.one_more_value {i = j} {x = y} e g D.no_more_values)) = ordered_good env slot t (order_of i j) x y fresh view h g
+  pool_good slot t fresh view (D.one_more_value d h (D.one_more_value e g (D.one_more_value f m rest))) = λ runs s agrees. absurd (cc)
 
   item_good : {env : W.Frames} {x : Item} → Elaborated k env x → GoodItem env (item_code x)
   item_good {env} (D.object {number = slot} {t = ty} {value = o} fresh view perhaps) = object_good env slot ty o fresh view perhaps
   item_good D.silent = λ runs s agrees. none code s
   item_good (D.collections {as' = as'} gathers) = collections_good as' gathers
-  item_good (D.pool {number = slot} {t = t} fresh view rooted pool long given) = pool_good slot t view given
+  item_good (D.pool {number = slot} {t = t} fresh view rooted pool long given) = pool_good slot t fresh view given
 
   items_good : {env : W.Frames} {xs : List Item} → ElaboratedEach k env xs → GoodItem env (all_items (map item_code xs))
   items_good D.no_more_items = λ runs s agrees. none code s
@@ -165,71 +166,74 @@ module _ (code : Code) (records : List RecordType) (k : W.Setting) (declarable :
   not_missing : (env : W.Frames) (x : StatementCode) → x ≡ missing_statement → GoodStatement env x
   not_missing env x same runs = absurd (let e = sym (ap (λ (z : StatementCode). z.runs (site env)) same) ∙ runs in cc)
 
-  assign_good : (env : W.Frames) (o : Option Reached) (x : ValueCode) (t : Ty) → IsFound code (length env) records o → (x.runs records ≡ true → Fine code (length env) x t) → GoodStatement env (assign o x)
+  assign_good : (env : W.Frames) (o : Option Reached) (x : ValueCode) (t : Ty) → IsFound code env records o → (x.runs records ≡ true → Fine code env x t) → GoodStatement env (assign o x)
   assign_good env None x t found fine runs a n p agrees texts can = absurd (cc)
   assign_good env (Some (Object b steps)) x t found fine runs a n p agrees texts can = absurd (cc)
   assign_good env (Some (Part b steps u position)) x t found fine runs a n p agrees texts can =
       let e = both_true (parts_run records b steps u) (x.runs records) runs in
-      assign_part_formed code (length env) b steps u position x a.stack agrees.deep found.0 (found.1 (both_true _ _ e.0).0) (value_usable code (length env) x t (fine e.1)) p
-  assign_good env (Some (Variable v)) x t found fine runs a n p agrees texts can = assign_formed code (length env) (local_at a.stack v) v x a.stack agrees.deep refl (value_usable code (length env) x t (fine runs)) p
+      assign_part_formed code env b steps u position x a.stack agrees found.0 (found.1 (both_true _ _ e.0).0) (value_usable code env x t (fine e.1)) p
+  assign_good env (Some (Variable v)) x t found fine runs a n p agrees texts can = assign_formed code env (local_at a.stack v) v x a.stack agrees (found.1 refl) refl (value_usable code env x t (fine runs)) p
 
-  record_good : (env : W.Frames) (o : Option Reached) (t : ℕ) (q : Option Reached) → IsFound code (length env) records o → IsFound code (length env) records q → GoodStatement env (assign_record o t q)
+  record_good : (env : W.Frames) (o : Option Reached) (t : ℕ) (q : Option Reached) → IsFound code env records o → IsFound code env records q → GoodStatement env (assign_record o t q)
   record_good env None t q to from runs a n p agrees texts can = absurd (cc)
   record_good env (Some target) t None to from runs a n p agrees texts can = absurd (cc)
   record_good env (Some target) t (Some source) to from runs a n p agrees texts can =
       let e = both_true (part_runs target records) (part_runs source records && is_assignable (site env) t) runs in
       let f = both_true (part_runs source records) (is_assignable (site env) t) e.1 in
-      record_formed code (length env) records target source t a.stack agrees.deep to from (part_begun records target e.0) (part_begun records source f.0) (subst (λ n. IsDeclarable code n t) (sym agrees.deep) (assignable (length env) t (both_true _ _ f.1).1)) p
+      record_formed code env records target source t a.stack agrees to from (part_begun records target e.0) (part_begun records source f.0) (subst (λ n. IsDeclarable code n t) (sym agrees.0) (assignable (length env) t (both_true _ _ f.1).1)) p
 
-  free_good : (env : W.Frames) (access : ℕ) (o : Option Reached) → IsFound code (length env) records o → HasCollection code (length env) access → GoodStatement env (free access o)
-  free_good env access None found around runs a n p agrees texts can = absurd (cc)
-  free_good env access (Some (Object b steps)) found around runs a n p agrees texts can = absurd (cc)
-  free_good env access (Some (Part b steps t position)) found around runs a n p agrees texts can =
-      free_part_formed code access b steps t position a.stack fails found.0 (subst (λ m. IsBegun code m b) (sym agrees.deep) (found.1 (both_true _ _ runs).0)) (subst (λ m. HasCollection code m access) (sym agrees.deep) around) p
-  free_good env access (Some (Variable v)) found around runs a n p agrees texts can = free_formed code access (out_to a.stack v) v.slot a.stack fails (subst (λ m. HasCollection code m access) (sym agrees.deep) around) p
+  free_good : (env : W.Frames) (access : ℕ) (o : Option Reached) → IsFound code env records o → IsHoused code env access → GoodStatement env (free access o)
+  free_good env access None found housed runs a n p agrees texts can = absurd (cc)
+  free_good env access (Some (Object b steps)) found housed runs a n p agrees texts can = absurd (cc)
+  free_good env access (Some (Part b steps t position)) found housed runs a n p agrees texts can =
+      free_part_formed code env access b steps t position a.stack agrees fails found.0 (found.1 (both_true _ _ runs).0) (housed a.stack agrees) p
+  free_good env access (Some (Variable v)) found housed runs a n p agrees texts can =
+      let named = found.1 refl in
+      free_formed code access (out_to a.stack v) v.slot a.stack fails (housed a.stack agrees) (agrees.1 v named.0 named.1) p
 
   -- The library's Allocate and Deallocate, which are run for a pool in a variable (13.11) -----------
 
   -- a value of a scalar type
-  usable_typed : (env : W.Frames) (e : Expr) (t : Ty) → T.Typed k env e t → IsScalar t → (value_code e).runs records ≡ true → Usable code (length env) (value_code e) t
-  usable_typed env e t typed scalar runs = usable_as code (length env) (value_code e) t scalar (typed_fine code records k may_call may_new typed runs)
+  usable_typed : (env : W.Frames) (e : Expr) (t : Ty) → T.Typed k env e t → IsScalar t → (value_code e).runs records ≡ true → Usable code env (value_code e) t
+  usable_typed env e t typed scalar runs = usable_as code env (value_code e) t scalar (typed_fine code records k may_call may_new typed runs)
 
-  allocate_good : (env : W.Frames) (p o : Option Reached) (size alignment : Expr) → T.Typed k env size Count → T.Typed k env alignment Count → GoodStatement env (library_allocate p o (value_code size) (value_code alignment))
-  allocate_good env None o size alignment h g runs a n q agrees texts can = absurd (cc)
-  allocate_good env (Some (Part b steps t position)) o size alignment h g runs a n q agrees texts can = absurd (cc)
-  allocate_good env (Some (Object b steps)) o size alignment h g runs a n q agrees texts can = absurd (cc)
-  allocate_good env (Some (Variable p)) None size alignment h g runs a n q agrees texts can = absurd (cc)
-  allocate_good env (Some (Variable p)) (Some (Part b steps t position)) size alignment h g runs a n q agrees texts can = absurd (cc)
-  allocate_good env (Some (Variable p)) (Some (Object b steps)) size alignment h g runs a n q agrees texts can = absurd (cc)
-  allocate_good env (Some (Variable p)) (Some (Variable v)) size alignment h g runs a n q agrees texts can =
+  allocate_good : (env : W.Frames) (p o : Option Reached) (size alignment : Expr) → IsFound code env records p → IsFound code env records o → T.Typed k env size Count → T.Typed k env alignment Count → GoodStatement env (library_allocate p o (value_code size) (value_code alignment))
+  allocate_good env None o size alignment pool target h g runs a n q agrees texts can = absurd (cc)
+  allocate_good env (Some (Part b steps t position)) o size alignment pool target h g runs a n q agrees texts can = absurd (cc)
+  allocate_good env (Some (Object b steps)) o size alignment pool target h g runs a n q agrees texts can = absurd (cc)
+  allocate_good env (Some (Variable p)) None size alignment pool target h g runs a n q agrees texts can = absurd (cc)
+  allocate_good env (Some (Variable p)) (Some (Part b steps t position)) size alignment pool target h g runs a n q agrees texts can = absurd (cc)
+  allocate_good env (Some (Variable p)) (Some (Object b steps)) size alignment pool target h g runs a n q agrees texts can = absurd (cc)
+  allocate_good env (Some (Variable p)) (Some (Variable v)) size alignment pool target h g runs a n q agrees texts can =
       let e = both_true ((value_code size).runs records) ((value_code alignment).runs records && true) runs in
       let f = both_true ((value_code alignment).runs records) true e.1 in
-      allocate_formed code (length env) p (out_to a.stack v) v.slot (value_code size) (value_code alignment) a.stack agrees.deep (usable_typed env size Count h tt e.0) (usable_typed env alignment Count g tt f.0) q
+      let takes = target.1 refl in
+      allocate_formed code env p (out_to a.stack v) v.slot (value_code size) (value_code alignment) a.stack agrees (pool.1 refl) (agrees.1 v takes.0 takes.1) (usable_typed env size Count h tt e.0) (usable_typed env alignment Count g tt f.0) q
 
-  deallocate_good : (env : W.Frames) (p : Option Reached) (address size alignment : Expr) → T.Typed k env address Address → T.Typed k env size Count → T.Typed k env alignment Count → GoodStatement env (library_deallocate p (value_code address) (value_code size) (value_code alignment))
-  deallocate_good env None address size alignment h g m runs a n q agrees texts can = absurd (cc)
-  deallocate_good env (Some (Part b steps t position)) address size alignment h g m runs a n q agrees texts can = absurd (cc)
-  deallocate_good env (Some (Object b steps)) address size alignment h g m runs a n q agrees texts can = absurd (cc)
-  deallocate_good env (Some (Variable p)) address size alignment h g m runs a n q agrees texts can =
+  deallocate_good : (env : W.Frames) (p : Option Reached) (address size alignment : Expr) → IsFound code env records p → T.Typed k env address Address → T.Typed k env size Count → T.Typed k env alignment Count → GoodStatement env (library_deallocate p (value_code address) (value_code size) (value_code alignment))
+  deallocate_good env None address size alignment pool h g m runs a n q agrees texts can = absurd (cc)
+  deallocate_good env (Some (Part b steps t position)) address size alignment pool h g m runs a n q agrees texts can = absurd (cc)
+  deallocate_good env (Some (Object b steps)) address size alignment pool h g m runs a n q agrees texts can = absurd (cc)
+  deallocate_good env (Some (Variable p)) address size alignment pool h g m runs a n q agrees texts can =
       let e = both_true ((value_code address).runs records) ((value_code size).runs records && ((value_code alignment).runs records && true)) runs in
       let f = both_true ((value_code size).runs records) ((value_code alignment).runs records && true) e.1 in
       let last = both_true ((value_code alignment).runs records) true f.1 in
-      deallocate_formed code (length env) p (value_code address) (value_code size) (value_code alignment) a.stack agrees.deep (usable_typed env address Address h tt e.0) (usable_typed env size Count g tt f.0) (usable_typed env alignment Count m tt last.0) q
+      deallocate_formed code env p (value_code address) (value_code size) (value_code alignment) a.stack agrees (pool.1 refl) (usable_typed env address Address h tt e.0) (usable_typed env size Count g tt f.0) (usable_typed env alignment Count m tt last.0) q
 
   call_good : {env : W.Frames} {f : ℕ} {is : W.Signature} {actuals : List Actual} → W.Callable k env f is → is.result ≡ None → T.FitEach k env is.formals actuals → GoodStatement env (call f (map actual_code actuals))
   call_good {env} {f} {is} {actuals} can_call gives fits = λ runs a n p agrees texts can.
-      call_formed code (length env) f (map actual_code actuals) a.stack agrees.deep (may_call env f is can_call).0 (has_formals code k may_call can_call gives fits) (actuals_good code records k may_call may_new fits runs) p
+      call_formed code env f (map actual_code actuals) a.stack agrees (may_call env f is can_call).0 (has_formals code k may_call can_call gives fits) (actuals_good code records k may_call may_new fits runs) p
 
   leaving_good : {env : W.Frames} (o : Option Expr) → Perhaps k env o Boolean → GoodStatement env (exit (option_map value_code o))
   leaving_good {env} None T.left_out runs = leaves_stay code env
-  leaving_good {env} (Some e) (T.given h) runs = leaves_when_stay code env (value_code e) (usable_as code (length env) (value_code e) Boolean tt (typed_fine code records k may_call may_new h runs))
+  leaving_good {env} (Some e) (T.given h) runs = leaves_when_stay code env (value_code e) (usable_as code env (value_code e) Boolean tt (typed_fine code records k may_call may_new h runs))
 
   returning_good : {env : W.Frames} {gives : Option Ty} (o : Option Expr) → Returns k env gives o → GoodStatement env (return (option_map value_code o))
   returning_good None D.nothing runs = λ a n p agrees texts can. one code (InstrOf.Transfer WayOf.Return) a.stack (Some a.stack) (λ q next. tt) p
   returning_good {env} (Some e) (D.result {t = t} h) runs = λ a n p agrees texts can.
       let x = value_code e in
       let g = both_true (is_run_type (value_type x)) (x.runs records) runs in
-      returned_formed code (length env) x a.stack agrees.deep (value_usable code (length env) x t (typed_fine code records k may_call may_new h g.1)) p
+      returned_formed code env x a.stack agrees (value_usable code env x t (typed_fine code records k may_call may_new h g.1)) p
 
   -- Masters ------------------------------------------------------------------------------------------
 
@@ -284,8 +288,8 @@ module _ (code : Code) (records : List RecordType) (k : W.Setting) (declarable :
     pub statement_good : {env : W.Frames} {a : D.Around} {y : Stmt} → Done k env a y → GoodStatement env (statement_code y)
     statement_good {env} D.null = good_as env _ _ (layer_of _ (sym rolls-Null)) (λ runs a n p agrees texts can. none code a.stack p)
     statement_good {env} (D.assign {x = x} {v = v} {t = t} scalar denotes h) = good_as env _ _ (layer_of _ (sym (rolls-Assign x v))) (assign_good env (reached_by x) (value_code v) t (name_found code records k may_call may_new denotes) (λ runs. typed_fine code records k may_call may_new h runs))
-    statement_good {env} (D.put {ps = ps} puts) = good_as env _ _ (layer_of _ (sym (rolls-Put ps))) (λ runs a n p agrees texts can. print_formed code records k may_call may_new false n ps puts runs texts.0 a.stack agrees.deep p)
-    statement_good {env} (D.put_line {ps = ps} puts) = good_as env _ _ (layer_of _ (sym (rolls-PutLine ps))) (λ runs a n p agrees texts can. print_formed code records k may_call may_new true n ps puts runs texts.0 a.stack agrees.deep p)
+    statement_good {env} (D.put {ps = ps} puts) = good_as env _ _ (layer_of _ (sym (rolls-Put ps))) (λ runs a n p agrees texts can. print_formed code records k may_call may_new false n ps puts runs texts.0 a.stack agrees p)
+    statement_good {env} (D.put_line {ps = ps} puts) = good_as env _ _ (layer_of _ (sym (rolls-PutLine ps))) (λ runs a n p agrees texts can. print_formed code records k may_call may_new true n ps puts runs texts.0 a.stack agrees p)
     statement_good {env} D.new_line = good_as env _ _ (layer_of _ (sym rolls-NewLine)) (λ runs a n p agrees texts can. one code InstrOf.NewLine a.stack (Some a.stack) (λ q next. next) p)
     statement_good {env} (D.raise {x = x} known) = good_as env _ _ (layer_of _ (sym (rolls-Raise x))) (λ runs a n p agrees texts can. one code (InstrOf.Transfer (WayOf.Raise x)) a.stack (Some a.stack) (λ q next. raisable x known) p)
     statement_good {env} (D.return {x = o} returns) = good_as env _ _ (layer_of _ (sym (rolls-Return o))) (returning_good o returns)
@@ -300,7 +304,7 @@ module _ (code : Code) (records : List RecordType) (k : W.Setting) (declarable :
         good_as env _ _ (layer_of _ (sym (rolls-While e body))) (λ runs.
         let b = all (map statement_code body) in
         let g = both_true ((value_code e).runs records) (b.runs (site env)) runs in
-        loop_stays code env (tested (value_code e) b) (tested_turns code env (value_code e) b (usable_as code (length env) (value_code e) Boolean tt (typed_fine code records k may_call may_new t g.0)) (each_good h g.1)))
+        loop_stays code env (tested (value_code e) b) (tested_turns code env (value_code e) b (usable_as code env (value_code e) Boolean tt (typed_fine code records k may_call may_new t g.0)) (each_good h g.1)))
     statement_good {env} (D.for {number = number} {way = way} {low = low} {high = high} {body = body} (D.fills names) from to h) =
         let v : Var = record { level = length env; slot = number } in
         good_as env _ _ (layer_of _ (sym (rolls-For v way low high body))) (λ runs.
@@ -308,17 +312,17 @@ module _ (code : Code) (records : List RecordType) (k : W.Setting) (declarable :
         let e = both_true ((value_code low).runs records) ((value_code high).runs records && b.runs (site env)) runs in
         let g = both_true ((value_code high).runs records) (b.runs (site env)) e.1 in
         for_stays code env v way (value_code low) (value_code high) b (λ s agrees. newest_there env s v W.LoopParameter agrees names refl)
-        (usable_as code (length env) (value_code low) Integer tt (typed_fine code records k may_call may_new from e.0))
-        (usable_as code (length env) (value_code high) Integer tt (typed_fine code records k may_call may_new to g.0))
+        (usable_as code env (value_code low) Integer tt (typed_fine code records k may_call may_new from e.0))
+        (usable_as code env (value_code high) Integer tt (typed_fine code records k may_call may_new to g.0))
         (each_good h g.1))
     statement_good {env} (D.block {m = m} {f = f} h) = good_as env _ _ (layer_of _ (sym (rolls-Block m))) (block_good env f (master_code m) (slots_told h) (master_good h))
     statement_good {env} (D.assign_record {x = x} {t = t} {v = v} denotes fits) = good_as env _ _ (layer_of _ (sym (rolls-AssignRecord x t v))) (record_good env (reached_by x) t (sourced v) (name_found code records k may_call may_new denotes) (source_found code records k may_call may_new fits))
     statement_good {env} (D.call {s = f} {actuals = actuals} can_call gives fits) = good_as env _ _ (layer_of _ (sym (rolls-Call f actuals))) (call_good can_call gives fits)
     statement_good {env} (D.nothing_done {x = x} views) = not_missing env _ (layer_of _ (sym (rolls-Nothing x)))
     statement_good {env} (D.dispatch {o = o} {x = x} views) = not_missing env _ (layer_of _ (sym (rolls-Dispatch o x)))
-    statement_good {env} (D.library_allocate {p = p} {x = x} {size = size} {alignment = alignment} views rooted denotes h g) = good_as env _ _ (layer_of _ (sym (rolls-LibraryAllocate p x size alignment))) (allocate_good env (reached_by p) (reached_by x) size alignment h g)
-    statement_good {env} (D.library_deallocate {p = p} {x = x} {size = size} {alignment = alignment} views rooted address h g) = good_as env _ _ (layer_of _ (sym (rolls-LibraryDeallocate p x size alignment))) (deallocate_good env (reached_by p) x size alignment address h g)
-    statement_good {env} (D.free {t = t} {x = x} has denotes) = good_as env _ _ (layer_of _ (sym (rolls-Free t x))) (free_good env t (reached_by x) (name_found code records k may_call may_new denotes) (seen env t has))
+    statement_good {env} (D.library_allocate {p = p} {x = x} {size = size} {alignment = alignment} (T.view covers denotes_pool) rooted denotes h g) = good_as env _ _ (layer_of _ (sym (rolls-LibraryAllocate p x size alignment))) (allocate_good env (reached_by p) (reached_by x) size alignment (name_found code records k may_call may_new denotes_pool) (name_found code records k may_call may_new denotes) h g)
+    statement_good {env} (D.library_deallocate {p = p} {x = x} {size = size} {alignment = alignment} (T.view covers denotes) rooted address h g) = good_as env _ _ (layer_of _ (sym (rolls-LibraryDeallocate p x size alignment))) (deallocate_good env (reached_by p) x size alignment (name_found code records k may_call may_new denotes) address h g)
+    statement_good {env} (D.free {t = t} {x = x} has denotes) = good_as env _ _ (layer_of _ (sym (rolls-Free t x))) (free_good env t (reached_by x) (name_found code records k may_call may_new denotes) (seen env t has).1)
     statement_good {env} (D.release {x = x} denotes) = not_missing env _ (layer_of _ (sym (rolls-Release x)))
     statement_good {env} (D.raise_again handles) = good_as env _ _ (layer_of _ (sym rolls-RaiseAgain)) (λ runs a n p agrees texts can. one code InstrOf.RaiseAgain a.stack (Some a.stack) (λ q next. tt) p)
 
@@ -336,7 +340,7 @@ module _ (code : Code) (records : List RecordType) (k : W.Setting) (declarable :
         let b = all (map statement_code body) in
         let f = both_true ((value_code e).runs records) (b.runs (site env) && arms_run (map arm_code more) (site env)) runs in
         let g = both_true (b.runs (site env)) (arms_run (map arm_code more) (site env)) f.1 in
-        (tested_turns code env (value_code e) b (usable_as code (length env) (value_code e) Boolean tt (typed_fine code records k may_call may_new t f.0)) (each_good h g.0), arms_good rest g.1))
+        (tested_turns code env (value_code e) b (usable_as code env (value_code e) Boolean tt (typed_fine code records k may_call may_new t f.0)) (each_good h g.0), arms_good rest g.1))
 
     handlers_good : {env : W.Frames} {a : D.Around} {ys : List Handler} → HandledEach k env a ys → handlers_run (map handler_code ys) (site env) ≡ true → GoodHandlers code env (map handler_code ys)
     handlers_good D.no_more_handlers = λ runs. tt

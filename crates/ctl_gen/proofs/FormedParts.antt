@@ -7,54 +7,56 @@ use Rattle.ctl_program.specs.declared.types.RecordType.{RecordType}
 use Rattle.ctl_program.specs.declared.types.Var.{Var}
 use Rattle.ctl_program.specs.declared.expression.Step.{Step}
 use Rattle.ctl_program.specs.declared.expression.Step.TheVariants.{Component, Dereference, Narrow}
+use Rattle.ctl_well_typed.specs.Setting as W
 use Rattle.ctl_code.specs.declared.kinds.Kind.{Kind}
 use Rattle.ctl_code.specs.declared.kinds.Kind.TheVariants.{Operand}
 use Rattle.ctl_code.specs.declared.code.Cell.{Cell}
 use Rattle.ctl_code.specs.declared.code.Instr.TheVariants as InstrOf
 use Rattle.ctl_code.specs.declared.code.Code.{Code}
-use Rattle.ctl_code.specs.Windows.{depth, height}
+use Rattle.ctl_code.specs.Windows.{HasSlot, depth, height}
 use Rattle.ctl_code.specs.Valid as Valid
 use Rattle.ctl_code.specs.Valid.{IsDeclarable, IsFine, Puts}
 use Rattle.ctl_layout.specs.Around.{local_at, new_operand, out_to, read_from}
 use Rattle.ctl_layout.specs.Parts.{Start, OfVariable, OfValue, Reached, Variable, Part, Object, access_value, are_followed, are_walked, behind_steps, first_type, found, is_begun, is_dereferenced, located_code, part_code, selected, selects_code}
 use Rattle.ctl_layout.specs.Layout.{record_code, take_over_code}
 use Rattle.ctl_gen.proofs.Formed.{Formed, both, none, one}
+use Rattle.ctl_gen.proofs.FormedAround.{Agrees, IsNamed}
 use Rattle.ctl_gen.proofs.Walked.{behind_is, start_of, steps_before}
 
 -- what stands before these steps: an access value where they begin with a dereference, else the part whose component they select
 abbrev before : List Step → ℕ → List Kind → List Kind
 before steps t s = (if is_dereferenced steps then Operand access_value else Operand (Record (first_type steps t))) ∷ s
 
--- inside so many masters the code of what a name begins with is well formed, and puts an access value on top
-abbrev pub IsBegun : Code → ℕ → Start → Type 0
-IsBegun code masters (OfVariable v) = Unit {0}
-IsBegun code masters (OfValue runs lines) = (s : List Kind) → depth s ≡ masters → Formed code (lines s) s (Some (Operand access_value ∷ s))
+-- inside these masters the code of what a name begins with is well formed, and puts an access value on top; a variable is named there
+abbrev pub IsBegun : Code → W.Frames → Start → Type 0
+IsBegun code env (OfVariable v) = IsNamed env v
+IsBegun code env (OfValue runs lines) = (s : List Kind) → Agrees env s → Formed code (lines s) s (Some (Operand access_value ∷ s))
 
 -- so is that of what a name denotes, whose steps are run, where what it begins with is run
-abbrev pub IsFound : Code → ℕ → List RecordType → Option Reached → Type 0
-IsFound code masters records None = Unit {0}
-IsFound code masters records (Some x) = (are_followed (start_of x) (steps_before x) ≡ true) × (is_begun (start_of x) records ≡ true → IsBegun code masters (start_of x))
+abbrev pub IsFound : Code → W.Frames → List RecordType → Option Reached → Type 0
+IsFound code env records None = Unit {0}
+IsFound code env records (Some x) = (are_followed (start_of x) (steps_before x) ≡ true) × (is_begun (start_of x) records ≡ true → IsBegun code env (start_of x))
 
 -- what is found behind these steps
-pub steps_found : (code : Code) (masters : ℕ) (records : List RecordType) (b : Start) (ss : List Step) (o : Option Reached) → behind_steps b ss ≡ o → ((x : Reached) → behind_steps b ss ≡ Some x → is_begun b records ≡ true → IsBegun code masters b) → IsFound code masters records o
-steps_found code masters records b ss None is begun = tt
-steps_found code masters records b ss (Some x) is begun =
+pub steps_found : (code : Code) (env : W.Frames) (records : List RecordType) (b : Start) (ss : List Step) (o : Option Reached) → behind_steps b ss ≡ o → ((x : Reached) → behind_steps b ss ≡ Some x → is_begun b records ≡ true → IsBegun code env b) → IsFound code env records o
+steps_found code env records b ss None is begun = tt
+steps_found code env records b ss (Some x) is begun =
     let h = behind_is b ss x is in
-    (h.walked, λ runs. subst (IsBegun code masters) h.start (begun x is (subst (λ z. is_begun z records ≡ true) (sym h.start) runs)))
+    (h.walked, λ runs. subst (IsBegun code env) h.start (begun x is (subst (λ z. is_begun z records ≡ true) (sym h.start) runs)))
 
 module _ (code : Code) where
   -- the value of a variable goes where it is wanted
-  pub read_fine : (o : Option ℕ) (v : Var) (ty : Ty) (to : Cell) (s : List Kind) (p : ℕ) → local_at s v ≡ o → Valid.IsScalar ty → Puts code p to ty s → IsFine code p (read_from o v ty to s) s
-  read_fine (Some at) v ty to s p here scalar put = (scalar, (s, (refl, here), put))
-  read_fine None v ty to s p here scalar put = (scalar, put)
+  pub read_fine : (o : Option ℕ) (v : Var) (ty : Ty) (to : Cell) (s : List Kind) (p : ℕ) → local_at s v ≡ o → HasSlot s (out_to s v) v.slot → Valid.IsScalar ty → Puts code p to ty s → IsFine code p (read_from o v ty to s) s
+  read_fine (Some at) v ty to s p here slot scalar put = (scalar, (s, (refl, here), put))
+  read_fine None v ty to s p here slot scalar put = (scalar, put, slot)
 
   -- the object in a variable, or the access value that is dereferenced
-  found_formed : (v : Var) (steps : List Step) (t : ℕ) (s : List Kind) → Formed code ((found v steps t s, s) ∷ []) s (Some (before steps t s))
-  found_formed v steps t s = by (is_dereferenced steps)
+  found_formed : (v : Var) (steps : List Step) (t : ℕ) (s : List Kind) → HasSlot s (out_to s v) v.slot → Formed code ((found v steps t s, s) ∷ []) s (Some (before steps t s))
+  found_formed v steps t s slot = by (is_dereferenced steps)
     where
       by : (b : Bool) → Formed code (((if b then read_from (local_at s v) v access_value (new_operand s) s else InstrOf.Locate (out_to s v) v.slot (first_type steps t) (height s)), s) ∷ []) s (Some ((if b then Operand access_value else Operand (Record (first_type steps t))) ∷ s))
-      by true = one code (read_from (local_at s v) v access_value (new_operand s) s) s (Some (Operand access_value ∷ s)) (λ p next. read_fine (local_at s v) v access_value (new_operand s) s p refl tt (refl, next))
-      by false = one code (InstrOf.Locate (out_to s v) v.slot (first_type steps t) (height s)) s (Some (Operand (Record (first_type steps t)) ∷ s)) (λ p next. (refl, next))
+      by true = one code (read_from (local_at s v) v access_value (new_operand s) s) s (Some (Operand access_value ∷ s)) (λ p next. read_fine (local_at s v) v access_value (new_operand s) s p refl slot tt (refl, next))
+      by false = one code (InstrOf.Locate (out_to s v) v.slot (first_type steps t) (height s)) s (Some (Operand (Record (first_type steps t)) ∷ s)) (λ p next. (refl, next, slot))
 
   -- a component in place of the part that has it
   select_formed : (t position part : ℕ) (s : List Kind) → Formed code ((InstrOf.Select t position part, Operand (Record t) ∷ s) ∷ []) (Operand (Record t) ∷ s) (Some (Operand (Record part) ∷ s))
@@ -91,35 +93,35 @@ module _ (code : Code) where
   selects_formed true (Dereference ∷ steps) t s walked = absurd (cc walked)
   selects_formed behind (Narrow u ∷ steps) t s walked = absurd (cc walked)
 
-  -- inside so many masters
-  module _ (masters : ℕ) where
-    pub located_formed : (b : Start) (steps : List Step) (t : ℕ) (s : List Kind) → depth s ≡ masters → are_followed b steps ≡ true → IsBegun code masters b → Formed code (located_code b steps t s) s (Some (Operand (Record t) ∷ s))
-    located_formed (OfVariable v) steps t s deep followed begun =
+  -- inside these masters
+  module _ (env : W.Frames) where
+    pub located_formed : (b : Start) (steps : List Step) (t : ℕ) (s : List Kind) → Agrees env s → are_followed b steps ≡ true → IsBegun code env b → Formed code (located_code b steps t s) s (Some (Operand (Record t) ∷ s))
+    located_formed (OfVariable v) steps t s agrees followed begun =
         both code ((found v steps t s, s) ∷ []) (selects_code steps t s) s (before steps t s) (Some (Operand (Record t) ∷ s))
-        (found_formed v steps t s)
+        (found_formed v steps t s (agrees.1 v begun.0 begun.1))
         (selects_formed false steps t s followed)
-    located_formed (OfValue runs lines) (Dereference ∷ steps) t s deep followed begun =
+    located_formed (OfValue runs lines) (Dereference ∷ steps) t s agrees followed begun =
         both code (lines s) (selects_code (Dereference ∷ steps) t s) s (before (Dereference ∷ steps) t s) (Some (Operand (Record t) ∷ s))
-        (begun s deep)
+        (begun s agrees)
         (selects_formed false (Dereference ∷ steps) t s followed)
-    located_formed (OfValue runs lines) [] t s deep followed begun = absurd (cc followed)
-    located_formed (OfValue runs lines) (Component u i ∷ steps) t s deep followed begun = absurd (cc followed)
-    located_formed (OfValue runs lines) (Narrow u ∷ steps) t s deep followed begun = absurd (cc followed)
+    located_formed (OfValue runs lines) [] t s agrees followed begun = absurd (cc followed)
+    located_formed (OfValue runs lines) (Component u i ∷ steps) t s agrees followed begun = absurd (cc followed)
+    located_formed (OfValue runs lines) (Narrow u ∷ steps) t s agrees followed begun = absurd (cc followed)
 
-    pub part_formed : (x : Reached) (t : ℕ) (s : List Kind) → depth s ≡ masters → are_followed (start_of x) (steps_before x) ≡ true → IsBegun code masters (start_of x) → Formed code (part_code x t s) s (Some (Operand (Record t) ∷ s))
-    part_formed (Variable v) t s deep followed begun = located_formed (OfVariable v) [] t s deep followed begun
-    part_formed (Object b steps) t s deep followed begun = located_formed b steps t s deep followed begun
-    part_formed (Part b steps u position) t s deep followed begun =
+    pub part_formed : (x : Reached) (t : ℕ) (s : List Kind) → Agrees env s → are_followed (start_of x) (steps_before x) ≡ true → IsBegun code env (start_of x) → Formed code (part_code x t s) s (Some (Operand (Record t) ∷ s))
+    part_formed (Variable v) t s agrees followed begun = located_formed (OfVariable v) [] t s agrees followed begun
+    part_formed (Object b steps) t s agrees followed begun = located_formed b steps t s agrees followed begun
+    part_formed (Part b steps u position) t s agrees followed begun =
         both code (located_code b steps u s) ((InstrOf.Select u position t, Operand (Record u) ∷ s) ∷ []) s (Operand (Record u) ∷ s) (Some (Operand (Record t) ∷ s))
-        (located_formed b steps u s deep followed begun)
+        (located_formed b steps u s agrees followed begun)
         (select_formed u position t s)
 
     -- Assignments ------------------------------------------------------------------------------------
 
-    pub record_formed : (records : List RecordType) (target source : Reached) (t : ℕ) (s : List Kind) → depth s ≡ masters → IsFound code masters records (Some target) → IsFound code masters records (Some source) → is_begun (start_of target) records ≡ true → is_begun (start_of source) records ≡ true → IsDeclarable code (depth s) t → Formed code (record_code target t source s) s (Some s)
-    record_formed records target source t s deep to from begun begun1 declarable =
+    pub record_formed : (records : List RecordType) (target source : Reached) (t : ℕ) (s : List Kind) → Agrees env s → IsFound code env records (Some target) → IsFound code env records (Some source) → is_begun (start_of target) records ≡ true → is_begun (start_of source) records ≡ true → IsDeclarable code (depth s) t → Formed code (record_code target t source s) s (Some s)
+    record_formed records target source t s agrees to from begun begun1 declarable =
         let above = Operand (Record t) ∷ s in
         let top = Operand (Record t) ∷ above in
-        both code (part_code target t s) (take_over_code t source above) s above (Some s) (part_formed target t s deep to.0 (to.1 begun))
-        (both code (part_code source t above) ((InstrOf.Assign t, top) ∷ []) above top (Some s) (part_formed source t above deep from.0 (from.1 begun1))
+        both code (part_code target t s) (take_over_code t source above) s above (Some s) (part_formed target t s agrees to.0 (to.1 begun))
+        (both code (part_code source t above) ((InstrOf.Assign t, top) ∷ []) above top (Some s) (part_formed source t above agrees from.0 (from.1 begun1))
         (one code (InstrOf.Assign t) top (Some s) (λ p next. (declarable, (above, refl, (s, refl, next))))))

@@ -15,7 +15,7 @@ use Rattle.ctl_code.specs.declared.code.Instr.{Instr}
 use Rattle.ctl_code.specs.declared.code.Instr.TheVariants as InstrOf
 use Rattle.ctl_code.specs.declared.code.Code.{Code}
 use Rattle.ctl_code.specs.declared.template.TextPart.{TextPart}
-use Rattle.ctl_code.specs.Windows.{depth, height, variable_at}
+use Rattle.ctl_code.specs.Windows.{HasSlot, depth, height, variable_at}
 use Rattle.ctl_code.specs.Valid.{IsCellOf, IsDeclarable, IsException, IsFine, HasCollection, Leads}
 use Rattle.ctl_layout.specs.Parts.{Start, Reached, Variable, are_followed, located_code, part_code, part_runs}
 use Rattle.ctl_layout.specs.Around.{Line, Around, behind, local_at, local_cell, new_operand, newest_at, newest_cell, out_to}
@@ -27,29 +27,31 @@ use Rattle.ctl_layout.proofs.Extensions.{both_true}
 use Rattle.ctl_gen.proofs.Place.{HasAt}
 use Rattle.ctl_gen.proofs.Place as Place
 use Rattle.ctl_gen.proofs.Formed.{both, both_at, Formed, FormedAt, has_end, leads_at, none, one}
-use Rattle.ctl_gen.proofs.FormedAround.{Agrees, CanLeave, agrees_under, leave_behind, leaves_formed}
+use Rattle.ctl_gen.proofs.FormedAround.{Agrees, CanLeave, IsNamed, cell_there, leave_behind, leaves_formed}
 use Rattle.ctl_gen.proofs.FormedLines.{loop_formed, test_formed, turns_formed}
 use Rattle.ctl_gen.proofs.FormedParts.{IsBegun, IsFound, located_formed, part_formed}
 use Rattle.ctl_gen.proofs.Walked.{part_begun}
-use Rattle.ctl_gen.proofs.FormedValues.{Usable, found}
+use Rattle.ctl_gen.proofs.FormedValues.{Usable, found, taken_slot}
 
 module _ (code : Code) where
   -- Items ------------------------------------------------------------------------------------------
 
   -- an elementary variable without a value
-  scalar_formed : (slot at : ℕ) (ty : Ty) (s : List Kind) → variable_at s 0 slot ≡ Some at → IsCellOf ty 0 → Formed code (scalar_code (variable_at s 0 slot) slot ty s) s (Some s)
-  scalar_formed slot at ty s there cell =
-      subst (λ o. Formed code (scalar_code o slot ty s) s (Some s)) (sym there)
-      (both code ((InstrOf.Set 0 ty (newest_cell slot at), s) ∷ []) ((InstrOf.Number, s) ∷ []) s s (Some s)
-      (one code (InstrOf.Set 0 ty (newest_cell slot at)) s (Some s) (λ p next. (cell, (there, next))))
+  scalar_formed : (slot : ℕ) (ty : Ty) (s : List Kind) → HasSlot s 0 slot → IsCellOf ty 0 → Formed code (scalar_code (variable_at s 0 slot) slot ty s) s (Some s)
+  scalar_formed slot ty s there zero_cell =
+      let cell = cell_there s slot there in
+      subst (λ o. Formed code (scalar_code o slot ty s) s (Some s)) (sym cell.1)
+      (both code ((InstrOf.Set 0 ty (newest_cell slot cell.0), s) ∷ []) ((InstrOf.Number, s) ∷ []) s s (Some s)
+      (one code (InstrOf.Set 0 ty (newest_cell slot cell.0)) s (Some s) (λ p next. (zero_cell, (cell.1, next))))
       (one code InstrOf.Number s (Some s) (λ p next. next)))
 
   -- and one with a value
-  pub valued_formed : (masters slot at : ℕ) (ty : Ty) (x : ValueCode) (s : List Kind) → depth s ≡ masters → variable_at s 0 slot ≡ Some at → Usable code masters x ty → Formed code (valued_code (variable_at s 0 slot) slot ty x s) s (Some s)
-  valued_formed masters slot at ty x s deep there usable =
-      subst (λ o. Formed code (valued_code o slot ty x s) s (Some s)) (sym there)
-      (both code (x.code (newest_cell slot at) ty s) ((InstrOf.Number, s) ∷ []) s s (Some s)
-      (usable.formed (newest_cell slot at) s deep there)
+  pub valued_formed : (env : W.Frames) (slot : ℕ) (ty : Ty) (x : ValueCode) (s : List Kind) → Agrees env s → HasSlot s 0 slot → Usable code env x ty → Formed code (valued_code (variable_at s 0 slot) slot ty x s) s (Some s)
+  valued_formed env slot ty x s agrees there usable =
+      let cell = cell_there s slot there in
+      subst (λ o. Formed code (valued_code o slot ty x s) s (Some s)) (sym cell.1)
+      (both code (x.code (newest_cell slot cell.0) ty s) ((InstrOf.Number, s) ∷ []) s s (Some s)
+      (usable.formed (newest_cell slot cell.0) s agrees cell.1)
       (one code InstrOf.Number s (Some s) (λ p next. next)))
 
   -- a declaration without a value, of a type whose operations are in scope if it is a record type
@@ -57,38 +59,38 @@ module _ (code : Code) where
   MayDeclare masters (Record t) = IsDeclarable code masters t
   MayDeclare masters ty = Unit {0}
 
-  pub declaration_formed : (records : List RecordType) (slot at : ℕ) (ty : Ty) (s : List Kind) → is_declared records ty ≡ true → variable_at s 0 slot ≡ Some at → MayDeclare (depth s) ty → Formed code (declaration slot ty s) s (Some s)
-  declaration_formed records slot at (Record t) s runs there may = one code (InstrOf.Declare slot t) s (Some s) (λ p next. (may, next))
-  declaration_formed records slot at Integer s runs there may = scalar_formed slot at Integer s there tt
-  declaration_formed records slot at Count s runs there may = scalar_formed slot at Count s there tt
-  declaration_formed records slot at Boolean s runs there may = scalar_formed slot at Boolean s there (omega arith)
-  declaration_formed records slot at Address s runs there may = scalar_formed slot at Address s there tt
-  declaration_formed records slot at Handle s runs there may = absurd (cc)
-  declaration_formed records slot at (Access a) s runs there may = scalar_formed slot at (Access a) s there tt
+  pub declaration_formed : (records : List RecordType) (slot : ℕ) (ty : Ty) (s : List Kind) → is_declared records ty ≡ true → HasSlot s 0 slot → MayDeclare (depth s) ty → Formed code (declaration slot ty s) s (Some s)
+  declaration_formed records slot (Record t) s runs there may = one code (InstrOf.Declare slot t) s (Some s) (λ p next. (may, next, there))
+  declaration_formed records slot Integer s runs there may = scalar_formed slot Integer s there tt
+  declaration_formed records slot Count s runs there may = scalar_formed slot Count s there tt
+  declaration_formed records slot Boolean s runs there may = scalar_formed slot Boolean s there (omega arith)
+  declaration_formed records slot Address s runs there may = scalar_formed slot Address s there tt
+  declaration_formed records slot Handle s runs there may = absurd (cc)
+  declaration_formed records slot (Access a) s runs there may = scalar_formed slot (Access a) s there tt
 
   -- one with the value of a part of its record type
-  pub copy_formed : (records : List RecordType) (slot t : ℕ) (o : Option Reached) (s : List Kind) → IsFound code (depth s) records o → (copy slot t o).runs records ≡ true → IsDeclarable code (depth s) t → Formed code ((copy slot t o).code s) s (Some s)
-  copy_formed records slot t None s found_so runs may = absurd (cc)
-  copy_formed records slot t (Some o) s found_so runs may =
+  pub copy_formed : (env : W.Frames) (records : List RecordType) (slot t : ℕ) (o : Option Reached) (s : List Kind) → Agrees env s → HasSlot s 0 slot → IsFound code env records o → (copy slot t o).runs records ≡ true → IsDeclarable code (depth s) t → Formed code ((copy slot t o).code s) s (Some s)
+  copy_formed env records slot t None s agrees there found_so runs may = absurd (cc)
+  copy_formed env records slot t (Some o) s agrees there found_so runs may =
       let over = Operand (Record t) ∷ s in
       let declare = InstrOf.DeclareCopy slot t in
       let begun = found_so.1 (part_begun records o (both_true (is_plain records t) (part_runs o records) runs).1) in
-      both code (part_code o t s) ((declare, over) ∷ []) s over (Some s) (part_formed code (depth s) o t s refl found_so.0 begun)
-      (one code declare over (Some s) (λ p next. (may, (s, refl, next))))
+      both code (part_code o t s) ((declare, over) ∷ []) s over (Some s) (part_formed code env o t s agrees found_so.0 begun)
+      (one code declare over (Some s) (λ p next. (may, (s, refl, next), there)))
 
   -- two values of one type, one after the other
-  two_formed : (masters : ℕ) (ty : Ty) (x y : ValueCode) (s : List Kind) → depth s ≡ masters → Usable code masters x ty → Usable code masters y ty → Formed code (x.code (new_operand s) ty s ++ y.code (new_operand (Operand ty ∷ s)) ty (Operand ty ∷ s)) s (Some (Operand ty ∷ Operand ty ∷ s))
-  two_formed masters ty x y s deep from to =
+  two_formed : (env : W.Frames) (ty : Ty) (x y : ValueCode) (s : List Kind) → Agrees env s → Usable code env x ty → Usable code env y ty → Formed code (x.code (new_operand s) ty s ++ y.code (new_operand (Operand ty ∷ s)) ty (Operand ty ∷ s)) s (Some (Operand ty ∷ Operand ty ∷ s))
+  two_formed env ty x y s agrees from to =
       let one_up = Operand ty ∷ s in
-      both code (x.code (new_operand s) ty s) (y.code (new_operand one_up) ty one_up) s one_up (Some (Operand ty ∷ one_up)) (from.formed (new_operand s) s deep refl) (to.formed (new_operand one_up) one_up deep refl)
+      both code (x.code (new_operand s) ty s) (y.code (new_operand one_up) ty one_up) s one_up (Some (Operand ty ∷ one_up)) (from.formed (new_operand s) s agrees refl) (to.formed (new_operand one_up) one_up agrees refl)
 
   -- a block pool, with its discriminants (3.7.1, 13.11)
-  pub pool_formed : (masters slot t : ℕ) (order : DiscriminantOrder) (x y : ValueCode) (s : List Kind) → depth s ≡ masters → Usable code masters x Count → Usable code masters y Count → IsDeclarable code (depth s) t → Formed code (pool_code slot t order x y s) s (Some s)
-  pool_formed masters slot t order x y s deep from to may =
+  pub pool_formed : (env : W.Frames) (slot t : ℕ) (order : DiscriminantOrder) (x y : ValueCode) (s : List Kind) → Agrees env s → HasSlot s 0 slot → Usable code env x Count → Usable code env y Count → IsDeclarable code (depth s) t → Formed code (pool_code slot t order x y s) s (Some s)
+  pool_formed env slot t order x y s agrees there from to may =
       let two = with_discriminants s in
       let declare = InstrOf.DeclarePool slot t order (height s) in
-      both code (discriminants_code x y s) ((declare, two) ∷ []) s two (Some s) (two_formed masters Count x y s deep from to)
-      (one code declare two (Some s) (λ p next. (may, (s, refl, (refl, next)))))
+      both code (discriminants_code x y s) ((declare, two) ∷ []) s two (Some s) (two_formed env Count x y s agrees from to)
+      (one code declare two (Some s) (λ p next. (may, (s, refl, (refl, next)), there)))
 
   -- Statements -------------------------------------------------------------------------------------
 
@@ -108,23 +110,23 @@ module _ (code : Code) where
       (h a n p agrees (Place.has_front code.texts.items n x.texts (all xs).texts texts) can)
       (rest (behind size a) n1 (p + size) agrees (Place.has_back code.texts.items n x.texts (all xs).texts texts) (leave_behind code p size (p + size) a refl can))
 
-  pub assign_formed : (masters : ℕ) (o : Option ℕ) (v : Var) (x : ValueCode) (s : List Kind) → depth s ≡ masters → local_at s v ≡ o → Usable code masters x (value_type x) → Formed code (assign_code o v x s) s (Some s)
-  assign_formed masters (Some at) v x s deep here usable = usable.formed (local_cell s v at) s deep here
-  assign_formed masters None v x s deep here usable =
+  pub assign_formed : (env : W.Frames) (o : Option ℕ) (v : Var) (x : ValueCode) (s : List Kind) → Agrees env s → IsNamed env v → local_at s v ≡ o → Usable code env x (value_type x) → Formed code (assign_code o v x s) s (Some s)
+  assign_formed env (Some at) v x s agrees named here usable = usable.formed (local_cell s v at) s agrees here
+  assign_formed env None v x s agrees named here usable =
       let h = held x (value_type x) s in
-      let f = found code masters x (value_type x) s deep usable in
+      let f = found code env x (value_type x) s agrees usable in
       let store = InstrOf.Store h.cell (value_type x) (out_to s v) v.slot in
       both code h.code ((store, h.after) ∷ []) s h.after (Some s) f.formed
-      (one code store h.after (Some s) (λ p next. (usable.scalar, (s, f.taken, next))))
+      (one code store h.after (Some s) (λ p next. (usable.scalar, (s, f.taken, next), taken_slot h.cell (value_type x) h.after s (out_to s v) v.slot f.taken (agrees.1 v named.0 named.1))))
 
   -- a value goes into a component of a part
-  pub assign_part_formed : (masters : ℕ) (b : Start) (steps : List Step) (t position : ℕ) (x : ValueCode) (s : List Kind) → depth s ≡ masters → are_followed b steps ≡ true → IsBegun code masters b → Usable code masters x (value_type x) → Formed code (assign_part_code b steps t position x s) s (Some s)
-  assign_part_formed masters b steps t position x s deep followed begun usable =
+  pub assign_part_formed : (env : W.Frames) (b : Start) (steps : List Step) (t position : ℕ) (x : ValueCode) (s : List Kind) → Agrees env s → are_followed b steps ≡ true → IsBegun code env b → Usable code env x (value_type x) → Formed code (assign_part_code b steps t position x s) s (Some s)
+  assign_part_formed env b steps t position x s agrees followed begun usable =
       let over = Operand (Record t) ∷ s in
       let h = held x (value_type x) over in
-      let f = found code masters x (value_type x) over deep usable in
+      let f = found code env x (value_type x) over agrees usable in
       let store = InstrOf.StorePart h.cell (value_type x) t position in
-      both code (located_code b steps t s) (store_part_code t position x s) s over (Some s) (located_formed code masters b steps t s deep followed begun)
+      both code (located_code b steps t s) (store_part_code t position x s) s over (Some s) (located_formed code env b steps t s agrees followed begun)
       (both code h.code ((store, h.after) ∷ []) over h.after (Some s) f.formed
       (one code store h.after (Some s) (λ p next. (usable.scalar, (over, f.taken, (s, refl, next))))))
 
@@ -133,50 +135,50 @@ module _ (code : Code) where
   freed_formed i over s known fine p h = (h.0, (fine p h.1.0 h.1.1, (known, tt)))
 
   -- an object is freed whose access value is in a variable, or in a component of a part (13.11.2)
-  pub free_formed : (access out slot : ℕ) (s : List Kind) → IsException code program_error → HasCollection code (depth s) access → Formed code ((InstrOf.Free access out slot, s) ∷ failed_code s) s (Some s)
-  free_formed access out slot s known seen = freed_formed (InstrOf.Free access out slot) s s known (λ p next behind_it. (seen, next, behind_it))
+  pub free_formed : (access out slot : ℕ) (s : List Kind) → IsException code program_error → HasCollection code s access → HasSlot s out slot → Formed code ((InstrOf.Free access out slot, s) ∷ failed_code s) s (Some s)
+  free_formed access out slot s known seen there = freed_formed (InstrOf.Free access out slot) s s known (λ p next behind_it. (seen, next, behind_it, there))
 
-  pub free_part_formed : (access : ℕ) (b : Start) (steps : List Step) (t position : ℕ) (s : List Kind) → IsException code program_error → are_followed b steps ≡ true → IsBegun code (depth s) b → HasCollection code (depth s) access → Formed code (free_part_code access b steps t position s) s (Some s)
-  free_part_formed access b steps t position s known followed begun seen =
+  pub free_part_formed : (env : W.Frames) (access : ℕ) (b : Start) (steps : List Step) (t position : ℕ) (s : List Kind) → Agrees env s → IsException code program_error → are_followed b steps ≡ true → IsBegun code env b → HasCollection code s access → Formed code (free_part_code access b steps t position s) s (Some s)
+  free_part_formed env access b steps t position s agrees known followed begun seen =
       let over = Operand (Record t) ∷ s in
       let free = InstrOf.FreePart access t position in
-      both code (located_code b steps t s) ((free, over) ∷ failed_code s) s over (Some s) (located_formed code (depth s) b steps t s refl followed begun)
+      both code (located_code b steps t s) ((free, over) ∷ failed_code s) s over (Some s) (located_formed code env b steps t s agrees followed begun)
       (freed_formed free over s known (λ p next behind_it. (seen, (s, refl, (next, behind_it)))))
 
   -- The library's Allocate and Deallocate (13.11) ----------------------------------------------------
 
-  abbrev pub AreUsable : ℕ → List (ValueCode × Ty) → Type 0
-  AreUsable masters [] = Unit {0}
-  AreUsable masters (x ∷ xs) = Usable code masters x.0 x.1 × AreUsable masters xs
+  abbrev pub AreUsable : W.Frames → List (ValueCode × Ty) → Type 0
+  AreUsable env [] = Unit {0}
+  AreUsable env (x ∷ xs) = Usable code env x.0 x.1 × AreUsable env xs
 
-  values_formed : (masters : ℕ) (xs : List (ValueCode × Ty)) (s : List Kind) → depth s ≡ masters → AreUsable masters xs → Formed code (values_code xs s) s (Some (with_types xs s))
-  values_formed masters [] s deep usable = none code s
-  values_formed masters (x ∷ xs) s deep usable =
+  values_formed : (env : W.Frames) (xs : List (ValueCode × Ty)) (s : List Kind) → Agrees env s → AreUsable env xs → Formed code (values_code xs s) s (Some (with_types xs s))
+  values_formed env [] s agrees usable = none code s
+  values_formed env (x ∷ xs) s agrees usable =
       let top = Operand x.1 ∷ s in
-      both code (x.0.code (new_operand s) x.1 s) (values_code xs top) s top (Some (with_types xs top)) (usable.0.formed (new_operand s) s deep refl) (values_formed masters xs top deep usable.1)
+      both code (x.0.code (new_operand s) x.1 s) (values_code xs top) s top (Some (with_types xs top)) (usable.0.formed (new_operand s) s agrees refl) (values_formed env xs top agrees usable.1)
 
   -- an instruction on a pool and values, which it takes
-  on_pool_formed : (masters : ℕ) (p : Var) (xs : List (ValueCode × Ty)) (i : Instr) (s : List Kind) → depth s ≡ masters → AreUsable masters xs → ((place : ℕ) → Leads code (place + 1) s → IsFine code place i (with_types xs (with_pool s))) → Formed code (on_pool p xs i s) s (Some s)
-  on_pool_formed masters p xs i s deep usable fine =
+  on_pool_formed : (env : W.Frames) (p : Var) (xs : List (ValueCode × Ty)) (i : Instr) (s : List Kind) → Agrees env s → IsNamed env p → AreUsable env xs → ((place : ℕ) → Leads code (place + 1) s → IsFine code place i (with_types xs (with_pool s))) → Formed code (on_pool p xs i s) s (Some s)
+  on_pool_formed env p xs i s agrees named usable fine =
       let pool = with_pool s in
       let top = with_types xs pool in
-      both code (pool_operand p s) (values_code xs pool ++ (i, top) ∷ []) s pool (Some s) (part_formed code masters (Variable p) pool_type s deep refl tt)
-      (both code (values_code xs pool) ((i, top) ∷ []) pool top (Some s) (values_formed masters xs pool deep usable)
+      both code (pool_operand p s) (values_code xs pool ++ (i, top) ∷ []) s pool (Some s) (part_formed code env (Variable p) pool_type s agrees refl named)
+      (both code (values_code xs pool) ((i, top) ∷ []) pool top (Some s) (values_formed env xs pool agrees usable)
       (one code i top (Some s) fine))
 
-  pub allocate_formed : (masters : ℕ) (p : Var) (out slot : ℕ) (size alignment : ValueCode) (s : List Kind) → depth s ≡ masters → Usable code masters size Count → Usable code masters alignment Count → Formed code (on_pool p ((size, Count) ∷ (alignment, Count) ∷ []) (InstrOf.TakeBlock pool_type out slot) s) s (Some s)
-  allocate_formed masters p out slot size alignment s deep first second =
-      on_pool_formed masters p ((size, Count) ∷ (alignment, Count) ∷ []) (InstrOf.TakeBlock pool_type out slot) s deep (first, (second, tt)) (λ place next. (with_pool s, refl, (s, refl, next)))
+  pub allocate_formed : (env : W.Frames) (p : Var) (out slot : ℕ) (size alignment : ValueCode) (s : List Kind) → Agrees env s → IsNamed env p → HasSlot s out slot → Usable code env size Count → Usable code env alignment Count → Formed code (on_pool p ((size, Count) ∷ (alignment, Count) ∷ []) (InstrOf.TakeBlock pool_type out slot) s) s (Some s)
+  allocate_formed env p out slot size alignment s agrees named there first second =
+      on_pool_formed env p ((size, Count) ∷ (alignment, Count) ∷ []) (InstrOf.TakeBlock pool_type out slot) s agrees named (first, (second, tt)) (λ place next. ((with_pool s, refl, (s, refl, next)), there))
 
-  pub deallocate_formed : (masters : ℕ) (p : Var) (address size alignment : ValueCode) (s : List Kind) → depth s ≡ masters → Usable code masters address Address → Usable code masters size Count → Usable code masters alignment Count → Formed code (on_pool p ((address, Address) ∷ (size, Count) ∷ (alignment, Count) ∷ []) (InstrOf.GiveBlock pool_type) s) s (Some s)
-  deallocate_formed masters p address size alignment s deep first second third =
-      on_pool_formed masters p ((address, Address) ∷ (size, Count) ∷ (alignment, Count) ∷ []) (InstrOf.GiveBlock pool_type) s deep (first, (second, (third, tt))) (λ place next. (with_pool s, refl, (s, refl, next)))
+  pub deallocate_formed : (env : W.Frames) (p : Var) (address size alignment : ValueCode) (s : List Kind) → Agrees env s → IsNamed env p → Usable code env address Address → Usable code env size Count → Usable code env alignment Count → Formed code (on_pool p ((address, Address) ∷ (size, Count) ∷ (alignment, Count) ∷ []) (InstrOf.GiveBlock pool_type) s) s (Some s)
+  deallocate_formed env p address size alignment s agrees named first second third =
+      on_pool_formed env p ((address, Address) ∷ (size, Count) ∷ (alignment, Count) ∷ []) (InstrOf.GiveBlock pool_type) s agrees named (first, (second, (third, tt))) (λ place next. (with_pool s, refl, (s, refl, next)))
 
   -- a return statement with a value (6.5)
-  pub returned_formed : (masters : ℕ) (x : ValueCode) (s : List Kind) → depth s ≡ masters → Usable code masters x (value_type x) → Formed code (return_held (value_type x) (held x (value_type x) s)) s (Some s)
-  returned_formed masters x s deep usable =
+  pub returned_formed : (env : W.Frames) (x : ValueCode) (s : List Kind) → Agrees env s → Usable code env x (value_type x) → Formed code (return_held (value_type x) (held x (value_type x) s)) s (Some s)
+  returned_formed env x s agrees usable =
       let h = held x (value_type x) s in
-      let f = found code masters x (value_type x) s deep usable in
+      let f = found code env x (value_type x) s agrees usable in
       let return = InstrOf.Return h.cell (value_type x) in
       both code h.code ((return, h.after) ∷ []) s h.after (Some s) f.formed
       (one code return h.after (Some s) (λ p next. (usable.scalar, (s, f.taken, tt))))
@@ -186,7 +188,7 @@ module _ (code : Code) where
   pub leaves_stay : (env : W.Frames) → Stays env [] (λ a n. leaves_code a)
   leaves_stay env a n p agrees texts can = leaves_formed code p a can
 
-  pub leaves_when_stay : (env : W.Frames) (x : ValueCode) → Usable code (length env) x Boolean → Stays env [] (λ a n. test_code x a.stack 1 ++ leaves_code (behind (test_length x a.stack) a))
+  pub leaves_when_stay : (env : W.Frames) (x : ValueCode) → Usable code env x Boolean → Stays env [] (λ a n. test_code x a.stack 1 ++ leaves_code (behind (test_length x a.stack) a))
   leaves_when_stay env x usable a n p agrees texts can has =
       let s = a.stack in
       let h = held x Boolean s in
@@ -197,12 +199,12 @@ module _ (code : Code) where
       let skip = leads_at code (p + length (test ++ end)) (p + length h.code + 1 + 1) s last (has_end code p (test ++ end) (Some s) has) in
       let there : p + test_length x s ≡ p + length test = omega (arith, size) in
       both_at code p test end s s (Some s)
-      (test_formed code p h 1 s (found code (length env) x Boolean s agrees.deep usable) skip)
+      (test_formed code p h 1 s (found code env x Boolean s agrees usable) skip)
       (leaves_formed code (p + length test) (behind (test_length x s) a) (leave_behind code p (test_length x s) (p + length test) a there can))
       has
 
   -- statements that are passed over where a condition does not hold
-  pub tested_turns : (env : W.Frames) (x : ValueCode) (body : StatementCode) → Usable code (length env) x Boolean → Stays env body.texts body.code → Turns env body.texts (tested_code x 1 body)
+  pub tested_turns : (env : W.Frames) (x : ValueCode) (body : StatementCode) → Usable code env x Boolean → Stays env body.texts body.code → Turns env body.texts (tested_code x 1 body)
   tested_turns env x body usable g a n p agrees texts can skip =
       let s = a.stack in
       let h = held x Boolean s in
@@ -213,7 +215,7 @@ module _ (code : Code) where
       let there : p + size ≡ p + length test = omega (arith, counted) in
       let last : p + length (test ++ b) + 1 ≡ p + length h.code + 1 + (length b + 1) = omega (arith, counted, length-append test b) in
       both_at code p test b s s (Some s)
-      (test_formed code p h (length b + 1) s (found code (length env) x Boolean s agrees.deep usable) (leads_at code (p + length (test ++ b) + 1) (p + length h.code + 1 + (length b + 1)) s last skip))
+      (test_formed code p h (length b + 1) s (found code env x Boolean s agrees usable) (leads_at code (p + length (test ++ b) + 1) (p + length h.code + 1 + (length b + 1)) s last skip))
       (g (behind size a) n (p + length test) agrees texts (leave_behind code p size (p + length test) a there can))
 
   -- Loops ------------------------------------------------------------------------------------------
@@ -222,15 +224,14 @@ module _ (code : Code) where
   loop_stays env x h a n p agrees texts can =
       loop_formed code p a.stack (x.code (in_loop a.stack) n) (λ lead behind_it. h (in_loop a.stack) n (p + 1 + 1) agrees texts (p + 1, refl, lead) behind_it)
 
-  pub for_stays : (env : W.Frames) (v : Var) (way : Direction) (low high : ValueCode) (body : StatementCode) → ((s : List Kind) → Agrees env s → (at : ℕ) × (newest_at s v ≡ Some at) × (variable_at s 0 v.slot ≡ Some at)) → Usable code (length env) low Integer → Usable code (length env) high Integer → Stays env body.texts body.code → Stays env (for v way low high body).texts (for v way low high body).code
+  pub for_stays : (env : W.Frames) (v : Var) (way : Direction) (low high : ValueCode) (body : StatementCode) → ((s : List Kind) → Agrees env s → (at : ℕ) × (newest_at s v ≡ Some at) × (variable_at s 0 v.slot ≡ Some at)) → Usable code env low Integer → Usable code env high Integer → Stays env body.texts body.code → Stays env (for v way low high body).texts (for v way low high body).code
   for_stays env v way low high body parameter from to h a n p agrees texts can =
       let s = a.stack in
-      let one_up = Operand Integer ∷ s in
       let top = with_bounds s in
       let turn = body.code (in_loop top) n in
       let q = p + length (bounds_code low high s) in
       let cell = parameter s agrees in
       both_at code p (bounds_code low high s) (turns_code (newest_at s v) v way turn s) s top (Some s)
-      (two_formed (length env) Integer low high s agrees.deep from to p)
+      (two_formed env Integer low high s agrees from to p)
       (subst (λ o. FormedAt code q (turns_code o v way turn s) top (Some s)) (sym cell.1)
-      (turns_formed code q s v way cell.0 turn cell.2 (λ lead. h (in_loop top) n (q + 1 + 1) (agrees_under env one_up Integer (agrees_under env s Integer agrees)) texts (q + 1, refl, lead))))
+      (turns_formed code q s v way cell.0 turn cell.2 (λ lead. h (in_loop top) n (q + 1 + 1) agrees texts (q + 1, refl, lead))))

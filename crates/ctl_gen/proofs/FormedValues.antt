@@ -10,6 +10,7 @@ use Rattle.ctl_program.specs.declared.operators.Shortcut.{Shortcut}
 use Rattle.ctl_program.specs.declared.operators.UnaryOp.{UnaryOp}
 use Rattle.ctl_program.specs.declared.operators.BinaryOp.{BinaryOp}
 use Rattle.ctl_program.specs.declared.expression.Step.{Step}
+use Rattle.ctl_well_typed.specs.Setting as W
 use Rattle.ctl_well_typed.specs.Types.{Joins, IsCell}
 use Rattle.ctl_well_typed.specs.Types as J
 use Rattle.ctl_code.specs.declared.kinds.Kind.{Kind}
@@ -19,7 +20,7 @@ use Rattle.ctl_code.specs.declared.code.Named.TheVariants as NamedOf
 use Rattle.ctl_code.specs.declared.code.Cell.{Cell}
 use Rattle.ctl_code.specs.declared.code.Instr.TheVariants as InstrOf
 use Rattle.ctl_code.specs.declared.code.Code.{Code}
-use Rattle.ctl_code.specs.Windows.{depth, height, variable_at}
+use Rattle.ctl_code.specs.Windows.{HasSlot, height, variable_at}
 use Rattle.ctl_code.specs.Valid as Valid
 use Rattle.ctl_code.specs.Valid.{BinaryOf, IsAllocable, IsCellOf, IsRecord, Leads, Puts, Taken, UnaryOf, over_numbers}
 use Rattle.ctl_code.proofs.Numbered.{have_over}
@@ -31,6 +32,7 @@ use Rattle.ctl_layout.specs.Parts.{Start, OfVariable, OfValue, Reached, Variable
 use Rattle.ctl_layout.specs.Values.{Held, OperatorCode, ValueCode, address_numbers, binary_code, chain, common_type, constant, designating, evaluated, first_type, held, held_by, in_cell, last_type, left_held, moved_to, new, new_copy, new_copy_code, next_target, operand_type, operator_by, operator_code, operator_for, operators_code, other_code, others_code, read, short, unary, value_type}
 use Rattle.ctl_layout.proofs.Extensions.{both_true}
 use Rattle.ctl_gen.proofs.Formed.{Formed, both, has_end, leads_at, none, one}
+use Rattle.ctl_gen.proofs.FormedAround.{Agrees, IsHoused, IsNamed}
 use Rattle.ctl_gen.proofs.FormedParts.{IsBegun, IsFound, located_formed, part_formed, read_fine}
 use Rattle.ctl_gen.proofs.Walked.{start_of, steps_before}
 use Rattle.ctl_gen.proofs.FormedTypes.{IsAccessType, IsLike, arithmetic_of, boolean_plain, cell_like, cell_of, equality_relates, is_relation, like_access, like_back, like_scalar, like_then, logical_of, number_of, number_scalar, of_arithmetic, of_logical, of_relation, ordering_relates, relation_of, run_scalar, same_unless, unary_plain}
@@ -56,12 +58,20 @@ target_placed [] to s at = at
 target_placed (o ∷ os) to s at = refl
 
 -- what is taken from a cell is no master
-taken_deep : (cell : Cell) (ty : Ty) (s below : List Kind) → Taken cell ty s below → depth s ≡ depth below
-taken_deep cell ty s below = by cell.named cell.at
+taken_agrees : (env : W.Frames) (cell : Cell) (ty : Ty) (s below : List Kind) → Taken cell ty s below → Agrees env below → Agrees env s
+taken_agrees env cell ty s below = by cell.named cell.at
   where
-    by : (named : Named) (at : ℕ) → Taken (record { at = at; named = named }) ty s below → depth s ≡ depth below
-    by NamedOf.Operand at h = ap depth h.0
-    by (NamedOf.Variable out slot) at h = ap depth h.0
+    by : (named : Named) (at : ℕ) → Taken (record { at = at; named = named }) ty s below → Agrees env below → Agrees env s
+    by NamedOf.Operand at h agrees = subst (Agrees env) (sym h.0) agrees
+    by (NamedOf.Variable out slot) at h agrees = subst (Agrees env) (sym h.0) agrees
+
+-- so a slot that is there below it is there
+pub taken_slot : (cell : Cell) (ty : Ty) (s below : List Kind) (out slot : ℕ) → Taken cell ty s below → HasSlot below out slot → HasSlot s out slot
+taken_slot cell ty s below out slot = by cell.named cell.at
+  where
+    by : (named : Named) (at : ℕ) → Taken (record { at = at; named = named }) ty s below → HasSlot below out slot → HasSlot s out slot
+    by NamedOf.Operand at h there = subst (λ x. HasSlot x out slot) (sym h.0) there
+    by (NamedOf.Variable o n) at h there = subst (λ x. HasSlot x out slot) (sym h.0) there
 
 module _ (code : Code) where
   pub puts : (place : ℕ) (to : Cell) (ty : Ty) (s : List Kind) → Placed to s → Leads code (place + 1) (with_put to.named ty s) → Puts code place to ty s
@@ -86,12 +96,12 @@ module _ (code : Code) where
       by NamedOf.Operand at h = none code (KindOf.Operand ty ∷ s)
       by (NamedOf.Variable out slot) at h = one code (InstrOf.Move (new_operand s) ty (record { at = at; named = NamedOf.Variable out slot })) (KindOf.Operand ty ∷ s) (Some s) (λ p next. (scalar, (s, (refl, refl), (h, next))))
 
--- inside so many masters
-module _ (code : Code) (masters : ℕ) where
+-- inside these masters
+module _ (code : Code) (env : W.Frames) where
   -- a value whose code is well formed where one of this type is expected
   pub record Usable (x : ValueCode) (ty : Ty) : Type 0 where
     pub scalar : Valid.IsScalar ty
-    pub formed : (to : Cell) (s : List Kind) → depth s ≡ masters → Placed to s → Formed code (x.code to ty s) s (Some (with_put to.named ty s))
+    pub formed : (to : Cell) (s : List Kind) → Agrees env s → Placed to s → Formed code (x.code to ty s) s (Some (with_put to.named ty s))
     pub constant : (n : ℕ) → x.right ≡ RightOf.Constant n → IsCellOf ty n
 
   -- a value of this type of its own. An access value is one of each access type that designates the same type (4.6), and stands as a number
@@ -123,7 +133,7 @@ module _ (code : Code) (masters : ℕ) where
   pub usable_constant : (n : ℕ) (ty : Ty) → Valid.IsScalar ty → IsCellOf ty n → Usable (constant n) ty
   usable_constant n ty scalar cell = record {
     scalar = scalar;
-    formed = λ to s deep at. one code (InstrOf.Set n ty to) s (Some (with_put to.named ty s)) (λ p next. (cell, puts code p to ty s at next));
+    formed = λ to s agrees at. one code (InstrOf.Set n ty to) s (Some (with_put to.named ty s)) (λ p next. (cell, puts code p to ty s at next));
     constant = λ m is. let same : n ≡ m = cc in subst (IsCellOf ty) same cell;
   }
 
@@ -131,15 +141,15 @@ module _ (code : Code) (masters : ℕ) where
   constant_fine n ty cell = inr (record { own = refl; number = usable_constant n Integer tt tt; usable = λ t like scalar. usable_constant n t scalar (cell_of t n scalar (cell_like t ty n like cell)) })
 
   -- an access attribute
-  usable_designating : (v : Var) (ty : Ty) → Valid.IsScalar ty → Usable (designating v) ty
-  usable_designating v ty scalar = record {
+  usable_designating : (v : Var) (ty : Ty) → IsNamed env v → Valid.IsScalar ty → Usable (designating v) ty
+  usable_designating v ty named scalar = record {
     scalar = scalar;
-    formed = λ to s deep at. one code (InstrOf.Designate (out_to s v) v.slot ty to) s (Some (with_put to.named ty s)) (λ p next. (scalar, puts code p to ty s at next));
+    formed = λ to s agrees at. one code (InstrOf.Designate (out_to s v) v.slot ty to) s (Some (with_put to.named ty s)) (λ p next. (scalar, puts code p to ty s at next, agrees.1 v named.0 named.1));
     constant = λ n is. absurd (cc);
   }
 
-  pub designating_fine : (v : Var) (ty : Ty) → Fine (designating v) ty
-  designating_fine v ty = inr (record { own = refl; number = usable_designating v Integer tt; usable = λ t like scalar. usable_designating v t scalar })
+  pub designating_fine : (v : Var) (ty : Ty) → IsNamed env v → Fine (designating v) ty
+  designating_fine v ty named = inr (record { own = refl; number = usable_designating v Integer named tt; usable = λ t like scalar. usable_designating v t named scalar })
 
   -- where its type is scalar
   pub usable_as : (x : ValueCode) (ty : Ty) → Valid.IsScalar ty → Fine x ty → Usable x ty
@@ -163,25 +173,25 @@ module _ (code : Code) (masters : ℕ) where
 
   -- Operands ----------------------------------------------------------------------------------------
 
-  found_evaluated : (x : ValueCode) (ty : Ty) (s : List Kind) → depth s ≡ masters → Usable x ty → Found code (evaluated x ty s) ty s
-  found_evaluated x ty s deep usable = record { formed = usable.formed (new_operand s) s deep refl; taken = (refl, refl) }
+  found_evaluated : (x : ValueCode) (ty : Ty) (s : List Kind) → Agrees env s → Usable x ty → Found code (evaluated x ty s) ty s
+  found_evaluated x ty s agrees usable = record { formed = usable.formed (new_operand s) s agrees refl; taken = (refl, refl) }
 
-  found_in_cell : (o : Option ℕ) (v : Var) (x : ValueCode) (ty : Ty) (s : List Kind) → depth s ≡ masters → local_at s v ≡ o → Usable x ty → Found code (in_cell o v x ty s) ty s
-  found_in_cell (Some at) v x ty s deep here usable = record { formed = none code s; taken = (refl, here) }
-  found_in_cell None v x ty s deep here usable = found_evaluated x ty s deep usable
+  found_in_cell : (o : Option ℕ) (v : Var) (x : ValueCode) (ty : Ty) (s : List Kind) → Agrees env s → local_at s v ≡ o → Usable x ty → Found code (in_cell o v x ty s) ty s
+  found_in_cell (Some at) v x ty s agrees here usable = record { formed = none code s; taken = (refl, here) }
+  found_in_cell None v x ty s agrees here usable = found_evaluated x ty s agrees usable
 
-  pub found : (x : ValueCode) (ty : Ty) (s : List Kind) → depth s ≡ masters → Usable x ty → Found code (held x ty s) ty s
-  found x ty s deep usable = by x.right
+  pub found : (x : ValueCode) (ty : Ty) (s : List Kind) → Agrees env s → Usable x ty → Found code (held x ty s) ty s
+  found x ty s agrees usable = by x.right
     where
       by : (r : Right) → Found code (held_by r x ty s) ty s
-      by (RightOf.Constant n) = found_evaluated x ty s deep usable
-      by (RightOf.Variable v) = found_in_cell (local_at s v) v x ty s deep refl usable
-      by RightOf.Evaluated = found_evaluated x ty s deep usable
+      by (RightOf.Constant n) = found_evaluated x ty s agrees usable
+      by (RightOf.Variable v) = found_in_cell (local_at s v) v x ty s agrees refl usable
+      by RightOf.Evaluated = found_evaluated x ty s agrees usable
 
-  found_left : (r : Right) (x : ValueCode) (ty : Ty) (s : List Kind) → depth s ≡ masters → Usable x ty → Found code (left_held r x ty s) ty s
-  found_left (RightOf.Constant n) x ty s deep usable = found x ty s deep usable
-  found_left (RightOf.Variable v) x ty s deep usable = found x ty s deep usable
-  found_left RightOf.Evaluated x ty s deep usable = found_evaluated x ty s deep usable
+  found_left : (r : Right) (x : ValueCode) (ty : Ty) (s : List Kind) → Agrees env s → Usable x ty → Found code (left_held r x ty s) ty s
+  found_left (RightOf.Constant n) x ty s agrees usable = found x ty s agrees usable
+  found_left (RightOf.Variable v) x ty s agrees usable = found x ty s agrees usable
+  found_left RightOf.Evaluated x ty s agrees usable = found_evaluated x ty s agrees usable
 
   -- Operators ---------------------------------------------------------------------------------------
 
@@ -191,33 +201,33 @@ module _ (code : Code) (masters : ℕ) where
       both code h.code ((InstrOf.Binary (operator_for o ty) left h.cell to, h.after) ∷ []) s h.after (Some (with_put to.named o.ty base)) right.formed
       (one code (InstrOf.Binary (operator_for o ty) left h.cell to) h.after (Some (with_put to.named o.ty base)) (λ p next. (has, (s, right.taken, (base, taken, puts code p to o.ty base at next)))))
 
-  operator_formed : (r : Right) (o : OperatorCode) (left : Cell) (ty : Ty) (to : Cell) (s base : List Kind) → depth s ≡ masters → o.right.right ≡ r → BinaryOf o.op ty o.ty → Usable o.right ty → Taken left ty s base → Placed to base → Formed code (operator_by r o left ty to s) s (Some (with_put to.named o.ty base))
-  operator_formed (RightOf.Constant n) o left ty to s base deep is has usable taken at = one code (InstrOf.BinaryConstant (operator_for o ty) left n to) s (Some (with_put to.named o.ty base)) (λ p next. (has, usable.constant n is, (base, taken, puts code p to o.ty base at next)))
-  operator_formed (RightOf.Variable v) o left ty to s base deep is has usable taken at = binary_formed o left ty to (held o.right ty s) s base has (found o.right ty s deep usable) taken at
-  operator_formed RightOf.Evaluated o left ty to s base deep is has usable taken at = binary_formed o left ty to (held o.right ty s) s base has (found o.right ty s deep usable) taken at
+  operator_formed : (r : Right) (o : OperatorCode) (left : Cell) (ty : Ty) (to : Cell) (s base : List Kind) → Agrees env s → o.right.right ≡ r → BinaryOf o.op ty o.ty → Usable o.right ty → Taken left ty s base → Placed to base → Formed code (operator_by r o left ty to s) s (Some (with_put to.named o.ty base))
+  operator_formed (RightOf.Constant n) o left ty to s base agrees is has usable taken at = one code (InstrOf.BinaryConstant (operator_for o ty) left n to) s (Some (with_put to.named o.ty base)) (λ p next. (has, usable.constant n is, (base, taken, puts code p to o.ty base at next)))
+  operator_formed (RightOf.Variable v) o left ty to s base agrees is has usable taken at = binary_formed o left ty to (held o.right ty s) s base has (found o.right ty s agrees usable) taken at
+  operator_formed RightOf.Evaluated o left ty to s base agrees is has usable taken at = binary_formed o left ty to (held o.right ty s) s base has (found o.right ty s agrees usable) taken at
 
   -- operators over a left operand of this type, whose value has that type
   pub record Operating (os : List OperatorCode) (left ty : Ty) : Type 0 where
     pub gives : last_type left os ≡ ty
     pub scalar : Valid.IsScalar ty
-    pub formed : (to : Cell) (base : List Kind) → depth base ≡ masters → Placed to base → Formed code (operators_code base (new_operand base) (KindOf.Operand left ∷ base) left os to) (with_put (next_target os to base).named left base) (Some (with_put to.named ty base))
+    pub formed : (to : Cell) (base : List Kind) → Agrees env base → Placed to base → Formed code (operators_code base (new_operand base) (KindOf.Operand left ∷ base) left os to) (with_put (next_target os to base).named left base) (Some (with_put to.named ty base))
 
   pub none_operating : (left : Ty) → Valid.IsScalar left → Operating [] left left
-  none_operating left scalar = record { gives = refl; scalar = scalar; formed = λ to base deep at. none code (with_put to.named left base) }
+  none_operating left scalar = record { gives = refl; scalar = scalar; formed = λ to base agrees at. none code (with_put to.named left base) }
 
   -- an operator whose left operand is in this cell, and further ones
-  first_operating : (o : OperatorCode) (os : List OperatorCode) (cell : Cell) (left ty : Ty) (s base : List Kind) (to : Cell) → depth base ≡ masters → BinaryOf o.op left o.ty → Usable o.right left → Operating os o.ty ty → Taken cell left s base → Placed to base → Formed code (operators_code base cell s left (o ∷ os) to) s (Some (with_put to.named ty base))
-  first_operating o os cell left ty s base to deep has usable rest taken at =
+  first_operating : (o : OperatorCode) (os : List OperatorCode) (cell : Cell) (left ty : Ty) (s base : List Kind) (to : Cell) → Agrees env base → BinaryOf o.op left o.ty → Usable o.right left → Operating os o.ty ty → Taken cell left s base → Placed to base → Formed code (operators_code base cell s left (o ∷ os) to) s (Some (with_put to.named ty base))
+  first_operating o os cell left ty s base to agrees has usable rest taken at =
       let target = next_target os to base in
       both code (operator_code o cell left target s) (operators_code base (new_operand base) (KindOf.Operand o.ty ∷ base) o.ty os to) s (with_put target.named o.ty base) (Some (with_put to.named ty base))
-      (operator_formed o.right.right o cell left target s base (taken_deep cell left s base taken ∙ deep) refl has usable taken (target_placed os to base at))
-      (rest.formed to base deep at)
+      (operator_formed o.right.right o cell left target s base (taken_agrees env cell left s base taken agrees) refl has usable taken (target_placed os to base at))
+      (rest.formed to base agrees at)
 
   pub next_operating : (o : OperatorCode) (os : List OperatorCode) (left ty : Ty) → BinaryOf o.op left o.ty → Usable o.right left → Operating os o.ty ty → Operating (o ∷ os) left ty
   next_operating o os left ty has usable rest = record {
     gives = rest.gives;
     scalar = rest.scalar;
-    formed = λ to base deep at. first_operating o os (new_operand base) left ty (KindOf.Operand left ∷ base) base to deep has usable rest (refl, refl) at;
+    formed = λ to base agrees at. first_operating o os (new_operand base) left ty (KindOf.Operand left ∷ base) base to agrees has usable rest (refl, refl) at;
   }
 
   -- a chain, whose first operand and first operator have this type
@@ -227,11 +237,11 @@ module _ (code : Code) (masters : ℕ) where
       own_of (chain x o more) ty (ap Some rest.gives) plain
       (record {
         scalar = rest.scalar;
-        formed = λ to s deep at.
+        formed = λ to s agrees at.
             let h = left_held o.right.right x left s in
-            let f = found_left o.right.right x left s deep usable in
+            let f = found_left o.right.right x left s agrees usable in
             both code h.code (operators_code s h.cell h.after left (o ∷ more) to) s h.after (Some (with_put to.named ty s)) f.formed
-            (first_operating o more h.cell left ty h.after s to deep has right rest f.taken at);
+            (first_operating o more h.cell left ty h.after s to agrees has right rest f.taken at);
         constant = λ n is. absurd (cc);
       })
 
@@ -278,7 +288,7 @@ module _ (code : Code) (masters : ℕ) where
   -- Short-circuit forms -----------------------------------------------------------------------------
 
   abbrev pub Conditions : Shortcut → List ValueCode → Type 0
-  Conditions form xs = (s : List Kind) → depth s ≡ masters → Formed code (others_code form xs s) (KindOf.Operand Boolean ∷ s) (Some (KindOf.Operand Boolean ∷ s))
+  Conditions form xs = (s : List Kind) → Agrees env s → Formed code (others_code form xs s) (KindOf.Operand Boolean ∷ s) (Some (KindOf.Operand Boolean ∷ s))
 
   -- an operand that may be skipped, behind what decides
   decided : (form : Shortcut) (s : List Kind) (ls : List Line) → Formed code ls s (Some (KindOf.Operand Boolean ∷ s)) → Formed code ((InstrOf.Decide form (height s) (length ls), KindOf.Operand Boolean ∷ s) ∷ ls) (KindOf.Operand Boolean ∷ s) (Some (KindOf.Operand Boolean ∷ s))
@@ -287,22 +297,22 @@ module _ (code : Code) (masters : ℕ) where
       (h.0, ((has_end code (p + 1) ls (Some (KindOf.Operand Boolean ∷ s)) h.1, (s, refl, (refl, x.0))), x.1))
 
   pub next_condition : (form : Shortcut) (x : ValueCode) (xs : List ValueCode) → Usable x Boolean → Conditions form xs → Conditions form (x ∷ xs)
-  next_condition form x xs usable rest s deep =
+  next_condition form x xs usable rest s agrees =
       let top = KindOf.Operand Boolean ∷ s in
       both code (other_code form x s) (others_code form xs s) top top (Some top)
-      (decided form s (x.code (new_operand s) Boolean s) (usable.formed (new_operand s) s deep refl))
-      (rest s deep)
+      (decided form s (x.code (new_operand s) Boolean s) (usable.formed (new_operand s) s agrees refl))
+      (rest s agrees)
 
   pub short_own : (form : Shortcut) (x y : ValueCode) (more : List ValueCode) → Usable x Boolean → Conditions form (y ∷ more) → Own (short form x y more) Boolean
   short_own form x y more usable rest =
       own_of (short form x y more) Boolean refl (λ h. boolean_plain h)
       (record {
         scalar = tt;
-        formed = λ to s deep at.
+        formed = λ to s agrees at.
             let top = KindOf.Operand Boolean ∷ s in
             let first = x.code (new_operand s) Boolean s in
             both code (first ++ others_code form (y ∷ more) s) (moved_to to Boolean s) s top (Some (with_put to.named Boolean s))
-            (both code first (others_code form (y ∷ more) s) s top (Some top) (usable.formed (new_operand s) s deep refl) (rest s deep))
+            (both code first (others_code form (y ∷ more) s) s top (Some top) (usable.formed (new_operand s) s agrees refl) (rest s agrees))
             (moved_formed code to Boolean s tt at);
         constant = λ n is. absurd (cc);
       })
@@ -314,9 +324,9 @@ module _ (code : Code) (masters : ℕ) where
       own_of (unary op ty x) ty refl (unary_plain op ty has)
       (record {
         scalar = usable.scalar;
-        formed = λ to s deep at.
+        formed = λ to s agrees at.
             let h = held x ty s in
-            let f = found x ty s deep usable in
+            let f = found x ty s agrees usable in
             let after = Some (with_put to.named ty s) in
             both code h.code ((InstrOf.Unary op ty h.cell to, h.after) ∷ []) s h.after after f.formed
             (one code (InstrOf.Unary op ty h.cell to) h.after after (λ p next. (has, (s, f.taken, puts code p to ty s at next))));
@@ -324,65 +334,65 @@ module _ (code : Code) (masters : ℕ) where
       })
 
   -- an allocator: behind the call of an Allocate there stand numbers (13.11)
-  allocated_formed : (access t : ℕ) (ty : Ty) (s : List Kind) → Valid.IsScalar ty → depth s ≡ masters → IsAllocable code masters access t → IsRecord code t → Formed code ((InstrOf.Skip 0, s) ∷ (InstrOf.New access t ty (height s), s) ∷ (InstrOf.NewIn t ty (height s), over_numbers address_numbers s) ∷ []) s (Some (KindOf.Operand ty ∷ s))
-  allocated_formed access t ty s scalar deep allocable known p h =
+  allocated_formed : (access t : ℕ) (ty : Ty) (s : List Kind) → Valid.IsScalar ty → Agrees env s → IsAllocable code (length env) access t → IsHoused code env access → IsRecord code t → Formed code ((InstrOf.Skip 0, s) ∷ (InstrOf.New access t ty (height s), s) ∷ (InstrOf.NewIn t ty (height s), over_numbers address_numbers s) ∷ []) s (Some (KindOf.Operand ty ∷ s))
+  allocated_formed access t ty s scalar agrees allocable housed known p h =
       let there : p + 1 ≡ p + 1 + 0 = omega arith in
-      let may = subst (λ n. IsAllocable code n access t) (sym deep) allocable in
+      let may = subst (λ n. IsAllocable code n access t) (sym agrees.0) allocable in
       let last = h.1.1.1 in (
         h.0,
         (
           leads_at code (p + 1) (p + 1 + 0) s there h.1.0,
-          ((scalar, may, refl, h.1.1.0, last), ((scalar, known, have_over address_numbers s, refl, last), tt)),
+          ((scalar, may, refl, h.1.1.0, last, housed s agrees), ((scalar, known, have_over address_numbers s, refl, last), tt)),
         ),
       )
 
   -- the value of an allocator is a new operand, and then goes where it is wanted
-  pub new_own : (access t : ℕ) → IsAllocable code masters access t → IsRecord code t → Own (new access (TyOf.Record t) None None) (TyOf.Access access)
-  new_own access t allocable known =
+  pub new_own : (access t : ℕ) → IsAllocable code (length env) access t → IsHoused code env access → IsRecord code t → Own (new access (TyOf.Record t) None None) (TyOf.Access access)
+  new_own access t allocable housed known =
       own_as (new access (TyOf.Record t) None None) (TyOf.Access access) refl tt
       (λ ty scalar. record {
         scalar = scalar;
-        formed = λ to s deep at.
+        formed = λ to s agrees at.
             let top = KindOf.Operand ty ∷ s in
             both code ((InstrOf.Skip 0, s) ∷ (InstrOf.New access t ty (height s), s) ∷ (InstrOf.NewIn t ty (height s), over_numbers address_numbers s) ∷ []) (moved_to to ty s) s top (Some (with_put to.named ty s))
-            (allocated_formed access t ty s scalar deep allocable known)
+            (allocated_formed access t ty s scalar agrees allocable housed known)
             (moved_formed code to ty s scalar at);
         constant = λ n is. absurd (cc);
       })
 
   -- and so is that of an allocator with the value of a part, which is found before
-  pub copied_own : (access t : ℕ) (x : Reached) → are_followed (start_of x) (steps_before x) ≡ true → IsBegun code masters (start_of x) → IsAllocable code masters access t → Own (new_copy access t (Some x)) (TyOf.Access access)
-  copied_own access t x followed begun allocable =
+  pub copied_own : (access t : ℕ) (x : Reached) → are_followed (start_of x) (steps_before x) ≡ true → IsBegun code env (start_of x) → IsAllocable code (length env) access t → IsHoused code env access → Own (new_copy access t (Some x)) (TyOf.Access access)
+  copied_own access t x followed begun allocable housed =
       own_as (new_copy access t (Some x)) (TyOf.Access access) refl tt
       (λ ty scalar. record {
         scalar = scalar;
-        formed = λ to s deep at.
+        formed = λ to s agrees at.
             let part = KindOf.Operand (TyOf.Record t) ∷ s in
             let top = KindOf.Operand ty ∷ s in
             both code (new_copy_code access t x ty s) (moved_to to ty s) s top (Some (with_put to.named ty s))
             (both code (part_code x t s) ((InstrOf.NewCopy access t ty (height s), part) ∷ []) s part (Some top)
-            (part_formed code masters x t s deep followed begun)
-            (one code (InstrOf.NewCopy access t ty (height s)) part (Some top) (λ p next. (scalar, subst (λ n. IsAllocable code n access t) (sym deep) allocable, (s, refl, (refl, next))))))
+            (part_formed code env x t s agrees followed begun)
+            (one code (InstrOf.NewCopy access t ty (height s)) part (Some top) (λ p next. (scalar, subst (λ n. IsAllocable code n access t) (sym agrees.0) allocable, (s, refl, (refl, next)), housed s agrees))))
             (moved_formed code to ty s scalar at);
         constant = λ n is. absurd (cc);
       })
 
   module _ (records : List RecordType) where
     -- the value of a component goes where it is wanted
-    taken_formed : (b : Start) (steps : List Step) (t position : ℕ) (ty : Ty) (to : Cell) (s : List Kind) → Valid.IsScalar ty → depth s ≡ masters → are_followed b steps ≡ true → IsBegun code masters b → Placed to s → Formed code (taken_code b steps t position ty to s) s (Some (with_put to.named ty s))
-    taken_formed b steps t position ty to s scalar deep followed begun at =
+    taken_formed : (b : Start) (steps : List Step) (t position : ℕ) (ty : Ty) (to : Cell) (s : List Kind) → Valid.IsScalar ty → Agrees env s → are_followed b steps ≡ true → IsBegun code env b → Placed to s → Formed code (taken_code b steps t position ty to s) s (Some (with_put to.named ty s))
+    taken_formed b steps t position ty to s scalar agrees followed begun at =
         let part = KindOf.Operand (TyOf.Record t) ∷ s in
         let after = Some (with_put to.named ty s) in
         both code (located_code b steps t s) ((InstrOf.TakePart t position ty to, part) ∷ []) s part after
-        (located_formed code masters b steps t s deep followed begun)
+        (located_formed code env b steps t s agrees followed begun)
         (one code (InstrOf.TakePart t position ty to) part after (λ p next. (scalar, (s, refl, puts code p to ty s at next))))
 
-    component_formed : (b : Start) (steps : List Step) (t position : ℕ) (ty : Ty) (to : Cell) (s : List Kind) → Valid.IsScalar ty → depth s ≡ masters → are_followed b steps ≡ true → IsBegun code masters b → Placed to s → Formed code (component_code b steps t position ty to s) s (Some (with_put to.named ty s))
-    component_formed (OfVariable v) [] t position ty to s scalar deep followed begun at = one code (InstrOf.FetchPart (out_to s v) v.slot t position ty to) s (Some (with_put to.named ty s)) (λ p next. (scalar, puts code p to ty s at next))
-    component_formed (OfVariable v) (step ∷ steps) t position ty to s scalar deep followed begun at = taken_formed (OfVariable v) (step ∷ steps) t position ty to s scalar deep followed begun at
-    component_formed (OfValue runs lines) steps t position ty to s scalar deep followed begun at = taken_formed (OfValue runs lines) steps t position ty to s scalar deep followed begun at
+    component_formed : (b : Start) (steps : List Step) (t position : ℕ) (ty : Ty) (to : Cell) (s : List Kind) → Valid.IsScalar ty → Agrees env s → are_followed b steps ≡ true → IsBegun code env b → Placed to s → Formed code (component_code b steps t position ty to s) s (Some (with_put to.named ty s))
+    component_formed (OfVariable v) [] t position ty to s scalar agrees followed begun at = one code (InstrOf.FetchPart (out_to s v) v.slot t position ty to) s (Some (with_put to.named ty s)) (λ p next. (scalar, puts code p to ty s at next, agrees.1 v begun.0 begun.1))
+    component_formed (OfVariable v) (step ∷ steps) t position ty to s scalar agrees followed begun at = taken_formed (OfVariable v) (step ∷ steps) t position ty to s scalar agrees followed begun at
+    component_formed (OfValue runs lines) steps t position ty to s scalar agrees followed begun at = taken_formed (OfValue runs lines) steps t position ty to s scalar agrees followed begun at
 
-    pub read_own : (o : Option Reached) (ty : Ty) → IsFound code masters records o → (read o ty).runs records ≡ true → Own (read o ty) ty
+    pub read_own : (o : Option Reached) (ty : Ty) → IsFound code env records o → (read o ty).runs records ≡ true → Own (read o ty) ty
     read_own None ty found_so runs = absurd (cc)
     read_own (Some (Object b steps)) ty found_so runs = absurd (cc)
     read_own (Some (Part b steps t position)) ty found_so runs =
@@ -391,13 +401,13 @@ module _ (code : Code) (masters : ℕ) where
         own_as (read (Some (Part b steps t position)) ty) ty refl (run_scalar ty e.0)
         (λ u scalar. record {
           scalar = scalar;
-          formed = λ to s deep at. component_formed b steps t position u to s scalar deep found_so.0 begun at;
+          formed = λ to s agrees at. component_formed b steps t position u to s scalar agrees found_so.0 begun at;
           constant = λ n is. absurd (cc);
         })
     read_own (Some (Variable v)) ty found_so runs =
         own_as (read (Some (Variable v)) ty) ty refl (run_scalar ty runs)
         (λ u scalar. record {
           scalar = scalar;
-          formed = λ to s deep at. one code (read_from (local_at s v) v u to s) s (Some (with_put to.named u s)) (λ p next. read_fine code (local_at s v) v u to s p refl scalar (puts code p to u s at next));
+          formed = λ to s agrees at. one code (read_from (local_at s v) v u to s) s (Some (with_put to.named u s)) (λ p next. read_fine code (local_at s v) v u to s p refl (let named = found_so.1 refl in agrees.1 v named.0 named.1) scalar (puts code p to u s at next));
           constant = λ n is. absurd (cc);
         })

@@ -8,12 +8,14 @@ use Rattle.ctl_program.specs.declared.types.RecordType.{RecordType}
 use Rattle.ctl_program.specs.declared.types.Root.{Root}
 use Rattle.ctl_program.specs.declared.types.Root.TheVariants.{BlockPool, Controlled, MarkPool, Untagged}
 use Rattle.ctl_program.specs.declared.types.Ty.{Ty}
+use Rattle.ctl_program.specs.declared.types.Ty.TheVariants.{Record}
+use Rattle.ctl_program.specs.declared.types.Var.{Var}
 use Rattle.ctl_program.specs.declared.operators.SubprogramKind.{SubprogramKind}
 use Rattle.ctl_program.specs.declared.operators.SubprogramKind.TheVariants.{Procedure}
 use Rattle.ctl_program.specs.declared.program.Subprogram.{Subprogram}
 use Rattle.ctl_program.specs.declared.program.Checked.{Checked}
 use Rattle.ctl_well_typed.specs.Setting as W
-use Rattle.ctl_well_typed.specs.Programs.{AccessFine, Overrides, Results, SubprogramFine, WellTyped, operation}
+use Rattle.ctl_well_typed.specs.Programs.{AccessFine, Overrides, Pooled, Results, SubprogramFine, WellTyped, operation}
 use Rattle.ctl_well_typed.specs.Programs as P
 use Rattle.ctl_code.specs.declared.kinds.Kind.{Kind}
 use Rattle.ctl_code.specs.declared.kinds.Kind.TheVariants.{Body}
@@ -22,7 +24,7 @@ use Rattle.ctl_code.specs.declared.code.Entry.{Entry}
 use Rattle.ctl_code.specs.declared.code.Operations.{Operations}
 use Rattle.ctl_code.specs.declared.code.Code.{Code}
 use Rattle.ctl_meaning.specs.Outcome.{program_error}
-use Rattle.ctl_code.specs.Valid.{AreInScope, IsBegun, IsDeclarable, IsEntry, IsException, IsFine, IsInScope, IsStorageInScope, HasCollection, IsValid, Leads, MayBeEntry, TakesObject, TakesStorage, storage_formals}
+use Rattle.ctl_code.specs.Valid.{AreInScope, IsBegun, IsDeclarable, IsEntry, IsException, IsFine, IsInScope, IsStorageInScope, IsValid, Leads, MayBeEntry, MayHaveVariable, TakesObject, TakesStorage, storage_formals}
 use Rattle.ctl_layout.specs.Around.{Line, Around, among, behind}
 use Rattle.ctl_layout.specs.Layout as Layout
 use Rattle.ctl_layout.specs.Layout.{bodies, body_code, entries_from, entry_at, HasKinds, in_body, instructions_of, IsLaidOut, kinds_of, master_code, nowhere, outside, operations_in, operations_of, program_code}
@@ -33,10 +35,10 @@ use Rattle.ctl_gen.proofs.Known.{both_true}
 use Rattle.ctl_gen.proofs.Place.{HasAt, has_all}
 use Rattle.ctl_gen.proofs.Place as Place
 use Rattle.ctl_gen.proofs.Formed.{AreFine, fine_both, FormedAt, Has, has_back, has_front}
-use Rattle.ctl_gen.proofs.FormedAround.{Agrees, agrees_body}
+use Rattle.ctl_gen.proofs.FormedAround.{Agrees, IsHoused, agrees_body, named_around, variable_there}
 use Rattle.ctl_gen.proofs.FormedLayouts.{EachAtHome, alike, declarable, declarable_in, home_of, layouts_laid, not_more}
 use Rattle.ctl_gen.proofs.FormedCalls.{MayCall, MayNew, kind_by, named_level}
-use Rattle.ctl_gen.proofs.FormedMasters.{master_good, slots_told}
+use Rattle.ctl_gen.proofs.FormedMasters.{MaySee, master_good, slots_told}
 
 -- Tables ---------------------------------------------------------------------------------------------
 
@@ -312,12 +314,22 @@ module _ (program : Checked) (code : Code) (laid : IsLaidOut program code) (kind
   access_fine : (env : W.Frames) (a : ℕ) → (to : W.HasAccess typed.k env a) → AccessFine typed.k a to.is to.home
   access_fine env a to = typed.each_access a to.is to.home (sym (ap (λ xs. slice_get xs a) typed.fits.accesses) ∙ to.found) to.at_home
 
-  seen : (env : W.Frames) (a : ℕ) → W.HasAccess typed.k env a → HasCollection code (length env) a
-  seen env a to =
-      let fine = access_fine env a to in
-      let level = fine.level in
-      let least = not_more to.home env to.encloses in
-      (Layout.home_of to.is, collection_there env a to, named_level fine.collection, omega (arith, level, least))
+  -- so each stands in its slot, and the pool of the type does too
+  pool_there : (env home : W.Frames) (s : List Kind) (o : Option Var) → W.Encloses home env → Agrees env s → Pooled typed.k home o → MayHaveVariable s o
+  pool_there env home s None encloses agrees P.standard = tt
+  pool_there env home s (Some v) encloses agrees (P.from_pool {t = t} names rooted pool) = variable_there env s v (W.Declared (Record t)) agrees (named_around home env v (W.Declared (Record t)) encloses names)
+
+  housed : (env : W.Frames) (a : ℕ) → W.HasAccess typed.k env a → IsHoused code env a
+  housed env a to s agrees =
+      let fine = access_fine env a to in (
+        Layout.home_of to.is,
+        collection_there env a to,
+        variable_there env s to.is.collection (W.Collection a) agrees (named_around to.home env to.is.collection (W.Collection a) to.encloses fine.collection),
+        pool_there env to.home s to.is.pool to.encloses agrees fine.pool,
+      )
+
+  seen : MaySee code typed.k
+  seen env a to = (collection_there env a to, housed env a to)
 
   -- and its record type is in view there
   may_new : MayNew code typed.k
@@ -327,6 +339,7 @@ module _ (program : Checked) (code : Code) (laid : IsLaidOut program code) (kind
       let least = not_more to.home env to.encloses in
       let view : W.HasRecord typed.k to.home t = subst (W.InView typed.k to.home) designates fine.designated in (
         (Layout.home_of to.is, collection_there env a to, named_level fine.collection, omega (arith, level, least), subst (λ n. IsDeclarable code n t) (sym level) (declarable program typed code laid to.home t view)),
+        housed env a to,
         (operations_in view.is, operations_there t view.is (sym (ap (λ rs. slice_get rs t) typed.fits.records) ∙ view.found)),
       )
 

@@ -69,7 +69,7 @@ is_asked code e place under at t stack s ops n drops is =
 -- a size
 pub size_asked : (code : Code) (e : Engine) (place t out slot : ℕ) (s : State) → Before code e place (TakeBlock t out slot) s → IsAsked code e place 2 s s.operands
 size_asked code e place t out slot s b =
-    let under = b.fine in
+    let under = b.fine.0 in
     let n = are_newest code (kept e) (height under.0) Count Count under.0 s.control s.operands s.world tt tt (subst (λ (l : List Kind). Inside code (kept e) l s.control s.operands s.world) under.1 b.inside) refl in
     is_asked code e place 2 (height under.0) t under.0 s s.operands n under.2 (ap (λ (l : List Kind). height (drop 2 l)) (sym (stack_is code place b.stack b.leads ∙ under.1)))
 

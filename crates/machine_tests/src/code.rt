@@ -1,7 +1,9 @@
 //! Codes that are accepted, and codes with one fault each.
 
 use crate::codes::{Part, add_text, code_of, completed, is_well_formed};
-use crate::lines::{ADD, AND, CELL_1, CELL_2, CELL_3, CELL_4, CELL_5, EQUAL, FIRST, Line, SECOND};
+use crate::lines::{
+    ADD, AND, CELL_1, CELL_2, CELL_3, CELL_4, CELL_5, EQUAL, FIRST, Line, MAIN_SLOTS, SECOND,
+};
 use ctl_code::code::{Code, Instr, Operations, Way};
 use ctl_program::operators::{Direction, Shortcut, UnaryOp};
 use ctl_program::types::Ty;
@@ -540,6 +542,34 @@ const EXCEPTION_PAST_THE_TABLE: &[Line] = &[
     (Instr::Leave, "m"),
 ];
 
+/// An object in a slot that the newest master does not have.
+const SLOT_PAST_THE_MASTER: &[Line] = &[
+    (Instr::Start(0), ""),
+    (
+        Instr::Declare {
+            slot: MAIN_SLOTS,
+            record: 0,
+        },
+        "m",
+    ),
+    (Instr::Leave, "m"),
+];
+
+/// A variable further out than the outermost master.
+const PAST_THE_OUTERMOST: &[Line] = &[
+    (Instr::Start(0), ""),
+    (
+        Instr::Fetch {
+            out: 1,
+            slot: 0,
+            ty: Ty::Integer,
+            to: FIRST,
+        },
+        "m",
+    ),
+    (Instr::Leave, "m"),
+];
+
 /// The record type has the body of this number as its Finalize, and the only text has two images.
 fn change_tables(code: &mut Code, alloc: Global, finalize: usize) -> Result<(), AllocError> {
     code.records.clear();
@@ -619,6 +649,8 @@ fn faults_are_refused(rt: HostRuntime) -> Result<(), Fail> {
         (TEXT_PAST_THE_TABLE, "a text past the table"),
         (EXCEPTION_PAST_THE_TABLE, "an exception past the table"),
         (OPERAND_LEFT_OVER, "an operand that is left over"),
+        (SLOT_PAST_THE_MASTER, "a slot past those of its master"),
+        (PAST_THE_OUTERMOST, "a variable of no master"),
     ] {
         assert!(rt; !is_accepted_with_finalize(alloc, lines)?, "{fault}");
     }

@@ -4,8 +4,5 @@ use Rattle.ctl_code.specs.Kinds.{stack_at}
 use Rattle.ctl_code.specs.Valid.{IsFine}
 use Rattle.ctl_code.proofs.fine.is_fine.Goals as goal
 
-pub returns-in-Free : goal.returns-in-Free
-returns-in-Free c = subst (λ (i : Instr). IsTrue c.is_free_fine.result ↔ IsFine c.args.code.now c.args.place i (stack_at c.args.code.now.kinds c.args.place)) (sym c.in-Free.is) (c.is_free_fine.ensures c.in-Free.out c.in-Free.slot)
-
 pub returns-in-FreePart : goal.returns-in-FreePart
 returns-in-FreePart c = subst (λ (i : Instr). IsTrue c.is_free_part_fine.result ↔ IsFine c.args.code.now c.args.place i (stack_at c.args.code.now.kinds c.args.place)) (sym c.in-FreePart.is) (c.is_free_part_fine.ensures c.in-FreePart.position)
