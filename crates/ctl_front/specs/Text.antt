@@ -4,6 +4,7 @@ use Rattle.ctl_tree.specs.declared.fault.Fault.{Fault}
 use Rattle.ctl_tree.specs.declared.fault.FaultCode.TheVariants.{Memory}
 use Rattle.ctl_tree.specs.declared.token.Token.{Token}
 use Rattle.ctl_lexis.specs.Lexis.{HasTokens, HasFault}
+use Rattle.ctl_grammar.specs.Depth.{greatest_depth}
 use Rattle.ctl_grammar.specs.Form.{Node}
 use Rattle.ctl_grammar.specs.Text.{IsProgram}
 use Rattle.ctl_grammar.specs.Fault.{HasGrammarFault}
@@ -22,22 +23,18 @@ use Rattle.ctl_types.specs.Elaboration.{elaborate}
 abbrev pub Written : Type 0
 Written = Tree Identifier Identifier
 
--- how many constructs may stand in one another (profile)
-abbrev pub room : ℕ
-room = 100
-
 -- the bytes spell the tree: they spell tokens (2), these are a program in the grammar, and the tree is what is kept of that
 pub record Spells (source : List ℕ) (tree : Written) : Type 0 where
   pub tokens : List Token
   pub lexical : HasTokens source tokens
   pub node : Node
-  pub grammatical : IsProgram room node tokens
+  pub grammatical : IsProgram greatest_depth node tokens
   pub kept : tree ≡ read_tree (kept_program node)
 
 -- the first fault of bytes that spell no tree: of their lexis, and only where they spell tokens of their grammar
 pub data BreaksForm : List ℕ → Fault → Type 0 where
   of_lexis : {source : List ℕ} {fault : Fault} → HasFault source fault → BreaksForm source fault
-  of_grammar : {source : List ℕ} {fault : Fault} (tokens : List Token) → HasTokens source tokens → HasGrammarFault room tokens fault → BreaksForm source fault
+  of_grammar : {source : List ℕ} {fault : Fault} (tokens : List Token) → HasTokens source tokens → HasGrammarFault greatest_depth tokens fault → BreaksForm source fault
 
 -- a tree with what its names denote, and its first broken rules on names and on use clauses (8)
 unfoldable pub resolved : Written → Tree Definition Use × Broken

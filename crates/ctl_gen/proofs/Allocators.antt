@@ -19,7 +19,7 @@ use Rattle.ctl_meaning.specs.World.{Place, InBlock, Allocated, Object, Collectio
 use Rattle.ctl_meaning.specs.Lists.{item_or, opened_lists}
 use Rattle.ctl_meaning.specs.Activations.{master_of}
 use Rattle.ctl_meaning.specs.Ledger.{collection_at}
-use Rattle.ctl_meaning.specs.Limits.{integer_last}
+use Rattle.ctl_program.specs.Limits.{integer_last}
 use Rattle.ctl_meaning.specs.Objects.{cells_at, object_in}
 use Rattle.ctl_meaning.specs.Pools.{block_at, block_pool_at, take_block}
 use Rattle.ctl_meaning.specs.Changes.{create_at, forget, home_of as origin_home, in_pools, is_vacant, join, new_object, object_at, owner_of, slot_at}

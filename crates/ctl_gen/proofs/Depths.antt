@@ -7,7 +7,7 @@ use Rattle.ctl_program.specs.declared.types.Ty.TheVariants.{Record}
 use Rattle.ctl_program.specs.declared.types.Component.{Component}
 use Rattle.ctl_program.specs.declared.types.RecordType.{RecordType}
 use Rattle.ctl_meaning.specs.Lists.{any_of}
-use Rattle.ctl_meaning.specs.Limits.{scalar_size, tag_size}
+use Rattle.ctl_program.specs.Limits.{scalar_size, tag_size}
 use Rattle.ctl_meaning.specs.Types.{Tables, opened_types, as_record_size, cells_of, cells_within, components, controlled_within, default_within, has_controlled, has_default, is_controlled, is_tagged_root, of_record, root_in, size_of, size_within, total}
 use Rattle.ctl_layout.specs.Records.{is_laid}
 use Rattle.ctl_gen.proofs.Known.{AreParts, IsLaid, IsPart, IsScalar, laid_if, part_laid}

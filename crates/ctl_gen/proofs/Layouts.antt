@@ -11,7 +11,7 @@ use Rattle.ctl_program.specs.declared.types.Root.TheVariants.{BlockPool, Control
 use Rattle.ctl_program.specs.declared.types.Component.{Component}
 use Rattle.ctl_program.specs.declared.types.RecordType.{RecordType}
 use Rattle.ctl_meaning.specs.Lists.{item_or, keep}
-use Rattle.ctl_meaning.specs.Limits.{least_record_size, scalar_size, tag_size}
+use Rattle.ctl_program.specs.Limits.{least_record_size, scalar_size, tag_size}
 use Rattle.ctl_meaning.specs.Types.{Tables, as_record_size, cells_of, is_tagged_root, offset_in, placed, root_in, size_of, total}
 use Rattle.ctl_code.specs.declared.code.Begun.{Begun}
 use Rattle.ctl_code.specs.declared.code.Initial.{Initial}

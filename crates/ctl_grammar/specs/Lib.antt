@@ -1,3 +1,4 @@
+pub mod Depth
 pub mod Derivation
 pub mod Form
 pub mod Grammar

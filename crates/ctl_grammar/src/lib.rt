@@ -1,6 +1,7 @@
 //! The grammar of the subset of Ada that adactl takes.
 #![tactic(auto)]
 
+pub mod depth;
 pub mod joining;
 pub mod kind;
 pub mod laws;

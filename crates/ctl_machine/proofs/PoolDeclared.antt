@@ -9,7 +9,7 @@ use Rattle.ctl_program.specs.declared.types.Root.TheVariants as RootOf
 use Rattle.ctl_program.specs.declared.types.Ty.TheVariants.{Count, Record}
 use Rattle.ctl_tree.specs.declared.event.Owner.TheVariants as OwnerOf
 use Rattle.ctl_meaning.specs.Changes.{in_pools, new_object, opened_changes}
-use Rattle.ctl_meaning.specs.Limits.{greatest_block_count, greatest_block_size, least_block_count, least_block_size}
+use Rattle.ctl_program.specs.Limits.{greatest_block_count, greatest_block_size, least_block_count, least_block_size}
 use Rattle.ctl_meaning.specs.Lists.{last_of, opened_lists}
 use Rattle.ctl_meaning.specs.Masters.{good_discriminants, lies_between}
 use Rattle.ctl_meaning.specs.Outcome.{ByRaise, constraint_error}

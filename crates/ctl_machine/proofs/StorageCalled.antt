@@ -3,7 +3,7 @@ use Rattle.std.proofs.Common.{◌≡◌, ℕ, zero, suc, ◌+◌, ◌-◌, ◌�
 use Rattle.std.specs.Prelude.{slice_get, slice_set, if◌then◌else◌}
 use Rattle.std.proofs.lemmas.List.{append_assoc, length-append}
 use Rattle.ctl_tree.specs.declared.event.Event.{Event}
-use Rattle.ctl_meaning.specs.Limits.{alignment}
+use Rattle.ctl_program.specs.Limits.{alignment}
 use Rattle.ctl_meaning.specs.World as W
 use Rattle.ctl_meaning.specs.World.{World}
 use Rattle.ctl_meaning.specs.Changes.{home_of}

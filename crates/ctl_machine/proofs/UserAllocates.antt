@@ -8,7 +8,7 @@ use Rattle.ctl_tree.specs.declared.event.Event.TheVariants.{Allocate}
 use Rattle.ctl_meaning.specs.World.{Object, World}
 use Rattle.ctl_meaning.specs.Lists.{opened_lists}
 use Rattle.ctl_meaning.specs.Objects.{object_in, opened_objects}
-use Rattle.ctl_meaning.specs.Limits.{integer_last}
+use Rattle.ctl_program.specs.Limits.{integer_last}
 use Rattle.ctl_meaning.specs.Outcome.{ByRaise, constraint_error}
 use Rattle.ctl_meaning.specs.Storage.{storage_actuals}
 use Rattle.ctl_meaning.specs.Changes.{home_of}

@@ -1,6 +1,6 @@
 -- Calls of the Allocate and the Deallocate that the user wrote for the type of a pool: what the table calls, and what stands there before (13.11).
 use Rattle.std.specs.Prelude.{◌≡◌, ℕ, ◌+◌, ◌-◌, ◌≤◌, List, Some, length, slice_get, slice_set}
-use Rattle.ctl_meaning.specs.Limits.{alignment}
+use Rattle.ctl_program.specs.Limits.{alignment}
 use Rattle.ctl_meaning.specs.World.{Object, World}
 use Rattle.ctl_meaning.specs.Changes.{home_master}
 use Rattle.ctl_code.specs.declared.kinds.Kind.{Kind}

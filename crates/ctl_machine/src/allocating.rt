@@ -39,6 +39,7 @@ use crate::spots::Spot;
 use crate::storage_calls::StorageActuals;
 use ctl_code::code::{Code, Parts, Way};
 use ctl_objects::{Life, Origin, Placing, Spot as BlockSpot, Stage};
+use ctl_program::limits::STORAGE_COUNT_LAST;
 use ctl_program::types::Var;
 use ctl_tree::ending::Stop;
 use ctl_tree::event::{Event, Owner};
@@ -46,9 +47,6 @@ use std::alloc::AllocError;
 
 /// The number of Constraint_Error in each table of exceptions (RM 11.1).
 const CONSTRAINT_ERROR: usize = 0;
-
-/// Storage_Count'Last (RM 13.7.1).
-const STORAGE_COUNT_LAST: u64 = 2147483647;
 
 /// Tells whether an object at this stage is a new one: its finalization has not begun, and it has not joined its collection (RM 4.8).
 fn is_new(stage: Stage) -> bool

@@ -1,4 +1,3 @@
-pub mod Limits
 pub mod Lists
 pub mod World
 pub mod Ledger

@@ -3,7 +3,7 @@ use Rattle.std.specs.Prelude.{ℕ, List, [], ◌∷◌, length, nat_lt, nat_eq, 
 use Rattle.ctl_program.specs.declared.operators.SubpoolFunction.{SubpoolFunction}
 use Rattle.ctl_program.specs.declared.operators.SubpoolFunction.TheVariants.{Mark, Default}
 use Rattle.ctl_meaning.specs.World.{MarkPool}
-use Rattle.ctl_meaning.specs.Limits.{greatest_subpool_count}
+use Rattle.ctl_program.specs.Limits.{greatest_subpool_count}
 use Rattle.ctl_meaning.specs.Pools.{block_pool_at, mark_pool_at, push_subpool, last_mark}
 use Rattle.ctl_meaning.specs.Changes.{in_pools}
 use Rattle.ctl_meaning.specs.Outcome.{storage_error, Act, ◌>>=◌, ◌>>◌, done, raise, look, change, either, on_some}

@@ -15,7 +15,7 @@ use Rattle.ctl_meaning.specs.Ledger.{layers_of}
 use Rattle.ctl_meaning.specs.Pools.{push_block_pool, push_mark_pool}
 use Rattle.ctl_meaning.specs.Changes.{take_object_number, create, open_master, close_master, gone_with, add_layer, take_layer, set_slot, set_value, add_collection, start_collections, in_pools, close_pool_at}
 use Rattle.ctl_meaning.specs.Members.{OfSets}
-use Rattle.ctl_meaning.specs.Limits.{least_block_size, greatest_block_size, least_block_count, greatest_block_count, least_mark_pool_size, greatest_mark_pool_size}
+use Rattle.ctl_program.specs.Limits.{least_block_size, greatest_block_size, least_block_count, greatest_block_count, least_mark_pool_size, greatest_mark_pool_size}
 use Rattle.ctl_meaning.specs.Outcome.{constraint_error, Result, Act, Done, ◌>>=◌, ◌>>◌, done, nothing, raise, counted, ticked, then_always, look, change, Tried, Fine, Raised, attempt, either, on_some}
 use Rattle.ctl_meaning.specs.Types.{Category, Elementary, Composite, category_of, root_of, begin_cells}
 use Rattle.ctl_meaning.specs.Names.{Tools, gone, existing, scalar_of}

@@ -6,7 +6,7 @@ use Rattle.ctl_program.specs.declared.operators.UnaryOp.{UnaryOp}
 use Rattle.ctl_program.specs.declared.operators.UnaryOp.TheVariants.{Plus, Minus, Abs, Not}
 use Rattle.ctl_program.specs.declared.operators.BinaryOp.{BinaryOp}
 use Rattle.ctl_program.specs.declared.operators.BinaryOp.TheVariants.{Add, Subtract, Multiply, Divide, Modulo, Remainder, And, Or, Xor, Equal, Unequal, Less, LessEqual, Greater, GreaterEqual}
-use Rattle.ctl_meaning.specs.Limits.{integer_first, integer_last}
+use Rattle.ctl_program.specs.Limits.{integer_first, integer_last}
 
 -- Cells ----------------------------------------------------------------------
 

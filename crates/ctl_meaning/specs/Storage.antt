@@ -8,7 +8,7 @@ use Rattle.ctl_tree.specs.declared.event.Cause.TheVariants.{Subpool}
 use Rattle.ctl_tree.specs.declared.event.Event.TheVariants.{Allocate, Deallocate}
 use Rattle.ctl_meaning.specs.World.{Place, Standard, InBlock, InSubpool, Slot, Binds, holding, unset, valued, BlockPool, Pools, World}
 use Rattle.ctl_meaning.specs.World as W
-use Rattle.ctl_meaning.specs.Limits.{integer_last, alignment}
+use Rattle.ctl_program.specs.Limits.{integer_last, alignment}
 use Rattle.ctl_meaning.specs.Lists.{item_or}
 use Rattle.ctl_meaning.specs.Pools.{block_pool_at, take_block, give_block, block_at, mark_pool_at, subpool_at, last_mark, set_used, detach, belongs_now, keep_dead, drop_released, dropped_among}
 use Rattle.ctl_meaning.specs.Objects.{lies_in_subpool, lies_in_pool}

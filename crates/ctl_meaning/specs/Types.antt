@@ -9,7 +9,7 @@ use Rattle.ctl_program.specs.declared.types.Component.{Component}
 use Rattle.ctl_program.specs.declared.types.Operations.{Operations}
 use Rattle.ctl_program.specs.declared.types.RecordType.{RecordType}
 use Rattle.ctl_program.specs.declared.types.AccessType.{AccessType}
-use Rattle.ctl_meaning.specs.Limits.{scalar_size, tag_size, least_record_size}
+use Rattle.ctl_program.specs.Limits.{scalar_size, tag_size, least_record_size}
 use Rattle.ctl_meaning.specs.Lists.{any_of}
 
 -- the tables of types of a checked program

@@ -20,4 +20,4 @@ mod statements;
 mod types;
 mod whole;
 
-pub use whole::{ROOM, parse};
+pub use whole::parse;

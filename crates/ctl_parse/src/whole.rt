@@ -2,6 +2,7 @@
 
 ghost use Rattle.std.specs.Prelude.{◌≡◌, ◌⊎◌, IfOk, IfErr, MatchResult};
 ghost use Rattle.ctl_tree.specs.declared.fault.Fault.{Fault};
+ghost use Rattle.ctl_grammar.specs.Depth.{greatest_depth};
 ghost use Rattle.ctl_grammar.specs.Form.{Node, none};
 ghost use Rattle.ctl_grammar.specs.Grammar.{program};
 ghost use Rattle.ctl_grammar.specs.Text.{IsProgram, answer};
@@ -12,6 +13,7 @@ ghost use Rattle.ctl_parse.specs.Parts.{program_node, tree_node};
 ghost use Rattle.ctl_parse.specs.Reads.{Ends, Goes, Reads};
 
 use crate::cursor::Parser;
+use ctl_grammar::depth::GREATEST_DEPTH;
 use ctl_grammar::kind::is_left_out;
 use ctl_grammar::refused::{Reason, Refused};
 use ctl_syntax::denoted::Written;
@@ -20,9 +22,6 @@ use ctl_tree::fault::{Fault, FaultCode};
 use ctl_tree::span::Span;
 use ctl_tree::token::{Kind, Token};
 use std::alloc::Global;
-
-/// How many constructs may be open: bodies of subprograms, blocks, ifs, loops and pairs of parentheses.
-pub const ROOM: u32 = 100;
 
 impl<'a> Parser<'a> {
     /// Reads `{context} "procedure" id "is" part "begin" handled "end" [id] ";"`, and the end mark (RM 10.1.1).
@@ -108,19 +107,19 @@ fn fault_of(refused: Refused, rest: &[Token], tokens: &[Token]) -> Fault
 ///
 /// `UNEXPECTED` stands at a token that the grammar does not allow there, and `LEFT_OUT` too if that is a reserved word
 /// that the subset leaves out; `LEFT_OUT` also at an attribute or aspect that it leaves out. `TOO_DEEP` stands at the
-/// first token of a construct where `ROOM` are open, and `END_NAME` at a name behind `end` that is not the subprogram's (RM 6.3).
+/// first token of a construct where `GREATEST_DEPTH` are open, and `END_NAME` at a name behind `end` that is not the subprogram's (RM 6.3).
 /// `MEMORY`: the host refused memory.
 pub fn parse(alloc: Global, tokens: &[Token]) -> Result<Written, Fault>
-    ensures found { IfOk result (λ tree. (v : Node) × IsProgram ROOM v tokens.now × (tree_node tree ≡ kept_program v)) }
-    ensures refused { IfErr result (λ fault. HasGrammarFault ROOM tokens.now fault ⊎ IsMemory fault) }
+    ensures found { IfOk result (λ tree. (v : Node) × IsProgram greatest_depth v tokens.now × (tree_node tree ≡ kept_program v)) }
+    ensures refused { IfErr result (λ fault. HasGrammarFault greatest_depth tokens.now fault ⊎ IsMemory fault) }
 
     // A text that is a program is not refused for another reason, nor is one with a fault taken.
-    ensures all_programs { (v : Node) → IsProgram ROOM v tokens.now → MatchResult result (λ tree. tree_node tree ≡ kept_program v) IsMemory }
-    ensures all_faults { (fault : Fault) → HasGrammarFault ROOM tokens.now fault → MatchResult result (λ _. ⊥) (λ f. (f ≡ fault) ⊎ IsMemory f) }
+    ensures all_programs { (v : Node) → IsProgram greatest_depth v tokens.now → MatchResult result (λ tree. tree_node tree ≡ kept_program v) IsMemory }
+    ensures all_faults { (fault : Fault) → HasGrammarFault greatest_depth tokens.now fault → MatchResult result (λ _. ⊥) (λ f. (f ≡ fault) ⊎ IsMemory f) }
 {
     let mut parser = Parser {
         rest: tokens,
-        left: ROOM,
+        left: GREATEST_DEPTH,
         fault: None,
         alloc,
     };

@@ -11,6 +11,7 @@
 #![tactic(auto)]
 
 pub mod expression;
+pub mod limits;
 pub mod operators;
 pub mod program;
 pub mod statement;

@@ -8,6 +8,7 @@ use Rattle.ctl_program.specs.declared.types.Var.{Var}
 use Rattle.ctl_program.specs.declared.expression.Expr.{Expr}
 use Rattle.ctl_program.specs.declared.expression.Expr.TheVariants as e
 use Rattle.ctl_program.specs.declared.statement.Piece.{Piece}
+use Rattle.ctl_program.specs.Limits.{integer_last}
 use Rattle.ctl_syntax.specs.declared.denoted.Use.{Use}
 use Rattle.ctl_syntax.specs.declared.name.Identifier.{Identifier}
 use Rattle.ctl_syntax.specs.declared.name.Mark.{Mark}
@@ -144,7 +145,7 @@ unary_stays place o x tables asked g = next_stays (x.judged tables (spec.asked_b
 number_stays : (place : Span) (m : ℕ) (tables : Tables) (asked : Asked) → Stays (spec.number_judged place m tables asked)
 number_stays place m tables asked =
     let t : Typed_value = record { ty = adopted asked; value = e.Constant (spec.number_cell m) } in
-    next_stays (spec.in_range place m t) (spec.fits place asked) (if_stays (nat_lt 2147483647 m) (but fault.Range place t) (known t) (but_stays fault.Range place t) (known_stays t)) (fits_stays place asked)
+    next_stays (spec.in_range place m t) (spec.fits place asked) (if_stays (nat_lt integer_last m) (but fault.Range place t) (known t) (but_stays fault.Range place t) (known_stays t)) (fits_stays place asked)
 
 null_stays : (place : Span) (tables : Tables) (asked : Asked) → Stays (spec.null_judged place tables asked)
 null_stays place tables (asking.Exactly (ty.Access a)) = λ n h. h

@@ -50,6 +50,7 @@ use Rattle.ctl_typing.specs.Lookup.{same, is_record, component_of, descends, roo
 use Rattle.ctl_typing.specs.Typing as spec
 use Rattle.ctl_typing.specs.Typing.{Sense}
 use Rattle.ctl_well_typed.specs.Setting.{In, Frames, Setting, InView}
+use Rattle.ctl_program.specs.Limits.{integer_last, integer_first_cell}
 use Rattle.ctl_well_typed.specs.Types as types
 use Rattle.ctl_well_typed.specs.Types.{is_scalar, IsCell, is_written, Covers, same_type, ancestor, Walks, arrived, further, Leads, HasRoot, HasDiscriminant}
 use Rattle.ctl_well_typed.specs.Expressions as rule
@@ -482,8 +483,8 @@ module _ (k : Setting) (env : Frames) (tables : Tables) (sound : Sound k env tab
   attributed_good : (place : Span) (a : Attribute) (f : Found) → FoundFine k env f → FoundRight (spec.attributed place a f)
   attributed_good place attribute.Access (is.Part p) h = accessed_good place p.head p.steps p.ty p.mutability p.aliasing h.alias
   attributed_good place attribute.Image (is.TypeName t) h = image_of_good place t
-  attributed_good place attribute.First (is.TypeName t) h = bound_of_good place t 18446744071562067968 (inr (omega arith, omega arith))
-  attributed_good place attribute.Last (is.TypeName t) h = bound_of_good place t 2147483647 (inl (omega arith))
+  attributed_good place attribute.First (is.TypeName t) h = bound_of_good place t integer_first_cell (inr (omega arith, omega arith))
+  attributed_good place attribute.Last (is.TypeName t) h = bound_of_good place t integer_last (inl (omega arith))
   attributed_good place a f h = λ s. tt
 
   -- Suffixes ------------------------------------------------------------------------------------------------------------------

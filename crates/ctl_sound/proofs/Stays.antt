@@ -10,6 +10,7 @@ use Rattle.ctl_program.specs.declared.types.Ty.TheVariants as ty
 use Rattle.ctl_program.specs.declared.expression.Actual.{Actual}
 use Rattle.ctl_program.specs.declared.expression.Step.{Step}
 use Rattle.ctl_program.specs.declared.operators.SubpoolFunction.{SubpoolFunction}
+use Rattle.ctl_program.specs.Limits.{integer_last, integer_first_cell}
 use Rattle.ctl_syntax.specs.declared.denoted.Denoted.TheVariants as denoted
 use Rattle.ctl_syntax.specs.declared.denoted.LibraryName.{LibraryName}
 use Rattle.ctl_syntax.specs.declared.denoted.LibraryName.TheVariants as library
@@ -327,8 +328,8 @@ bound_of_stays place _ cell = wrong_stays Found fault.Type place
 attributed_stays : (place : Span) (a : Attribute) (f : Found) → Stays (spec.attributed place a f)
 attributed_stays place attribute.Access (is.Part p) = accessed_stays place p.head p.steps p.ty p.mutability p.aliasing
 attributed_stays place attribute.Image (is.TypeName t) = image_of_stays place t
-attributed_stays place attribute.First (is.TypeName t) = bound_of_stays place t 18446744071562067968
-attributed_stays place attribute.Last (is.TypeName t) = bound_of_stays place t 2147483647
+attributed_stays place attribute.First (is.TypeName t) = bound_of_stays place t integer_first_cell
+attributed_stays place attribute.Last (is.TypeName t) = bound_of_stays place t integer_last
 attributed_stays place a f = wrong_stays Found fault.Type place
 
 with_one_stays : (tables : Tables) (place : Span) (f : Found) (x : Sense) → Keeps x → Stays (spec.with_one tables place f x)

@@ -3,6 +3,7 @@ use Rattle.std.proofs.Common.{arith, ◌≡◌, ◌≤◌, refl, ap, ℕ, nat_lt
 use Rattle.std.proofs.lemmas.Bool.Decides.{nat_tests}
 use Rattle.ctl_program.specs.declared.types.Ty.{Ty}
 use Rattle.ctl_program.specs.declared.types.Ty.TheVariants as ty
+use Rattle.ctl_program.specs.Limits.{integer_last}
 use Rattle.ctl_syntax.specs.declared.item.Mode.{Mode}
 use Rattle.ctl_syntax.specs.declared.item.Mode.TheVariants as mode
 use Rattle.ctl_typing.specs.declared.found.Asked.{Asked}
@@ -57,10 +58,10 @@ order_scalar (ty.Record n) h = absurd (cc)
 order_scalar t h = refl
 
 -- what stands for a literal is in the range of both number types
-within_range : (m : ℕ) → number_cell m ≤ 2147483647
-within_range m = by_test (nat_lt 2147483647 m) refl
+within_range : (m : ℕ) → number_cell m ≤ integer_last
+within_range m = by_test (nat_lt integer_last m) refl
   where
-    by_test : (b : Bool) → nat_lt 2147483647 m ≡ b → (if b then 0 else m) ≤ 2147483647
+    by_test : (b : Bool) → nat_lt integer_last m ≡ b → (if b then 0 else m) ≤ integer_last
     by_test true h = omega arith
     by_test false h = grind (arith, nat_tests)
 

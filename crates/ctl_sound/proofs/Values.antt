@@ -30,6 +30,7 @@ use Rattle.ctl_typing.specs.Typing as spec
 use Rattle.ctl_typing.specs.Typing.{Sense, sense, step_of, adopted}
 use Rattle.ctl_well_typed.specs.Setting.{Frames, Setting, InView, HasAccess}
 use Rattle.ctl_well_typed.specs.Types.{is_number, Covers, same_type}
+use Rattle.ctl_program.specs.Limits.{integer_last}
 use Rattle.ctl_well_typed.specs.Expressions as rule
 use Rattle.ctl_well_typed.specs.Expressions.{Typed, Perhaps}
 use Rattle.ctl_well_typed.specs.Statements as puts
@@ -54,7 +55,7 @@ module _ (k : Setting) (env : Frames) (tables : Tables) (sound : Sound k env tab
   -- Literals ---------------------------------------------------------------------------------
 
   in_range_good : (Q : Typed_value → Type 0) (place : Span) (m : ℕ) (t : Typed_value) → Q t → Gives Q (spec.in_range place m t)
-  in_range_good Q place m t h = by_test (nat_lt 2147483647 m)
+  in_range_good Q place m t h = by_test (nat_lt integer_last m)
     where
       by_test : (b : Bool) → Gives Q (if b then but fault.Range place t else known t)
       by_test true s = h

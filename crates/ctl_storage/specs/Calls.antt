@@ -4,7 +4,7 @@ use Rattle.std.specs.Option.{option_map_or}
 use Rattle.std.specs.FinMap.{get}
 use Rattle.ctl_meaning.specs.World as W
 use Rattle.ctl_meaning.specs.World.{Object, empty_world}
-use Rattle.ctl_meaning.specs.Limits.{least_block_size, greatest_block_size, least_block_count, greatest_block_count}
+use Rattle.ctl_program.specs.Limits.{least_block_size, greatest_block_size, least_block_count, greatest_block_count}
 use Rattle.ctl_meaning.specs.Objects.{lies_in_pool, object_in}
 use Rattle.ctl_meaning.specs.Pools.{block_at, block_pool_at, give_block, take_block}
 use Rattle.ctl_meaning.specs.Changes.{is_vacant}

@@ -26,6 +26,7 @@ use Rattle.ctl_program.specs.declared.operators.SubpoolFunction.{SubpoolFunction
 use Rattle.ctl_program.specs.declared.operators.SubpoolFunction.TheVariants as subpool
 use Rattle.ctl_program.specs.declared.statement.Piece.{Piece}
 use Rattle.ctl_program.specs.declared.statement.Piece.TheVariants as piece
+use Rattle.ctl_program.specs.Limits.{integer_last, integer_first_cell}
 use Rattle.ctl_syntax.specs.declared.denoted.Denoted.{Denoted}
 use Rattle.ctl_syntax.specs.declared.denoted.Denoted.TheVariants as denoted
 use Rattle.ctl_syntax.specs.declared.denoted.LibraryName.{LibraryName}
@@ -436,8 +437,8 @@ bound_of place t cell = wrong rule.Type place
 abbrev pub attributed : Span → Attribute → Found → Judgement Found
 attributed place attribute.Access (Part p) = accessed place p.head p.steps p.ty p.mutability p.aliasing
 attributed place attribute.Image (TypeName t) = image_of place t
-attributed place attribute.First (TypeName t) = bound_of place t 18446744071562067968
-attributed place attribute.Last (TypeName t) = bound_of place t 2147483647
+attributed place attribute.First (TypeName t) = bound_of place t integer_first_cell
+attributed place attribute.Last (TypeName t) = bound_of place t integer_last
 attributed place a f = wrong rule.Type place
 
 -- a name with one suffix more, told at its beginning where it is wrong
@@ -624,13 +625,13 @@ unary_judged place o x tables asked =
 -- Literals ------------------------------------------------------------------------------------------
 
 abbrev pub in_range : Span → ℕ → Typed → Judgement Typed
-in_range place m t = if nat_lt 2147483647 m then but rule.Range place t else known t
+in_range place m t = if nat_lt integer_last m then but rule.Range place t else known t
 
 -- one that is out of range stands as 0, once that is told
 abbrev pub number_cell : ℕ → ℕ
-number_cell m = if nat_lt 2147483647 m then 0 else m
+number_cell m = if nat_lt integer_last m then 0 else m
 
--- above 2147483647 it is out of range, and a number all the same (2.4, profile)
+-- above Integer'Last, which is Storage_Count'Last too, it is out of range, and a number all the same (2.4, profile)
 abbrev pub number_judged : Span → ℕ → Tables → Asked → Judgement Typed
 number_judged place m tables asked = in_range place m (record { ty = adopted asked; value = e.Constant (number_cell m) }) >>= fits place asked
 

@@ -10,16 +10,12 @@ use crate::judging::{refused, wrong};
 use crate::literals::constant;
 use crate::notes::Notes;
 use crate::table::Mutability;
+use ctl_program::limits::{INTEGER_FIRST_CELL, INTEGER_LAST_CELL};
 use ctl_program::types::Ty;
 use ctl_syntax::item::Aliasing;
 use ctl_syntax::name::Attribute;
 use ctl_tree::fault::FaultCode;
 use ctl_tree::span::Span;
-
-/// The cells of the least and of the largest value of Integer: a negative number counts down from 2 ** 64 (RM 3.5.4, profile).
-const LEAST: u64 = 18_446_744_071_562_067_968;
-
-const LARGEST: u64 = 2_147_483_647;
 
 /// Reads `X'Access`: of an aliased variable of a record type that is declared so (RM 3.10.2).
 fn accessed(place: Span, part: &Place, notes: &mut Notes) -> Option<Found>
@@ -86,7 +82,7 @@ fn first(place: Span, found: Found, notes: &mut Notes) -> Option<Found>
         return refused(found, FaultCode::Type, place, notes);
     };
     discard(found);
-    bound_of(place, ty, LEAST, notes)
+    bound_of(place, ty, INTEGER_FIRST_CELL, notes)
 }
 
 /// Reads the attribute Last behind a name (RM 3.5).
@@ -97,7 +93,7 @@ fn last(place: Span, found: Found, notes: &mut Notes) -> Option<Found>
         return refused(found, FaultCode::Type, place, notes);
     };
     discard(found);
-    bound_of(place, ty, LARGEST, notes)
+    bound_of(place, ty, INTEGER_LAST_CELL, notes)
 }
 
 /// Reads an attribute behind a name (RM 3.5, 3.10.2).

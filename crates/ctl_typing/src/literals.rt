@@ -12,6 +12,7 @@ use crate::table::{
     BLOCK_POOL, CONTROLLED, Entry, LIMITED_CONTROLLED, MARK_RELEASE_POOL, ObjectEntry, Tables,
 };
 use ctl_program::expression::Expr;
+use ctl_program::limits::INTEGER_LAST_CELL;
 use ctl_program::operators::SubpoolFunction;
 use ctl_program::types::Ty;
 use ctl_syntax::denoted::{Denoted, LibraryName, Use};
@@ -19,9 +20,6 @@ use ctl_tree::fault::FaultCode;
 use ctl_tree::span::Span;
 use sqlite_items::Items;
 use std::alloc::{AllocError, Global};
-
-/// The largest value of Integer and of Storage_Count (RM 3.5.4, profile).
-const LARGEST: u64 = 2_147_483_647;
 
 /// Answers the number type that literals take on at a place.
 pub fn adopted(asked: Asked) -> Ty
@@ -37,7 +35,7 @@ pub fn adopted(asked: Asked) -> Ty
 fn number_cell(value: u64) -> u64
     ensures { result ≡ spec.number_cell value }
 {
-    if value > LARGEST { 0 } else { value }
+    if value > INTEGER_LAST_CELL { 0 } else { value }
 }
 
 /// Judges a numeric literal (RM 2.4).
@@ -49,7 +47,7 @@ pub fn number(
 ) -> Result<Option<Typed>, AllocError>
     ensures { (tables : _) → Judges (spec.number_judged place value tables asked) notes.old result notes.new }
 {
-    if value > LARGEST {
+    if value > INTEGER_LAST_CELL {
         note(notes, FaultCode::Range, place);
     }
     let typed = Typed {

@@ -5,14 +5,9 @@ ghost use Rattle.std.specs.Prelude.{◌≡◌, ◌≢◌, pos, ◌+ℤ◌, ◌-�
 ghost use Rattle.ctl_meaning.specs.Numbers as Numbers;
 ghost use Rattle.ctl_values.specs.Operators.{IsDivision};
 
+use ctl_program::limits::{INTEGER_FIRST, INTEGER_LAST};
 use ctl_program::operators::{BinaryOp, UnaryOp};
 use ctl_program::types::Ty;
-
-/// Integer'Last, and Storage_Count'Last (RM 3.5.4, 13.7.1).
-const LARGEST: i64 = 2_147_483_647;
-
-/// Integer'First (RM 3.5.4).
-const SMALLEST: i64 = -2_147_483_648;
 
 /// Answers the number in a cell: a negative one counts down from 2 ** 64.
 pub fn signed(cell: u64) -> i64
@@ -46,7 +41,7 @@ pub fn is_true(cell: u64) -> bool
 fn is_in_range(ty: Ty, number: i64) -> bool
     ensures { result ≡ Numbers.in_range ty number }
 {
-    if number < SMALLEST || LARGEST < number {
+    if number < INTEGER_FIRST || INTEGER_LAST < number {
         return false;
     }
     match ty {

@@ -15,6 +15,7 @@ use Rattle.ctl_program.specs.declared.operators.BinaryOp.{BinaryOp}
 use Rattle.ctl_program.specs.declared.operators.BinaryOp.TheVariants as op
 use Rattle.ctl_program.specs.declared.operators.CopyStart.{CopyStart}
 use Rattle.ctl_program.specs.declared.operators.CopyStart.TheVariants as copy
+use Rattle.ctl_program.specs.Limits.{integer_last, integer_first_cell}
 use Rattle.ctl_well_typed.specs.Setting.{Passing, In, InOut, Setting}
 
 -- Kinds of types ------------------------------------------------------------------------
@@ -36,8 +37,8 @@ has_order t = is_number t
 
 -- the cell of a value that a program writes down: a number in the range of its type, in two's complement; a truth value; null (3.5.3, 3.5.4, 4.2)
 abbrev pub IsCell : Ty → ℕ → Type 0
-IsCell ty.Integer cell = (cell ≤ 2147483647) ⊎ ((18446744071562067968 ≤ cell) × (cell < 18446744073709551616))
-IsCell ty.Count cell = cell ≤ 2147483647
+IsCell ty.Integer cell = (cell ≤ integer_last) ⊎ ((integer_first_cell ≤ cell) × (cell < 18446744073709551616))
+IsCell ty.Count cell = cell ≤ integer_last
 IsCell ty.Boolean cell = cell ≤ 1
 IsCell (ty.Record t) cell = ⊥
 IsCell t cell = cell ≡ 0

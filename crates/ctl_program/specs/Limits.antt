@@ -7,7 +7,11 @@ integer_last = 2147483647
 
 -- Integer'First, -2147483648 (3.5.4)
 abbrev pub integer_first : ℤ
-integer_first = negsuc 2147483647
+integer_first = negsuc integer_last
+
+-- the cell of Integer'First: a negative number counts down from 2 ** 64
+abbrev pub integer_first_cell : ℕ
+integer_first_cell = 18446744071562067968
 
 -- Storage units (13.3) ---------------------------------------------------------
 
