@@ -5,12 +5,18 @@ with Ada.Text_IO;      use Ada.Text_IO;
 with Ada.Unchecked_Deallocation;
 with Block_Pools;      use Block_Pools;
 
-procedure Exhausted is
+procedure Exhausted_Pool is
    type T is new Controlled with record
       N : Integer := 0;
    end record;
 
+   overriding procedure Adjust (X : in out T);
    overriding procedure Finalize (X : in out T);
+
+   procedure Adjust (X : in out T) is
+   begin
+      Put_Line ("A" & Integer'Image (X.N));
+   end Adjust;
 
    procedure Finalize (X : in out T) is
    begin
@@ -53,7 +59,6 @@ begin
             Put_Line ("SE24");
       end;
       C := new T;
-      C.N := 1;
       Put_Line ("ok");
    end;
-end Exhausted;
+end Exhausted_Pool;

@@ -1,15 +1,30 @@
---  Two objects free one another: freeing an object that is being finalized is erroneous, and stops the run
---  (RM 13.11.2).
+--  A collection ends, and two of its objects free one another: freeing an object that is being finalized is erroneous,
+--  and stops the run (RM 13.11.2).
 with Ada.Finalization; use Ada.Finalization;
 with Ada.Text_IO;      use Ada.Text_IO;
 with Ada.Unchecked_Deallocation;
 
-procedure Cycle is
+procedure Nodes_Free_One_Another is
+   type T is new Controlled with record
+      N : Integer := 0;
+   end record;
+
+   overriding procedure Adjust (X : in out T);
+   overriding procedure Finalize (X : in out T);
+
+   procedure Adjust (X : in out T) is
+   begin
+      Put_Line ("A" & Integer'Image (X.N));
+   end Adjust;
+
+   procedure Finalize (X : in out T) is
+   begin
+      Put_Line ("F" & Integer'Image (X.N));
+   end Finalize;
 begin
    declare
       type Node;
       type Link is access Node;
-
       type Node is new Limited_Controlled with record
          N    : Integer := 0;
          Next : Link;
@@ -34,4 +49,4 @@ begin
       A.Next := B;
       B.Next := A;
    end;
-end Cycle;
+end Nodes_Free_One_Another;

@@ -4,12 +4,18 @@ with Ada.Finalization; use Ada.Finalization;
 with Ada.Text_IO;      use Ada.Text_IO;
 with Block_Pools;      use Block_Pools;
 
-procedure Collected is
+procedure Blocks_Stay_Taken is
    type T is new Controlled with record
       N : Integer := 0;
    end record;
 
+   overriding procedure Adjust (X : in out T);
    overriding procedure Finalize (X : in out T);
+
+   procedure Adjust (X : in out T) is
+   begin
+      Put_Line ("A" & Integer'Image (X.N));
+   end Adjust;
 
    procedure Finalize (X : in out T) is
    begin
@@ -22,9 +28,9 @@ begin
       for I in 1 .. 3 loop
          declare
             type Ref is access T;
-         
+
             for Ref'Storage_Pool use P;
-         
+
             A : Ref;
          begin
             A := new T;
@@ -35,4 +41,4 @@ begin
       when Storage_Error =>
          Put_Line ("SE");
    end;
-end Collected;
+end Blocks_Stay_Taken;
