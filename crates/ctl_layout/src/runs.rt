@@ -16,7 +16,7 @@ ghost use Rattle.ctl_layout.specs.Values as values;
 ghost use Rattle.ctl_layout.specs.Values.{denoted};
 
 use crate::copies::goes_back;
-use crate::forms::{Table, is_run_type};
+use crate::forms::{Table, is_number, is_run_type};
 use crate::right::{Denoted, Reached, begins_with_variable, reached_by, sourced};
 use crate::typing::{copied, value_type};
 use ctl_program::expression::{Actual, Expr, Name, Operand, Step};
@@ -199,7 +199,8 @@ fn value(expression: &Expr, table: &Table) -> bool
                 && are_actuals(actuals.as_slice(), table)
         }
         Expr::New(_, ty, handle, value) => is_allocated(table, *ty, handle, value),
-        Expr::Convert(..) | Expr::Subpool(..) | Expr::Discriminant(..) => false,
+        Expr::Convert(ty, operand) => is_number(*ty) && value(operand.get(), table),
+        Expr::Subpool(..) | Expr::Discriminant(..) => false,
     }
 }
 
