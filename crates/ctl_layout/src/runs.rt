@@ -175,7 +175,7 @@ fn is_allocated(
 
 /// Tells whether an expression is run.
 #[cycle(values)]
-#[tactic(auto, using(crate::proofs::Layers::value_constant, crate::proofs::Layers::value_read, crate::proofs::Layers::call_runs, crate::proofs::Layers::value_unary, crate::proofs::Layers::chain_runs, crate::proofs::Layers::short_runs, crate::proofs::Layers::value_convert, crate::proofs::Layers::value_access, crate::proofs::Layers::new_runs, crate::proofs::Layers::value_subpool, crate::proofs::Layers::value_discriminant))]
+#[tactic(auto, using(crate::proofs::Layers::value_constant, crate::proofs::Layers::value_read, crate::proofs::Layers::call_runs, crate::proofs::Layers::value_unary, crate::proofs::Layers::chain_runs, crate::proofs::Layers::short_runs, crate::proofs::Layers::convert_runs, crate::proofs::Layers::value_access, crate::proofs::Layers::new_runs, crate::proofs::Layers::value_subpool, crate::proofs::Layers::value_discriminant))]
 fn value(expression: &Expr, table: &Table) -> bool
     ensures { result ≡ (values.value_code expression.now).runs table.now.records.now }
 {
