@@ -16,10 +16,8 @@ pub fn type_of(expression: &Expr) -> Option<Ty>
     ensures { result ≡ (spec.value_code expression.now).own }
 {
     match expression {
-        Expr::Read(_, ty)
-        | Expr::Call(_, _, ty)
-        | Expr::Unary(_, ty, _)
-        | Expr::Convert(ty, _) => Some(*ty),
+        Expr::Read(_, ty) | Expr::Call(_, _, ty) | Expr::Unary(_, ty, _) | Expr::Convert(ty, _) =>
+            Some(*ty),
         Expr::Chain(_, first, more) => Some(last_type(first.get().ty, more.as_slice())),
         Expr::Short(..) => Some(Ty::Boolean),
         Expr::New(access, ..) => Some(Ty::Access(*access)),
