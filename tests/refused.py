@@ -195,13 +195,13 @@ TEXTS = [
     (ADDRESSES + "P : Block_Pool (16, 1); A : System.Address; begin Allocate (P, A, 8, 8); Deallocate (P, A, 8, 8); end Main;", ACCEPTED, 1, 1),
     (ADDRESSES + "type R is record A : System.Address; end record; X : R; P : Block_Pool (16, 1); begin Allocate (P, X.A, 8, 8); end Main;", 12, 1, 108),
     (POOLS + "P : Block_Pool (16, 1); begin Finalize (P); end Main;", 12, 1, 36),
-    # and variables, components, formals and results of the types Storage_Count and Address; but no conversions
+    # and variables, components, formals and results of the types Storage_Count and Address, and conversions of numbers
     (ADDRESSES + "N, M : Storage_Count := 8; A, B : System.Address; begin if N < M and A = B then N := M + 1; A := B; end if; end Main;", ACCEPTED, 1, 1),
     (ADDRESSES + "type R is record N : Storage_Count := 8; A : System.Address; end record; X : R; begin X.N := X.N * 2; X.A := System.Null_Address; end Main;", ACCEPTED, 1, 1),
     (ADDRESSES + "function F (N : Storage_Count) return Storage_Count is begin return N + 1; end F; N : Storage_Count; begin N := F (N); end Main;", ACCEPTED, 1, 1),
     (ADDRESSES + "N : Storage_Count := 8; P : Block_Pool (N, 1); begin null; end Main;", ACCEPTED, 1, 1),
-    (ADDRESSES + "P : Block_Pool (Storage_Count (8), 1); begin null; end Main;", 12, 1, 126),
-    (ADDRESSES + "N : Storage_Count; I : Integer := 3; begin N := Storage_Count (I); end Main;", 12, 1, 108),
+    (ADDRESSES + "P : Block_Pool (Storage_Count (8), 1); begin null; end Main;", ACCEPTED, 1, 1),
+    (ADDRESSES + "N : Storage_Count; I : Integer := 3; begin N := Storage_Count (I); I := Integer (N) + 1; end Main;", ACCEPTED, 1, 1),
     # a discriminant that is read: only types tell it from a component
     (POOLS + "P, Q : Block_Pool (16, 4); begin if P.Block_Size = Q.Block_Size then null; end if; end Main;", 12, 1, 36),
     (POOLS + "P : Block_Pool (16, 4); Q : Block_Pool (P.Block_Size, 1); begin null; end Main;", 12, 1, 78),

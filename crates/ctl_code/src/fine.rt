@@ -802,8 +802,13 @@ pub fn is_fine(code: &Code, place: usize, instr: &Instr) -> bool
             out,
             slot,
         } => is_store_fine(code, place, from, ty, out, slot),
-        Instr::Unary { op, ty, from, to } => is_unary_of(op, ty)
-            && passes(code, place, 0, from, ty, to, ty),
+        Instr::Unary {
+            op,
+            operand,
+            ty,
+            from,
+            to,
+        } => is_unary_of(op, operand, ty) && passes(code, place, 0, from, operand, to, ty),
         Instr::Binary { .. } | Instr::BinaryConstant { .. } => is_binary_fine(code, place, instr),
         Instr::Decide { at, length, .. } => leads_ahead(code, place, 0, length)
             && is_undecided(code, place, at),

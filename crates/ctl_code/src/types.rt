@@ -52,13 +52,13 @@ pub fn is_cell_of(ty: Ty, cell: u64) -> bool
     }
 }
 
-/// Tells whether it is an operator of this type (RM 4.5.4, 4.5.6).
-pub fn is_unary_of(op: UnaryOp, ty: Ty) -> bool
-    ensures { IsTrue result ↔ UnaryOf op ty }
+/// Tells whether it is an operator of an operand of the one type that gives the other (RM 4.5.4, 4.5.6, 4.6).
+pub fn is_unary_of(op: UnaryOp, operand: Ty, ty: Ty) -> bool
+    ensures { IsTrue result ↔ UnaryOf op operand ty }
 {
     match op {
-        UnaryOp::Not => is_same_type(ty, Ty::Boolean),
-        UnaryOp::Plus | UnaryOp::Minus | UnaryOp::Abs => is_number(ty),
+        UnaryOp::Not => is_same_type(operand, Ty::Boolean) && is_same_type(ty, Ty::Boolean),
+        UnaryOp::Plus | UnaryOp::Minus | UnaryOp::Abs => is_number(operand) && is_number(ty),
     }
 }
 

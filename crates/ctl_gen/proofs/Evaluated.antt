@@ -199,7 +199,7 @@ module _ (ask : Ask) (k : Tables) (code : Code) (setting : Setting k code) (call
   unfolding eval_step
   expr_rolled (Expr-F.Constant n) = meets (Expr-F.Constant n) _ _ (value_roll (Expr-F.Constant n)) (eval_roll (Expr-F.Constant n)) (λ h. X.constant_value ask k code bound w0 n)
   expr_rolled (Expr-F.Read n ty) = meets (Expr-F.Read n.0 ty) _ _ (value_roll (Expr-F.Read n.0 ty)) (eval_roll (Expr-F.Read n.0 ty)) (reads (reached_by n.0) ty (given_by n.0 K) (eval_name n.0) (name_finds K n.0) n.1)
-  expr_rolled (Expr-F.Unary op ty e) = meets (Expr-F.Unary op ty e.0) _ _ (value_roll (Expr-F.Unary op ty e.0)) (eval_roll (Expr-F.Unary op ty e.0)) (λ h. X.unary_value ask k code bound w0 op ty (value_code e.0) (eval e.0 K) (e.1 h))
+  expr_rolled (Expr-F.Unary op ty e) = meets (Expr-F.Unary op ty e.0) _ _ (value_roll (Expr-F.Unary op ty e.0)) (eval_roll (Expr-F.Unary op ty e.0)) (λ h. X.applied_value ask k code bound w0 (value_code e.0).runs op ty ty (value_code e.0) (eval e.0 K) (e.1 h))
   expr_rolled (Expr-F.Chain e o os) =
       let y = Expr-F.Chain e.0 o.0 (map (λ z. z.0) os) in
       meets y _ _ (value_roll y) (eval_roll y)
@@ -221,7 +221,7 @@ module _ (ask : Ask) (k : Tables) (code : Code) (setting : Setting k code) (call
       let g = both_true _ _ h in
       let i = both_true _ _ g.1 in
       function_value ask k code setting call default bound calls w0 f (map actual_code (map (λ z. z.0) xs)) (map supply (map (λ z. z.0) xs)) ty (scalar_if ty g.0) (not-true _ i.0) (actuals_too xs i.1))
-  expr_rolled (Expr-F.Convert ty e) = missing_rolled (Expr-F.Convert ty e.0) (value_roll (Expr-F.Convert ty e.0))
+  expr_rolled (Expr-F.Convert ty e) = meets (Expr-F.Convert ty e.0) _ _ (value_roll (Expr-F.Convert ty e.0)) (eval_roll (Expr-F.Convert ty e.0)) (λ h. let g = both_true _ _ h in X.convert_value ask k code bound w0 ty (value_code e.0) (eval e.0 K) g.0 (e.1 g.1))
   expr_rolled (Expr-F.Access v) = meets (Expr-F.Access v) _ _ (value_roll (Expr-F.Access v)) (eval_roll (Expr-F.Access v)) (λ h. designating_value ask k code call default bound w0 v)
   expr_rolled (Expr-F.New access ty None None) = let y = Expr-F.New access ty None None in meets y _ _ (value_roll y) (eval_roll y) (allocates access ty)
   expr_rolled (Expr-F.New access ty None (Some v)) = let y = Expr-F.New access ty None (Some v.0) in meets y _ _ (value_roll y) (eval_roll y) (allocates_with access ty v.0)

@@ -4,9 +4,11 @@
 use Rattle.std.proofs.Common.{◌≡◌, ℕ, ◌+◌, ◌≤◌, List, [], ◌∷◌, ◌++◌, length, Option, Some, None, Bool, true, false, refl, sym, ap, ◌∙◌, subst, arith, length-append}
 use Rattle.std.specs.Prelude.{slice_get}
 use Rattle.ctl_program.specs.declared.types.Ty.{Ty}
-use Rattle.ctl_program.specs.declared.types.Ty.TheVariants.{Boolean}
+use Rattle.ctl_program.specs.declared.types.Ty.TheVariants.{Integer, Count, Boolean, Address, Handle, Access, Record}
+use Rattle.ctl_program.specs.declared.types.RecordType.{RecordType}
 use Rattle.ctl_program.specs.declared.types.Var.{Var}
 use Rattle.ctl_program.specs.declared.operators.UnaryOp.{UnaryOp}
+use Rattle.ctl_program.specs.declared.operators.UnaryOp.TheVariants.{Plus}
 use Rattle.ctl_program.specs.declared.operators.Shortcut.{Shortcut}
 use Rattle.ctl_meaning.specs.World.{Log, World}
 use Rattle.ctl_meaning.specs.Lists.{opened_lists}
@@ -14,7 +16,7 @@ use Rattle.ctl_meaning.specs.Objects.{first_cells}
 use Rattle.ctl_meaning.specs.Activations.{master_of}
 use Rattle.ctl_meaning.specs.Choice.{Ask}
 use Rattle.ctl_meaning.specs.Outcome.{constraint_error, ByRaise, Result, Goes, Leaves, Out, Gives, Stops, Cut, Act, add, bind, on_goes, ◌>>=◌, done, ticked, either, opened_outcome}
-use Rattle.ctl_meaning.specs.Numbers.{unary, binary}
+use Rattle.ctl_meaning.specs.Numbers.{unary, binary, converted}
 use Rattle.ctl_meaning.specs.Types.{Tables, cells_of}
 use Rattle.ctl_meaning.specs.Names.{Found, InVariable, scalar_of, read_found, or_constraint_error, opened_names}
 use Rattle.ctl_meaning.specs.Expressions.{apply_each, decides, join_each, Applied, Valued}
@@ -33,9 +35,9 @@ use Rattle.ctl_code.specs.Windows.{depth, height}
 use Rattle.ctl_layout.specs.Parts as Parts
 use Rattle.ctl_layout.specs.declared.right.Right.{Right}
 use Rattle.ctl_layout.specs.declared.right.Right.TheVariants as RightOf
+use Rattle.ctl_layout.specs.Records.{is_number}
 use Rattle.ctl_layout.specs.Around.{Line, new_operand, local_at, local_cell, out_to, read_from}
-use Rattle.ctl_layout.specs.Values.{ValueCode, OperatorCode, Held, held, held_by, evaluated, in_cell, left_held, operator_for, binary_code, operator_by, operator_code, operators_code, other_code, others_code, moved_to, constant, read, unary_code, chain, first_type, short}
-use Rattle.ctl_layout.specs.Values.{unary as unary_value_code}
+use Rattle.ctl_layout.specs.Values.{ValueCode, OperatorCode, Held, held, held_by, evaluated, in_cell, left_held, operator_for, binary_code, operator_by, operator_code, operators_code, other_code, others_code, moved_to, constant, read, applied, unary_code, convert, value_type, chain, first_type, short}
 use Rattle.ctl_gen.proofs.Known.{IsScalar}
 use Rattle.ctl_gen.proofs.Values.{scalar_cells}
 use Rattle.ctl_gen.proofs.Place.{Laid, laid_front, laid_back}
@@ -192,31 +194,42 @@ module _ (ask : Ask) (k : Tables) (code : Code) (bound : ℕ) (w0 : World) where
 
   -- Operators with one operand ----------------------------------------------------------------------
 
-  pub unary_value : (op : UnaryOp) (ty : Ty) (x : ValueCode) (act : List ℕ → Act (List ℕ)) → Value x act → Value (unary_value_code op ty x) (λ d. ticked (act d >>= (λ u. or_constraint_error (unary op ty (scalar_of u)))))
+  pub applied_value : (runs : List RecordType → Bool) (op : UnaryOp) (operand ty : Ty) (x : ValueCode) (act : List ℕ → Act (List ℕ)) → Value x act → Value (applied runs op operand ty x) (λ d. ticked (act d >>= (λ u. or_constraint_error (unary op ty (scalar_of u)))))
   unfolding opened_outcome scalar_of opened_lists
-  unary_value op ty x act value = record {
+  applied_value runs op operand ty x act value = record {
     begins = λ to t s d place ks ops c l w le fits long has.
-        let h = held x ty s in
-        let e : place + length h.code + 1 ≡ place + length (unary_code op ty to h) = omega (arith, length-append h.code ((InstrOf.Unary op ty h.cell to, h.after) ∷ [])) in
-        let first = held_holds x.right x act refl value ty s d place ks ops c l w le fits long (laid_front code place h.code ((InstrOf.Unary op ty h.cell to, h.after) ∷ []) has) in
-        let there = (laid_back code place h.code ((InstrOf.Unary op ty h.cell to, h.after) ∷ []) has).0 in
+        let h = held x operand s in
+        let e : place + length h.code + 1 ≡ place + length (unary_code op operand ty to h) = omega (arith, length-append h.code ((InstrOf.Unary op operand ty h.cell to, h.after) ∷ [])) in
+        let first = held_holds x.right x act refl value operand s d place ks ops c l w le fits long (laid_front code place h.code ((InstrOf.Unary op operand ty h.cell to, h.after) ∷ []) has) in
+        let there = (laid_back code place h.code ((InstrOf.Unary op operand ty h.cell to, h.after) ∷ []) has).0 in
         record {
           out = (act d >>= (λ u. or_constraint_error (unary op ty (scalar_of u)))) c l w;
           is = refl;
           runs =
               within_to ask code (OneCell Fits Any) 0 0 8 8 _ c _ _ (omega arith) (omega arith)
-              (held_then (OneCell Fits Any) h (λ n w1. Stays h.cell.named n d w1) act d place ks ops c l w (landed to.named d (place + length (unary_code op ty to h)) ks ops) (on_goes (λ u. or_constraint_error (unary op ty (scalar_of u)))) first
+              (held_then (OneCell Fits Any) h (λ n w1. Stays h.cell.named n d w1) act d place ks ops c l w (landed to.named d (place + length (unary_code op operand ty to h)) ks ops) (on_goes (λ u. or_constraint_error (unary op ty (scalar_of u)))) first
               (λ n c1 l1 w1 lo fits1 p.
               within_to ask code (OneCell Fits Any) 1 1 8 8 _ c1 _ _ (omega arith) (omega arith)
               (subst (λ q. Gets Any 1 1 (at d (place + length h.code) ks (waiting h.cell.named n ops) l1 w1) c1 (landed to.named d q ks ops) (or_constraint_error (unary op ty n) c1 l1 w1)) e
               (result_runs (unary op ty n) to.named d (place + length h.code) ks ops c1 l1 w1 _ fits1
-              (by_code ask code d (place + length h.code) ks (waiting h.cell.named n ops) l1 w1 (InstrOf.Unary op ty h.cell to) there
+              (by_code ask code d (place + length h.code) ks (waiting h.cell.named n ops) l1 w1 (InstrOf.Unary op operand ty h.cell to) there
               ∙ ap (moved l1) (taking_is h.cell.named n (λ y rest. by_result (unary op ty y) to.named rest (here d (place + length h.code) ks w1)) ops d (place + length h.code) ks w1 p)))))
-              (λ y c1 l1 w1 lo fits1. leaves_it 8 8 to.named d (place + length (unary_code op ty to h)) ks ops y c1 l1 w1 fits1));
+              (λ y c1 l1 w1 lo fits1. leaves_it 8 8 to.named d (place + length (unary_code op operand ty to h)) ks ops y c1 l1 w1 fits1));
         };
     constant = λ n is d c l w. absurd (cc);
     variable = λ y is d c l w. absurd (cc);
   }
+
+  -- a conversion keeps a number, or Constraint_Error is raised, as `+` does (4.6)
+  pub convert_value : (ty : Ty) (x : ValueCode) (act : List ℕ → Act (List ℕ)) → is_number ty ≡ true → Value x act → Value (convert ty x) (λ d. ticked (act d >>= (λ u. or_constraint_error (converted ty (scalar_of u)))))
+  unfolding converted unary
+  convert_value Integer x act number value = applied_value (convert Integer x).runs Plus (value_type x) Integer x act value
+  convert_value Count x act number value = applied_value (convert Count x).runs Plus (value_type x) Count x act value
+  convert_value Boolean x act number value = absurd (cc)
+  convert_value Address x act number value = absurd (cc)
+  convert_value Handle x act number value = absurd (cc)
+  convert_value (Access a) x act number value = absurd (cc)
+  convert_value (Record t) x act number value = absurd (cc)
 
   -- Operators with two operands ---------------------------------------------------------------------
 

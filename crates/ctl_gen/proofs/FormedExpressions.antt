@@ -7,6 +7,7 @@ use Rattle.ctl_program.specs.declared.types.Ty.TheVariants.{Boolean}
 use Rattle.ctl_program.specs.declared.types.Ty.TheVariants as TyOf
 use Rattle.ctl_program.specs.declared.types.RecordType.{RecordType}
 use Rattle.ctl_program.specs.declared.operators.Shortcut.{Shortcut}
+use Rattle.ctl_program.specs.declared.operators.UnaryOp.TheVariants.{Plus}
 use Rattle.ctl_program.specs.declared.expression.Actual.{Actual}
 use Rattle.ctl_program.specs.declared.expression.Expr.{Expr}
 use Rattle.ctl_program.specs.declared.expression.Name.{Name}
@@ -20,10 +21,10 @@ use Rattle.ctl_code.specs.declared.kinds.Kind.TheVariants as KindOf
 use Rattle.ctl_code.specs.declared.code.Code.{Code}
 use Rattle.ctl_code.specs.Valid as Valid
 use Rattle.ctl_code.specs.Valid.{HasFormals, IsAllocable, IsRecord}
-use Rattle.ctl_layout.specs.Records.{is_run_type}
+use Rattle.ctl_layout.specs.Records.{is_number, is_run_type}
 use Rattle.ctl_layout.specs.Around.{new_operand}
 use Rattle.ctl_layout.specs.Parts.{OfVariable, Reached, access_value, behind_steps, in_variable, is_begun, is_dereferenced}
-use Rattle.ctl_layout.specs.Values.{ActualCode, OperatorCode, ValueCode, actual_code, actuals_run, chain, copied, given, goes_back, is_of, missing_value, new, new_copy, operator_of, operators_run, reached_by, reached_if, sourced, value_code, values_run}
+use Rattle.ctl_layout.specs.Values.{ActualCode, OperatorCode, ValueCode, actual_code, actuals_run, chain, copied, given, goes_back, is_of, missing_value, new, new_copy, operator_of, operators_run, reached_by, reached_if, sourced, value_code, value_type, values_run}
 use Rattle.ctl_layout.proofs.Extensions.{both_true}
 use Rattle.ctl_layout.proofs.Layers.{actual_copied, actual_part, actual_value, new_reached, part_source, reached_given, reached_variable, read_reached, value_access, value_call, value_chain, value_constant, value_convert, value_discriminant, value_new, value_read, value_short, value_subpool, value_unary}
 use Rattle.ctl_layout.proofs.TreeLayers.{operator_roll}
@@ -32,8 +33,8 @@ use Rattle.ctl_gen.proofs.FormedAround.{IsHoused}
 use Rattle.ctl_gen.proofs.FormedParts.{IsFound, steps_found}
 use Rattle.ctl_gen.proofs.Walked.{IsWalked, copied_walked, copy_reaches, value_dereferenced, variable_first, variable_walked}
 use Rattle.ctl_gen.proofs.FormedCalls.{GoodActual, GoodActuals, MayCall, MayNew, copy_good, function_own, good_as, kind_by, reference_good, value_good}
-use Rattle.ctl_gen.proofs.FormedTypes.{IsAccessType, joins_plain, joins_scalar, run_scalar, takes_unary}
-use Rattle.ctl_gen.proofs.FormedValues.{Conditions, Fine, Operating, access_usable, chain_own, constant_fine, copied_own, designating_fine, fine_like, first_joins, new_own, next_condition, next_joins, next_operating, none_operating, read_own, short_own, unary_own, usable_as}
+use Rattle.ctl_gen.proofs.FormedTypes.{IsAccessType, joins_plain, joins_scalar, number_of, number_scalar, run_scalar, takes_unary}
+use Rattle.ctl_gen.proofs.FormedValues.{Conditions, Fine, Operating, access_usable, applied_own, chain_own, constant_fine, copied_own, designating_fine, fine_like, first_joins, new_own, next_condition, next_joins, next_operating, none_operating, read_own, short_own, usable_as, value_number, value_usable}
 
 -- as many actuals as formals
 as_many : {k : W.Setting} {env : W.Frames} {fs : List W.Formal} {actuals : List Actual} → FitEach k env fs actuals → length fs ≡ length (map actual_code actuals)
@@ -126,7 +127,7 @@ module _ (code : Code) (records : List RecordType) where
       typed_fine {env} (T.unary {o = o} {x = x} {t = t} takes h) runs =
           let same = value_unary o t x in
           let u = takes_unary o t takes in
-          fine_as env _ _ t same (inl (unary_own code env o t (value_code x) u.0 (usable_as code env (value_code x) t u.1 (typed_fine h (runs_as _ _ same runs)))))
+          fine_as env _ _ t same (inl (applied_own code env (value_code x).runs o t t (value_code x) u.0 u.1 (usable_as code env (value_code x) t u.1 (typed_fine h (runs_as _ _ same runs)))))
       typed_fine {env} (T.chain {x = x} {more = more} {s = s} {t = t} h (T.behind {o = op} {x = y} {t = u} joins right rest)) runs =
           let o = roll-Operand (record { op = op; ty = u; right = y }) in
           let is : operator_of o ≡ record { op = op; ty = u; right = value_code y } = operator_roll (record { op = op; ty = u; right = y }) in
@@ -142,7 +143,11 @@ module _ (code : Code) (records : List RecordType) where
           let f = both_true ((value_code y).runs records) (values_run records (map value_code more)) e.1 in
           fine_as env _ _ Boolean same (inl (short_own code env form (value_code x) (value_code y) (map value_code more) (usable_as code env (value_code x) Boolean tt (typed_fine h e.0))
           (next_condition code env form (value_code y) (map value_code more) (usable_as code env (value_code y) Boolean tt (typed_fine g f.0)) (conditions form rest f.1))))
-      typed_fine {env} (T.convert {x = x} {t = t} number from h) runs = absurd (not_missing _ (value_convert t x) runs)
+      typed_fine {env} (T.convert {x = x} {s = s} {t = t} number from h) runs =
+          let same = value_convert t x in
+          let e = both_true (is_number t) ((value_code x).runs records) (runs_as _ _ same runs) in
+          let fine = typed_fine h e.1 in
+          fine_as env _ _ t same (inl (applied_own code env (λ r. is_number t && (value_code x).runs r) Plus (value_type (value_code x)) t (value_code x) (value_number code env (value_code x) s (number_of s from) fine, number_of t number) (number_scalar t number) (value_usable code env (value_code x) s fine)))
       typed_fine {env} (T.as_access {x = x} {a = a} {b = b} from to same h) runs = fine_like code env (value_code x) (TyOf.Access b) (TyOf.Access a) (inr ((b, refl), (a, refl))) (typed_fine h runs)
       typed_fine {env} (T.access {v = v} {t = t} {a = a} names found designates) runs = fine_as env _ _ (TyOf.Access a) (value_access v) (designating_fine code env v (TyOf.Access a) (W.Declared (TyOf.Record t), names))
       typed_fine {env} (T.allocate {a = a} {t = t} {handle = handle} {value = x} to designates view h g) runs =

@@ -50,11 +50,11 @@ cell_of Handle n s h = tt
 cell_of (TyOf.Access a) n s h = tt
 cell_of (Record t) n s h = absurd s
 
-pub takes_unary : (o : UnaryOp) (t : Ty) → Takes o t → UnaryOf o t × Valid.IsScalar t
-takes_unary o t (J.plus e) = (number_of t e, number_scalar t e)
-takes_unary o t (J.minus e) = (number_of t e, number_scalar t e)
-takes_unary o t (J.absolute e) = (number_of t e, number_scalar t e)
-takes_unary o t J.negation = (refl, tt)
+pub takes_unary : (o : UnaryOp) (t : Ty) → Takes o t → UnaryOf o t t × Valid.IsScalar t
+takes_unary o t (J.plus e) = let n = number_of t e in ((n, n), number_scalar t e)
+takes_unary o t (J.minus e) = let n = number_of t e in ((n, n), number_scalar t e)
+takes_unary o t (J.absolute e) = let n = number_of t e in ((n, n), number_scalar t e)
+takes_unary o t J.negation = ((refl, refl), tt)
 
 -- what an operator gives
 pub joins_scalar : (o : BinaryOp) (s t : Ty) → Joins o s t → Valid.IsScalar t
@@ -242,14 +242,14 @@ same_unless s t plain (inr (a, b)) = absurd (plain b)
 pub boolean_plain : IsAccessType Boolean → ⊥
 boolean_plain (a, e) = absurd (cc e)
 
-number_plain : (t : Ty) → IsNumber t → IsAccessType t → ⊥
+pub number_plain : (t : Ty) → IsNumber t → IsAccessType t → ⊥
 number_plain t h (a, e) = subst IsNumber e h
 
-pub unary_plain : (o : UnaryOp) (t : Ty) → UnaryOf o t → IsAccessType t → ⊥
-unary_plain One.Not t h a = boolean_plain (subst IsAccessType h a)
-unary_plain One.Plus t h a = number_plain t h a
-unary_plain One.Minus t h a = number_plain t h a
-unary_plain One.Abs t h a = number_plain t h a
+pub unary_plain : (o : UnaryOp) (s t : Ty) → UnaryOf o s t → IsAccessType t → ⊥
+unary_plain One.Not s t h a = boolean_plain (subst IsAccessType h.1 a)
+unary_plain One.Plus s t h a = number_plain t h.1 a
+unary_plain One.Minus s t h a = number_plain t h.1 a
+unary_plain One.Abs s t h a = number_plain t h.1 a
 
 -- no operator gives an access value
 pub joins_plain : (o : BinaryOp) (s t : Ty) → Joins o s t → IsAccessType t → ⊥

@@ -1,5 +1,5 @@
 -- The code of an expression is well formed where its parts are, and puts a value of its type where it is wanted.
-use Rattle.std.proofs.Common.{◌≡◌, ℕ, ◌+◌, List, [], ◌∷◌, ◌++◌, length, Option, Some, None, true, ◌⊎◌, inl, inr, refl, sym, ap, ◌∙◌, subst, arith}
+use Rattle.std.proofs.Common.{◌≡◌, ℕ, ◌+◌, List, [], ◌∷◌, ◌++◌, length, Option, Some, None, Bool, true, ◌⊎◌, inl, inr, refl, sym, ap, ◌∙◌, subst, arith}
 use Rattle.std.specs.Prelude.{unwrap_or}
 use Rattle.ctl_program.specs.declared.types.Ty.{Ty}
 use Rattle.ctl_program.specs.declared.types.Ty.TheVariants.{Integer, Boolean}
@@ -22,20 +22,20 @@ use Rattle.ctl_code.specs.declared.code.Instr.TheVariants as InstrOf
 use Rattle.ctl_code.specs.declared.code.Code.{Code}
 use Rattle.ctl_code.specs.Windows.{HasSlot, height, variable_at}
 use Rattle.ctl_code.specs.Valid as Valid
-use Rattle.ctl_code.specs.Valid.{BinaryOf, IsAllocable, IsCellOf, IsRecord, Leads, Puts, Taken, UnaryOf, over_numbers}
+use Rattle.ctl_code.specs.Valid.{BinaryOf, IsAllocable, IsCellOf, IsNumber, IsRecord, Leads, Puts, Taken, UnaryOf, over_numbers}
 use Rattle.ctl_code.proofs.Numbered.{have_over}
 use Rattle.ctl_layout.specs.declared.right.Right.{Right}
 use Rattle.ctl_layout.specs.declared.right.Right.TheVariants as RightOf
 use Rattle.ctl_layout.specs.Around.{Line, local_at, new_operand, out_to, read_from}
 use Rattle.ctl_layout.specs.Records.{is_run_type}
 use Rattle.ctl_layout.specs.Parts.{Start, OfVariable, OfValue, Reached, Variable, Part, Object, are_followed, component_code, located_code, part_code, parts_run, taken_code}
-use Rattle.ctl_layout.specs.Values.{Held, OperatorCode, ValueCode, address_numbers, binary_code, chain, common_type, constant, designating, evaluated, first_type, held, held_by, in_cell, last_type, left_held, moved_to, new, new_copy, new_copy_code, next_target, operand_type, operator_by, operator_code, operator_for, operators_code, other_code, others_code, read, short, unary, value_type}
+use Rattle.ctl_layout.specs.Values.{Held, OperatorCode, ValueCode, address_numbers, applied, binary_code, chain, common_type, constant, designating, evaluated, first_type, held, held_by, in_cell, last_type, left_held, moved_to, new, new_copy, new_copy_code, next_target, operand_type, operator_by, operator_code, operator_for, operators_code, other_code, others_code, read, short, value_type}
 use Rattle.ctl_layout.proofs.Extensions.{both_true}
 use Rattle.ctl_gen.proofs.Formed.{Formed, both, has_end, leads_at, none, one}
 use Rattle.ctl_gen.proofs.FormedAround.{Agrees, IsHoused, IsNamed}
 use Rattle.ctl_gen.proofs.FormedParts.{IsBegun, IsFound, located_formed, part_formed, read_fine}
 use Rattle.ctl_gen.proofs.Walked.{start_of, steps_before}
-use Rattle.ctl_gen.proofs.FormedTypes.{IsAccessType, IsLike, arithmetic_of, boolean_plain, cell_like, cell_of, equality_relates, is_relation, like_access, like_back, like_scalar, like_then, logical_of, number_of, number_scalar, of_arithmetic, of_logical, of_relation, ordering_relates, relation_of, run_scalar, same_unless, unary_plain}
+use Rattle.ctl_gen.proofs.FormedTypes.{IsAccessType, IsLike, arithmetic_of, boolean_plain, cell_like, cell_of, equality_relates, is_relation, like_access, like_back, like_scalar, like_then, logical_of, number_of, number_plain, number_scalar, of_arithmetic, of_logical, of_relation, ordering_relates, relation_of, run_scalar, same_unless, unary_plain}
 
 -- Cells -------------------------------------------------------------------------------------------
 
@@ -160,6 +160,11 @@ module _ (code : Code) (env : W.Frames) where
   pub value_usable : (x : ValueCode) (ty : Ty) → Fine x ty → Usable x (value_type x)
   value_usable x ty (inl h) = subst (Usable x) (sym (ap (λ o. unwrap_or o Integer) h.own)) (h.usable h.type h.like)
   value_usable x ty (inr h) = subst (Usable x) (sym (ap (λ o. unwrap_or o Integer) h.own)) h.number
+
+  -- which is then a number, where its type is one
+  pub value_number : (x : ValueCode) (ty : Ty) → IsNumber ty → Fine x ty → IsNumber (value_type x)
+  value_number x ty number (inl h) = subst IsNumber (sym (same_unless h.type ty (number_plain ty number) h.like) ∙ sym (ap (λ o. unwrap_or o Integer) h.own)) number
+  value_number x ty number (inr h) = subst IsNumber (sym (ap (λ o. unwrap_or o Integer) h.own)) tt
 
   -- an access value, as a number
   pub access_usable : (x : ValueCode) (ty : Ty) → IsAccessType ty → Fine x ty → Usable x Integer
@@ -319,17 +324,18 @@ module _ (code : Code) (env : W.Frames) where
 
   -- The other constructs ----------------------------------------------------------------------------
 
-  pub unary_own : (op : UnaryOp) (ty : Ty) (x : ValueCode) → UnaryOf op ty → Usable x ty → Own (unary op ty x) ty
-  unary_own op ty x has usable =
-      own_of (unary op ty x) ty refl (unary_plain op ty has)
+  -- an operator with one operand, of the one type, which gives a value of the other
+  pub applied_own : (runs : List RecordType → Bool) (op : UnaryOp) (operand ty : Ty) (x : ValueCode) → UnaryOf op operand ty → Valid.IsScalar ty → Usable x operand → Own (applied runs op operand ty x) ty
+  applied_own runs op operand ty x has scalar usable =
+      own_of (applied runs op operand ty x) ty refl (unary_plain op operand ty has)
       (record {
-        scalar = usable.scalar;
+        scalar = scalar;
         formed = λ to s agrees at.
-            let h = held x ty s in
-            let f = found x ty s agrees usable in
+            let h = held x operand s in
+            let f = found x operand s agrees usable in
             let after = Some (with_put to.named ty s) in
-            both code h.code ((InstrOf.Unary op ty h.cell to, h.after) ∷ []) s h.after after f.formed
-            (one code (InstrOf.Unary op ty h.cell to) h.after after (λ p next. (has, (s, f.taken, puts code p to ty s at next))));
+            both code h.code ((InstrOf.Unary op operand ty h.cell to, h.after) ∷ []) s h.after after f.formed
+            (one code (InstrOf.Unary op operand ty h.cell to) h.after after (λ p next. (has, (s, f.taken, puts code p to ty s at next))));
         constant = λ n is. absurd (cc);
       })
 

@@ -37,6 +37,13 @@ pub(crate) fn is_run_type(ty: Ty) -> bool
     )
 }
 
+/// Tells whether a type is a number type, to which conversions are run (RM 4.6).
+pub(crate) fn is_number(ty: Ty) -> bool
+    ensures { result ≡ types.is_number ty }
+{
+    matches!(ty, Ty::Integer | Ty::Count)
+}
+
 /// Tells whether a component has no default, or a constant (RM 3.8).
 fn may_default(component: &Component) -> bool
     ensures { result ≡ types.may_default component.now }

@@ -16,7 +16,7 @@ ghost use Rattle.ctl_layout.specs.Values as values;
 ghost use Rattle.ctl_layout.specs.Values.{denoted};
 
 use crate::copies::goes_back;
-use crate::forms::{Table, is_run_type};
+use crate::forms::{Table, is_number, is_run_type};
 use crate::right::{Denoted, Reached, begins_with_variable, reached_by, sourced};
 use crate::typing::{copied, value_type};
 use ctl_program::expression::{Actual, Expr, Name, Operand, Step};
@@ -175,7 +175,7 @@ fn is_allocated(
 
 /// Tells whether an expression is run.
 #[cycle(values)]
-#[tactic(auto, using(crate::proofs::Layers::value_constant, crate::proofs::Layers::value_read, crate::proofs::Layers::call_runs, crate::proofs::Layers::value_unary, crate::proofs::Layers::chain_runs, crate::proofs::Layers::short_runs, crate::proofs::Layers::value_convert, crate::proofs::Layers::value_access, crate::proofs::Layers::new_runs, crate::proofs::Layers::value_subpool, crate::proofs::Layers::value_discriminant))]
+#[tactic(auto, using(crate::proofs::Layers::value_constant, crate::proofs::Layers::value_read, crate::proofs::Layers::call_runs, crate::proofs::Layers::value_unary, crate::proofs::Layers::chain_runs, crate::proofs::Layers::short_runs, crate::proofs::Layers::convert_runs, crate::proofs::Layers::value_access, crate::proofs::Layers::new_runs, crate::proofs::Layers::value_subpool, crate::proofs::Layers::value_discriminant))]
 fn value(expression: &Expr, table: &Table) -> bool
     ensures { result ≡ (values.value_code expression.now).runs table.now.records.now }
 {
@@ -199,7 +199,8 @@ fn value(expression: &Expr, table: &Table) -> bool
                 && are_actuals(actuals.as_slice(), table)
         }
         Expr::New(_, ty, handle, value) => is_allocated(table, *ty, handle, value),
-        Expr::Convert(..) | Expr::Subpool(..) | Expr::Discriminant(..) => false,
+        Expr::Convert(ty, operand) => is_number(*ty) && value(operand.get(), table),
+        Expr::Subpool(..) | Expr::Discriminant(..) => false,
     }
 }
 

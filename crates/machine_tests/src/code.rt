@@ -95,6 +95,7 @@ const EACH_INSTRUCTION: &[Line] = &[
     (
         Instr::Unary {
             op: UnaryOp::Minus,
+            operand: Ty::Integer,
             ty: Ty::Integer,
             from: FIRST,
             to: FIRST,
@@ -413,6 +414,7 @@ const BOOLEAN_FOR_A_NUMBER: &[Line] = &[
     (
         Instr::Unary {
             op: UnaryOp::Minus,
+            operand: Ty::Integer,
             ty: Ty::Integer,
             from: CELL_2,
             to: FIRST,
@@ -459,6 +461,7 @@ const ANOTHER_CELL: &[Line] = &[
     (
         Instr::Unary {
             op: UnaryOp::Minus,
+            operand: Ty::Integer,
             ty: Ty::Integer,
             from: CELL_2,
             to: FIRST,
