@@ -199,7 +199,8 @@ fn value(expression: &Expr, table: &Table) -> bool
                 && are_actuals(actuals.as_slice(), table)
         }
         Expr::New(_, ty, handle, value) => is_allocated(table, *ty, handle, value),
-        Expr::Convert(..) | Expr::Subpool(..) | Expr::Discriminant(..) => false,
+        Expr::Discriminant(name, _) => is_part(name, reached_by(name), table),
+        Expr::Convert(..) | Expr::Subpool(..) => false,
     }
 }
 

@@ -19,12 +19,9 @@ pub fn type_of(expression: &Expr) -> Option<Ty>
         Expr::Read(_, ty) | Expr::Call(_, _, ty) | Expr::Unary(_, ty, _) => Some(*ty),
         Expr::Chain(_, first, more) => Some(last_type(first.get().ty, more.as_slice())),
         Expr::Short(..) => Some(Ty::Boolean),
+        Expr::Discriminant(..) => Some(Ty::Count),
         Expr::New(access, ..) => Some(Ty::Access(*access)),
-        Expr::Constant(_)
-        | Expr::Convert(..)
-        | Expr::Access(_)
-        | Expr::Subpool(..)
-        | Expr::Discriminant(..) => None,
+        Expr::Constant(_) | Expr::Convert(..) | Expr::Access(_) | Expr::Subpool(..) => None,
     }
 }
 
