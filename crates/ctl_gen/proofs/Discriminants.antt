@@ -63,7 +63,7 @@ module _ (ask : Ask) (k : Tables) (code : Code) (setting : Setting k code) (call
 
   -- no pool is a mark pool
   of_block_pool : (n c : ℕ) (l : Log) (w : World) → Fits w → discriminant_of n position c l w ≡ on_some (block_pool_at n w.pools) gone (λ p. done (discriminant_in which p ∷ [])) c l w
-  unfolding discriminant_of opened_outcome opened_pools
+  unfolding discriminant_of gone first_with opened_outcome opened_pools
   of_block_pool n c l w fits =
       ap (λ (ms : List MarkPool). on_some (block_pool_at n w.pools) (on_some (first_with (λ p. nat_eq p.object n) ms) gone (λ p. done (p.pool_size ∷ []))) (λ p. done ((if nat_eq position 0 then p.block_size else p.block_count) ∷ [])) c l w) fits.0.mark_pools
       ∙ by (block_pool_at n w.pools)
@@ -74,7 +74,7 @@ module _ (ask : Ask) (k : Tables) (code : Code) (setting : Setting k code) (call
 
   -- one step over the pool, to the value where it is wanted, or to a stop
   takes : (p : Spot) (to : Cell) (d : List ℕ) (place : ℕ) (ks : List Frame) (ops : List Word) (c : ℕ) (l : Log) (w : World) → Fits w → slice_get code.instructions.items place ≡ Some (InstrOf.TakeDiscriminant block_pool which to) → X.Gets ask k code bound w0 Any 8 8 (at d place ks (Located p ∷ ops) l w) c (landed to.named d (place + 1) ks ops) (reading (Goes (found_at p)) c l w)
-  unfolding object_of opened_outcome
+  unfolding gone object_of opened_outcome
   takes p to d place ks ops c l w fits has =
       subst (X.Gets ask k code bound w0 Any 8 8 s0 c next) (sym (of_block_pool p.object c l w fits))
       (by (block_pool_at p.object w.pools) (by_code ask code d place ks (Located p ∷ ops) l w (InstrOf.TakeDiscriminant block_pool which to) has))

@@ -242,7 +242,7 @@ same_unless s t plain (inr (a, b)) = absurd (plain b)
 pub boolean_plain : IsAccessType Boolean → ⊥
 boolean_plain (a, e) = absurd (cc e)
 
-number_plain : (t : Ty) → IsNumber t → IsAccessType t → ⊥
+pub number_plain : (t : Ty) → IsNumber t → IsAccessType t → ⊥
 number_plain t h (a, e) = subst IsNumber e h
 
 pub unary_plain : (o : UnaryOp) (t : Ty) → UnaryOf o t → IsAccessType t → ⊥

@@ -35,7 +35,7 @@ use Rattle.ctl_gen.proofs.Formed.{Formed, both, has_end, leads_at, none, one}
 use Rattle.ctl_gen.proofs.FormedAround.{Agrees, IsHoused, IsNamed}
 use Rattle.ctl_gen.proofs.FormedParts.{IsBegun, IsFound, located_formed, part_formed, read_fine}
 use Rattle.ctl_gen.proofs.Walked.{part_begun, start_of, steps_before}
-use Rattle.ctl_gen.proofs.FormedTypes.{IsAccessType, IsLike, arithmetic_of, boolean_plain, cell_like, cell_of, equality_relates, is_relation, like_access, like_back, like_scalar, like_then, logical_of, number_of, number_scalar, of_arithmetic, of_logical, of_relation, ordering_relates, relation_of, run_scalar, same_unless, unary_plain}
+use Rattle.ctl_gen.proofs.FormedTypes.{IsAccessType, IsLike, arithmetic_of, boolean_plain, cell_like, cell_of, equality_relates, is_relation, like_access, like_back, like_scalar, like_then, logical_of, number_of, number_plain, number_scalar, of_arithmetic, of_logical, of_relation, ordering_relates, relation_of, run_scalar, same_unless, unary_plain}
 
 -- Cells -------------------------------------------------------------------------------------------
 
@@ -396,7 +396,7 @@ module _ (code : Code) (env : W.Frames) where
     pub discriminant_own : (o : Option Reached) (position : ℕ) → IsFound code env records o → (discriminant o position).runs records ≡ true → Own (discriminant o position) TyOf.Count
     discriminant_own None position found_so runs = absurd (cc)
     discriminant_own (Some x) position found_so runs =
-        own_of (discriminant (Some x) position) TyOf.Count refl (λ access. access)
+        own_of (discriminant (Some x) position) TyOf.Count refl (number_plain TyOf.Count tt)
         (record {
           scalar = tt;
           formed = λ to s agrees at.

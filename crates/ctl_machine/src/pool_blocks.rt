@@ -136,8 +136,9 @@ impl Engine {
         ensures gone { (t : ℕ) → IfNone result (Comes code.now self.new (ModeOf.Stopped StopOf.UseAfterFree) self.new.cells.items (Table.by_instr code.now (Some (InstrOf.TakeDiscriminant t which to.now)) s.operands (here_of place s))) }
     {
         let _ = code;
-        let pool = self.spots[self.count_spots() - 1].object();
-        match discriminant_of(&self.stock, pool, which) {
+        let newest = self.count_spots() - 1;
+        let spot = &self.spots[newest];
+        match discriminant_of(&self.stock, spot.object(), which) {
             Some(value) => {
                 let _ = self.spots.take_last();
                 self.put(value, to, place);
