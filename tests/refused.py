@@ -202,9 +202,10 @@ TEXTS = [
     (ADDRESSES + "N : Storage_Count := 8; P : Block_Pool (N, 1); begin null; end Main;", ACCEPTED, 1, 1),
     (ADDRESSES + "P : Block_Pool (Storage_Count (8), 1); begin null; end Main;", ACCEPTED, 1, 1),
     (ADDRESSES + "N : Storage_Count; I : Integer := 3; begin N := Storage_Count (I); I := Integer (N) + 1; end Main;", ACCEPTED, 1, 1),
-    # a discriminant that is read: only types tell it from a component
-    (POOLS + "P, Q : Block_Pool (16, 4); begin if P.Block_Size = Q.Block_Size then null; end if; end Main;", 12, 1, 36),
-    (POOLS + "P : Block_Pool (16, 4); Q : Block_Pool (P.Block_Size, 1); begin null; end Main;", 12, 1, 78),
+    # discriminants of block pools are read, but not those of pools with marks
+    (POOLS + "P, Q : Block_Pool (16, 4); begin if P.Block_Size = Q.Block_Size then null; end if; end Main;", ACCEPTED, 1, 1),
+    (POOLS + "P : Block_Pool (16, 4); Q : Block_Pool (P.Block_Size, P.Block_Count); begin null; end Main;", ACCEPTED, 1, 1),
+    (MARK_POOLS + "P : Mark_Release_Pool (64); begin if P.Pool_Size = 64 then null; end if; end Main;", 12, 1, 48),
     # pools with marks, and objects in a pool that are no records
     (MARK_POOLS + "P : Mark_Release_Pool (64); begin null; end Main;", 12, 1, 48),
     (MARK_POOLS + "type R is record N : Integer; end record; P : Mark_Release_Pool (64); type A is access R with Storage_Pool => P; V : A; begin V := new R; end Main;", 12, 1, 90),

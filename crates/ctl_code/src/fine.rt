@@ -789,6 +789,11 @@ pub fn is_fine(code: &Code, place: usize, instr: &Instr) -> bool
         Instr::Select { record, part, .. } => selects(code, place, record, part),
         Instr::TakePart { record, ty, to, .. } => is_scalar(ty)
             && takes_part(code, place, record, ty, to),
+        Instr::TakeDiscriminant {
+            record,
+            which: _,
+            to,
+        } => takes_part(code, place, record, Ty::Count, to),
         Instr::StorePart {
             from,
             ty,

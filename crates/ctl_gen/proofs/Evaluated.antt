@@ -21,10 +21,10 @@ use Rattle.ctl_meaning.proofs.Trees.{actual_roll as supply_roll, eval_roll, oper
 use Rattle.ctl_code.specs.declared.code.Code.{Code}
 use Rattle.ctl_program.specs.declared.expression.Step.TheVariants.{Component}
 use Rattle.ctl_layout.specs.Parts.{Start, OfVariable, Reached, Variable, Part, Object, are_followed, behind_steps, in_variable, is_begun}
-use Rattle.ctl_layout.specs.Values.{ActualCode, ValueCode, OperatorCode, actual_code, actuals_run, copied, given, missing_value, new, new_copy, operator_of, operators_run, read, value_code, values_run, reached_by}
+use Rattle.ctl_layout.specs.Values.{ActualCode, ValueCode, OperatorCode, actual_code, actuals_run, copied, discriminant, given, missing_value, new, new_copy, operator_of, operators_run, read, value_code, values_run, reached_by}
 use Rattle.ctl_gen.proofs.Known.{IsScalar, both_true, plain_if, scalar_elementary, scalar_if}
 use Rattle.ctl_gen.proofs.Worlds.{Since}
-use Rattle.ctl_gen.proofs.Walked.{behind_is, start_of, variable_first}
+use Rattle.ctl_gen.proofs.Walked.{behind_is, part_begun, start_of, variable_first}
 use Rattle.ctl_gen.proofs.Parts.{Leads, find_as, find_by, given_by, given_layer, name_leads, part_leads}
 use Rattle.ctl_gen.proofs.Begun.{Starts, value_starts}
 use Rattle.ctl_gen.proofs.Components.{component_value}
@@ -35,6 +35,7 @@ use Rattle.ctl_gen.proofs.FunctionCalls.{function_value}
 use Rattle.ctl_gen.proofs.Sources.{copied_means}
 use Rattle.ctl_gen.proofs.Allocators.{copied_value, new_value}
 use Rattle.ctl_gen.proofs.Designated.{designating_value}
+use Rattle.ctl_gen.proofs.Discriminants.{discriminant_value}
 use Rattle.ctl_gen.proofs.Expressions as X
 
 -- Names -------------------------------------------------------------------------------------------
@@ -195,6 +196,11 @@ module _ (ask : Ask) (k : Tables) (code : Code) (setting : Setting k code) (call
       let g = h x refl in
       elementary (Some x) ty find (scalar_if ty e.0) (component_value ask k code setting.places call default b act steps t position e.1 g.0 bound w0 (begun x refl (both_true _ _ e.1).0) (find Elementary K) g.1 ty (scalar_if ty e.0))
 
+  -- a discriminant of a block pool
+  discriminates : (o : Option Reached) (position : ℕ) (act : List ℕ → Act (List ℕ)) (find : Naming) → ((x : Reached) → o ≡ Some x → Leads K x act find) → ((x : Reached) → o ≡ Some x → is_begun (start_of x) k.records ≡ true → Starts ask k code bound w0 (start_of x) act) → Meets (discriminant o position) (eval_step (Expr-F.Discriminant find position))
+  discriminates None position act find leads begun runs = absurd (cc)
+  discriminates (Some x) position act find leads begun runs = discriminant_value ask k code setting call default bound w0 x position find act (leads x refl) (begun x refl (part_begun k.records x runs)) runs
+
   expr_rolled : (y : Expr-F ActualToo ExprToo NameToo OperandToo) → IsValue (roll-Expr (bare_expr y))
   unfolding eval_step
   expr_rolled (Expr-F.Constant n) = meets (Expr-F.Constant n) _ _ (value_roll (Expr-F.Constant n)) (eval_roll (Expr-F.Constant n)) (λ h. X.constant_value ask k code bound w0 n)
@@ -228,7 +234,7 @@ module _ (ask : Ask) (k : Tables) (code : Code) (setting : Setting k code) (call
   expr_rolled (Expr-F.New access ty (Some h) None) = let y = Expr-F.New access ty (Some h.0) None in new_rolled y access ty (value_code h.0) None (value_roll y)
   expr_rolled (Expr-F.New access ty (Some h) (Some v)) = let y = Expr-F.New access ty (Some h.0) (Some v.0) in new_rolled y access ty (value_code h.0) (Some (value_code v.0)) (value_roll y)
   expr_rolled (Expr-F.Subpool which n) = missing_rolled (Expr-F.Subpool which n.0) (value_roll (Expr-F.Subpool which n.0))
-  expr_rolled (Expr-F.Discriminant n i) = missing_rolled (Expr-F.Discriminant n.0 i) (value_roll (Expr-F.Discriminant n.0 i))
+  expr_rolled (Expr-F.Discriminant n i) = meets (Expr-F.Discriminant n.0 i) _ _ (value_roll (Expr-F.Discriminant n.0 i)) (eval_roll (Expr-F.Discriminant n.0 i)) (discriminates (reached_by n.0) i (given_by n.0 K) (eval_name n.0) (name_leads K n.0) n.1)
 
   operand_rolled : (y : Operand-F ActualToo ExprToo NameToo OperandToo) → IsOperator (roll-Operand (bare_operand y))
   unfolding operand_step

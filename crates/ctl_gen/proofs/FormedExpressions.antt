@@ -3,7 +3,7 @@
 use Rattle.std.proofs.Common.{◌≡◌, ℕ, suc, List, ◌∷◌, length, map, Option, Some, None, Bool, true, false, inl, inr, refl, sym, ap, ◌∙◌, subst}
 use Rattle.std.specs.Prelude.{◌&&◌, not, option_map}
 use Rattle.ctl_program.specs.declared.types.Ty.{Ty}
-use Rattle.ctl_program.specs.declared.types.Ty.TheVariants.{Boolean}
+use Rattle.ctl_program.specs.declared.types.Ty.TheVariants.{Boolean, Count}
 use Rattle.ctl_program.specs.declared.types.Ty.TheVariants as TyOf
 use Rattle.ctl_program.specs.declared.types.RecordType.{RecordType}
 use Rattle.ctl_program.specs.declared.operators.Shortcut.{Shortcut}
@@ -34,7 +34,7 @@ use Rattle.ctl_gen.proofs.FormedParts.{IsFound, steps_found}
 use Rattle.ctl_gen.proofs.Walked.{IsWalked, copied_walked, copy_reaches, value_dereferenced, variable_first, variable_walked}
 use Rattle.ctl_gen.proofs.FormedCalls.{GoodActual, GoodActuals, MayCall, MayNew, copy_good, function_own, good_as, kind_by, reference_good, value_good}
 use Rattle.ctl_gen.proofs.FormedTypes.{IsAccessType, joins_plain, joins_scalar, number_of, number_scalar, run_scalar, takes_unary}
-use Rattle.ctl_gen.proofs.FormedValues.{Conditions, Fine, Operating, access_usable, applied_own, chain_own, constant_fine, copied_own, designating_fine, fine_like, first_joins, new_own, next_condition, next_joins, next_operating, none_operating, read_own, short_own, usable_as, value_number, value_usable}
+use Rattle.ctl_gen.proofs.FormedValues.{Conditions, Fine, Operating, access_usable, applied_own, chain_own, constant_fine, copied_own, designating_fine, fine_like, first_joins, new_own, next_condition, next_joins, next_operating, none_operating, read_own, short_own, usable_as, value_number, value_usable, discriminant_own, unary_own}
 
 -- as many actuals as formals
 as_many : {k : W.Setting} {env : W.Frames} {fs : List W.Formal} {actuals : List Actual} → FitEach k env fs actuals → length fs ≡ length (map actual_code actuals)
@@ -154,7 +154,9 @@ module _ (code : Code) (records : List RecordType) where
           let same = value_new a t handle x in
           fine_as env _ _ (TyOf.Access a) same (allocated_fine env a t (option_map value_code handle) x (λ u is. may_new env a u to (designates ∙ is)) (copy_found g) (runs_as _ _ same runs))
       typed_fine {env} (T.subpool {which = which} {x = x} denotes rooted) runs = absurd (not_missing _ (value_subpool which x) runs)
-      typed_fine {env} (T.discriminant {x = x} {i = i} denotes rooted has) runs = absurd (not_missing _ (value_discriminant x i) runs)
+      typed_fine {env} (T.discriminant {x = x} {i = i} denotes rooted has) runs =
+          let same = value_discriminant x i in
+          fine_as env _ _ Count same (inl (discriminant_own code env records (reached_by x) i (name_found denotes) (runs_as _ _ same runs)))
 
       -- the code of what a name begins with is well formed, where it is run
       pub name_found : {env : W.Frames} {x : Name} {t : Ty} → Denotes k env x t → IsFound code env records (reached_by x)

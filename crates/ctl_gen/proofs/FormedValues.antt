@@ -29,12 +29,12 @@ use Rattle.ctl_layout.specs.declared.right.Right.TheVariants as RightOf
 use Rattle.ctl_layout.specs.Around.{Line, local_at, new_operand, out_to, read_from}
 use Rattle.ctl_layout.specs.Records.{is_run_type}
 use Rattle.ctl_layout.specs.Parts.{Start, OfVariable, OfValue, Reached, Variable, Part, Object, are_followed, component_code, located_code, part_code, parts_run, taken_code}
-use Rattle.ctl_layout.specs.Values.{Held, OperatorCode, ValueCode, address_numbers, applied, binary_code, chain, common_type, constant, designating, evaluated, first_type, held, held_by, in_cell, last_type, left_held, moved_to, new, new_copy, new_copy_code, next_target, operand_type, operator_by, operator_code, operator_for, operators_code, other_code, others_code, read, short, value_type}
+use Rattle.ctl_layout.specs.Values.{Held, OperatorCode, ValueCode, address_numbers, applied, binary_code, chain, common_type, constant, designating, evaluated, first_type, held, held_by, in_cell, last_type, left_held, moved_to, new, new_copy, new_copy_code, next_target, operand_type, operator_by, operator_code, operator_for, operators_code, other_code, others_code, read, short, value_type, block_pool, discriminant, discriminant_at, unary}
 use Rattle.ctl_layout.proofs.Extensions.{both_true}
 use Rattle.ctl_gen.proofs.Formed.{Formed, both, has_end, leads_at, none, one}
 use Rattle.ctl_gen.proofs.FormedAround.{Agrees, IsHoused, IsNamed}
 use Rattle.ctl_gen.proofs.FormedParts.{IsBegun, IsFound, located_formed, part_formed, read_fine}
-use Rattle.ctl_gen.proofs.Walked.{start_of, steps_before}
+use Rattle.ctl_gen.proofs.Walked.{start_of, steps_before, part_begun}
 use Rattle.ctl_gen.proofs.FormedTypes.{IsAccessType, IsLike, arithmetic_of, boolean_plain, cell_like, cell_of, equality_relates, is_relation, like_access, like_back, like_scalar, like_then, logical_of, number_of, number_plain, number_scalar, of_arithmetic, of_logical, of_relation, ordering_relates, relation_of, run_scalar, same_unless, unary_plain}
 
 -- Cells -------------------------------------------------------------------------------------------
@@ -397,6 +397,23 @@ module _ (code : Code) (env : W.Frames) where
     component_formed (OfVariable v) [] t position ty to s scalar agrees followed begun at = one code (InstrOf.FetchPart (out_to s v) v.slot t position ty to) s (Some (with_put to.named ty s)) (λ p next. (scalar, puts code p to ty s at next, agrees.1 v begun.0 begun.1))
     component_formed (OfVariable v) (step ∷ steps) t position ty to s scalar agrees followed begun at = taken_formed (OfVariable v) (step ∷ steps) t position ty to s scalar agrees followed begun at
     component_formed (OfValue runs lines) steps t position ty to s scalar agrees followed begun at = taken_formed (OfValue runs lines) steps t position ty to s scalar agrees followed begun at
+
+    -- a discriminant of the pool that is found first is one of Storage_Count
+    pub discriminant_own : (o : Option Reached) (position : ℕ) → IsFound code env records o → (discriminant o position).runs records ≡ true → Own (discriminant o position) TyOf.Count
+    discriminant_own None position found_so runs = absurd (cc)
+    discriminant_own (Some x) position found_so runs =
+        own_of (discriminant (Some x) position) TyOf.Count refl (number_plain TyOf.Count tt)
+        (record {
+          scalar = tt;
+          formed = λ to s agrees at.
+              let which = discriminant_at position in
+              let pool = KindOf.Operand (TyOf.Record block_pool) ∷ s in
+              let after = Some (with_put to.named TyOf.Count s) in
+              both code (part_code x block_pool s) ((InstrOf.TakeDiscriminant block_pool which to, pool) ∷ []) s pool after
+              (part_formed code env x block_pool s agrees found_so.0 (found_so.1 (part_begun records x runs)))
+              (one code (InstrOf.TakeDiscriminant block_pool which to) pool after (λ p next. (s, refl, puts code p to TyOf.Count s at next)));
+          constant = λ n is. absurd (cc);
+        })
 
     pub read_own : (o : Option Reached) (ty : Ty) → IsFound code env records o → (read o ty).runs records ≡ true → Own (read o ty) ty
     read_own None ty found_so runs = absurd (cc)

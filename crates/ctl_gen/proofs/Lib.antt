@@ -41,6 +41,7 @@ pub mod TakenValues
 pub mod PartValues
 pub mod Allocators
 pub mod Designated
+pub mod Discriminants
 pub mod Sources
 pub mod Adjust
 pub mod AdjustedParts

@@ -2,10 +2,10 @@
 -- are not tagged, whose components are scalar, access values, addresses or of such types again, with their Initialize, Adjust, Finalize,
 -- Allocate and Deallocate; access types whose objects lie in the standard pool or in a block pool, their collections,
 -- allocators of such objects, without a value or with that of a part of a variable, access attributes, and instances of
--- Unchecked_Deallocation; calls of the library's Allocate and Deallocate; expressions over constants, variables, components, conversions of
--- numbers and calls of functions, of scalar and access types; assignments to variables and components, also of what access values designate,
--- and calls give these too; calls of procedures, whose actuals are values, copies of variables and parts of objects; return statements, texts
--- with images, handlers of exceptions, and control.
+-- Unchecked_Deallocation; calls of the library's Allocate and Deallocate; expressions over constants, variables, components, discriminants of
+-- block pools, conversions of numbers and calls of functions, of scalar and access types; assignments to variables and components, also of
+-- what access values designate, and calls give these too; calls of procedures, whose actuals are values, copies of variables and parts of
+-- objects; return statements, texts with images, handlers of exceptions, and control.
 -- Also objects that take the value of a part of their type, which may be any whose objects are declared, and assignments of records of such
 -- types to one another, in whichever declarative part the type stands.
 use Rattle.std.specs.Prelude.{◌≡◌, ℕ, List, slice_get, Option, Some, None, Bool, IsTrue}

@@ -200,7 +200,8 @@ fn value(expression: &Expr, table: &Table) -> bool
         }
         Expr::New(_, ty, handle, value) => is_allocated(table, *ty, handle, value),
         Expr::Convert(ty, operand) => is_number(*ty) && value(operand.get(), table),
-        Expr::Subpool(..) | Expr::Discriminant(..) => false,
+        Expr::Discriminant(name, _) => is_part(name, reached_by(name), table),
+        Expr::Subpool(..) => false,
     }
 }
 

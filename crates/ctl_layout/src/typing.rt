@@ -20,8 +20,9 @@ pub fn type_of(expression: &Expr) -> Option<Ty>
             Some(*ty),
         Expr::Chain(_, first, more) => Some(last_type(first.get().ty, more.as_slice())),
         Expr::Short(..) => Some(Ty::Boolean),
+        Expr::Discriminant(..) => Some(Ty::Count),
         Expr::New(access, ..) => Some(Ty::Access(*access)),
-        Expr::Constant(_) | Expr::Access(_) | Expr::Subpool(..) | Expr::Discriminant(..) => None,
+        Expr::Constant(_) | Expr::Access(_) | Expr::Subpool(..) => None,
     }
 }
 

@@ -132,6 +132,7 @@ pub mod PoolsDropped
 pub mod PoolsClosed
 pub mod PoolDeclared
 pub mod PoolBlocks
+pub mod PoolDiscriminants
 pub mod BlockCalls
 pub mod StorageCalled
 pub mod Placed

@@ -169,6 +169,9 @@ impl Engine {
                 let offset = offset_of(code, *record, *position);
                 Ok(self.take_part(code, offset, to, place))
             }
+            Instr::TakeDiscriminant { which, to, .. } => {
+                Ok(self.take_discriminant(code, *which, to, place))
+            }
             Instr::StorePart {
                 from,
                 record,

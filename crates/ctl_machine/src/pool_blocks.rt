@@ -1,7 +1,9 @@
 //! The library's Allocate and Deallocate, as a program calls them (RM 13.11): a block goes out of a pool, and a variable takes its address; a
-//! block comes back to its pool. The pool is the newest part, below the values on top.
+//! block comes back to its pool. The pool is the newest part, below the values on top. And discriminants of pools, which are read (RM 3.7).
 
-ghost use Rattle.std.specs.Prelude.{◌≡◌, ◌+◌, ◌^◌, ◌<◌, ℕ, IfOk, IsTrue, List, OnErr, OnOk, Some, is_some, true};
+ghost use Rattle.std.specs.Prelude.{◌≡◌, ◌+◌, ◌^◌, ◌<◌, ℕ, IfNone, IfOk, IfSome, IsTrue, List, OnErr, OnOk, Some, is_some, true};
+ghost use Rattle.std.specs.Option.{option_map};
+ghost use Rattle.ctl_tree.specs.declared.ending.Stop.TheVariants as StopOf;
 ghost use Rattle.ctl_meaning.specs.Objects.{object_in};
 ghost use Rattle.ctl_meaning.specs.Pools.{block_pool_at};
 ghost use Rattle.ctl_meaning.specs.World as W;
@@ -14,10 +16,12 @@ ghost use Rattle.ctl_code.specs.Table as Table;
 ghost use Rattle.ctl_code.specs.Valid.{IsValid};
 ghost use Rattle.ctl_machine.specs.Moves.{Before, GoesOn, Makes, here_of};
 ghost use Rattle.ctl_machine.specs.PoolBlocks.{IsAccepted, IsAsked, IsServed, is_open_at};
+ghost use Rattle.ctl_machine.specs.Windows.{Comes};
+ghost use Rattle.ctl_machine.specs.declared.frame.Mode.TheVariants as ModeOf;
 
 use crate::engine::Engine;
 use crate::frame::Mode;
-use ctl_code::code::{Code, Way};
+use ctl_code::code::{Cell, Code, PoolDiscriminant, Way};
 use ctl_objects::{BlockReturn, Objects, PoolState};
 use ctl_tree::ending::Stop;
 use std::alloc::AllocError;
@@ -50,6 +54,20 @@ pub(crate) fn is_open(stock: &Objects, pool: u64) -> bool
         Some(known) => matches!(known.state, PoolState::Open),
         None => false,
     }
+}
+
+/// Answers a discriminant of a pool whose object exists (RM 3.7, 13.11).
+fn discriminant_of(stock: &Objects, pool: u64, which: PoolDiscriminant) -> Option<u64>
+    ensures { (next : ℕ) (x : W.Pools) → ShowsPools next x stock.now → result ≡ option_map (Table.discriminant_in which) (block_pool_at pool x) }
+{
+    if !stock.exists(pool) {
+        return None;
+    }
+    let size = stock.pool(pool)?.size;
+    Some(match which {
+        PoolDiscriminant::BlockSize => size.block_size,
+        PoolDiscriminant::BlockCount => size.block_count as u64,
+    })
 }
 
 /// Takes a block out of a pool, for so many storage units (RM 13.11); nothing changes where memory is refused: there is none for more addresses
@@ -98,6 +116,36 @@ impl Engine {
         let value = self.cells[self.window() + code.kinds.height_at(place, under)];
         let pool = self.spots[self.count_spots() - 1].object();
         (pool, value)
+    }
+
+    /// Puts a discriminant of the pool that is the newest operand in place of it, and answers what comes next; where there is no such pool, the
+    /// program is erroneous (RM 13.11.2), and nothing changes.
+    pub(crate) fn take_discriminant(
+        &mut self,
+        code: &Code,
+        which: PoolDiscriminant,
+        to: &Cell,
+        place: usize,
+    ) -> Option<usize>
+        ghost s: { State }
+        requires valid { IsValid code.now }
+        requires before { (t : ℕ) × Before code.now self.old place (InstrOf.TakeDiscriminant t which to.now) s }
+        requires place { place + 1 < 2 ^ 64 }
+        ensures passed { (t : ℕ) → IfSome result (λ next. (self.new.mode ≡ ModeOf.At next) × Makes code.now self.old self.new (Table.by_instr code.now (Some (InstrOf.TakeDiscriminant t which to.now)) s.operands (here_of place s))) }
+        ensures left { IfNone result (GoesOn self.old self.new self.old.mode self.old.cells.items) }
+        ensures gone { (t : ℕ) → IfNone result (Comes code.now self.new (ModeOf.Stopped StopOf.UseAfterFree) self.new.cells.items (Table.by_instr code.now (Some (InstrOf.TakeDiscriminant t which to.now)) s.operands (here_of place s))) }
+    {
+        let _ = code;
+        let newest = self.count_spots() - 1;
+        let spot = &self.spots[newest];
+        match discriminant_of(&self.stock, spot.object(), which) {
+            Some(value) => {
+                let _ = self.spots.take_last();
+                self.put(value, to, place);
+                Some(place + 1)
+            }
+            None => None,
+        }
     }
 
     /// Takes a block out of the pool that is the newest part, for the size below the alignment on top; the variable of this slot, in the

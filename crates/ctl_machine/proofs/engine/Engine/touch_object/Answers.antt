@@ -26,6 +26,12 @@ returns-in-TakePart-clause-passed g c = subst (λ (i : Instr). IfSome c.take_par
 pub returns-in-TakePart-clause-gone : goal.returns-in-TakePart-clause-gone
 returns-in-TakePart-clause-gone g c = subst (λ (i : Instr). IfNone c.take_part.result (Comes c.args.code.now c.take_part.new.self (Stopped UseAfterFree) c.take_part.new.self.cells.items (by_instr c.args.code.now (Some i) g.s.operands (here_of c.args.place g.s)))) (sym c.in-TakePart.is) (c.take_part.ensures.gone c.in-TakePart.record c.in-TakePart.position c.in-TakePart.ty c.offset_of-offset-in-TakePart.ensures)
 
+pub returns-in-TakeDiscriminant-clause-passed : goal.returns-in-TakeDiscriminant-clause-passed
+returns-in-TakeDiscriminant-clause-passed g c = subst (λ (i : Instr). IfSome c.take_discriminant.result (λ next. (c.take_discriminant.new.self.mode ≡ At next) × Makes c.args.code.now c.args.self.now c.take_discriminant.new.self (by_instr c.args.code.now (Some i) g.s.operands (here_of c.args.place g.s)))) (sym c.in-TakeDiscriminant.is) (c.take_discriminant.ensures.passed c.in-TakeDiscriminant.record)
+
+pub returns-in-TakeDiscriminant-clause-gone : goal.returns-in-TakeDiscriminant-clause-gone
+returns-in-TakeDiscriminant-clause-gone g c = subst (λ (i : Instr). IfNone c.take_discriminant.result (Comes c.args.code.now c.take_discriminant.new.self (Stopped UseAfterFree) c.take_discriminant.new.self.cells.items (by_instr c.args.code.now (Some i) g.s.operands (here_of c.args.place g.s)))) (sym c.in-TakeDiscriminant.is) (c.take_discriminant.ensures.gone c.in-TakeDiscriminant.record)
+
 pub returns-in-StorePart-clause-passed : goal.returns-in-StorePart-clause-passed
 returns-in-StorePart-clause-passed g c = subst (λ (i : Instr). IfSome c.store_part.result (λ next. (c.store_part.new.self.mode ≡ At next) × Makes c.args.code.now c.args.self.now c.store_part.new.self (by_instr c.args.code.now (Some i) g.s.operands (here_of c.args.place g.s)))) (sym c.in-StorePart.is) (c.store_part.ensures.passed c.in-StorePart.record c.in-StorePart.position c.in-StorePart.ty c.offset_of-offset-in-StorePart.ensures)
 

@@ -15,5 +15,8 @@ ghost-select g a = g.s
 abbrev pub ghost-take_part : goal.ghost-take_part
 ghost-take_part g a = g.s
 
+abbrev pub ghost-take_discriminant : goal.ghost-take_discriminant
+ghost-take_discriminant g a = g.s
+
 abbrev pub ghost-designate_slot : goal.ghost-designate_slot
 ghost-designate_slot g a = g.s
