@@ -12,13 +12,13 @@ abbrev pub decreases-next_relations-more : goal.decreases-next_relations-more
 decreases-next_relations-more l = pending l.self
 
 abbrev pub invariant-next_addends-more : goal.invariant-next_addends-more
-invariant-next_addends-more l = Gathers (addends) (addend) none l.fn.self (map (operand_node true view) l.all) l.self
+invariant-next_addends-more l = Gathers (addends) (addend) none l.fn.self (map (operand_node view) l.all) l.self
 
 abbrev pub decreases-next_addends-more : goal.decreases-next_addends-more
 decreases-next_addends-more l = pending l.self
 
 abbrev pub invariant-next_multiplicands-more : goal.invariant-next_multiplicands-more
-invariant-next_multiplicands-more l = Gathers (multiplicands) (multiplicand) none l.fn.self (map (operand_node false view) l.all) l.self
+invariant-next_multiplicands-more l = Gathers (multiplicands) (multiplicand) none l.fn.self (map (operand_node view) l.all) l.self
 
 abbrev pub decreases-next_multiplicands-more : goal.decreases-next_multiplicands-more
 decreases-next_multiplicands-more l = pending l.self
