@@ -1,5 +1,5 @@
 -- What is kept of parts of nodes, and of nodes made from parts.
-use Rattle.std.proofs.Common.{◌≡◌, ℕ, Bool, true, false, refl, sym, ap, ◌∙◌, ◌⊎◌, inl, inr}
+use Rattle.std.proofs.Common.{◌≡◌, ℕ, true, false, refl, sym, ap, ◌∙◌, ◌⊎◌, inl, inr}
 use Rattle.std.specs.Prelude.{List}
 use Rattle.ctl_grammar.specs.Form.{Node, none, leaf, num, written, at, pair, tag}
 use Rattle.ctl_grammar.specs.Label as labels
@@ -111,6 +111,7 @@ kept_bare_kind _ = refl
 pub kept_bare : (v : Node) → is_bare (kept v) ≡ is_bare v
 kept_bare v = ap is_bare_kind (sym (kept_second v)) ∙ kept_bare_kind (second v)
 
+-- of what is no name there is nothing to show
 not_bare : {P : Type 0} → false ≡ true → P
 not_bare h = absurd cc
 

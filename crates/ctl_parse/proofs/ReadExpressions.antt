@@ -2,7 +2,7 @@
 use Rattle.std.proofs.Common.{◌≡◌, ℕ, zero, suc, ◌<◌, Bool, true, false, cond, List, [], ◌∷◌, map, Option, Some, None, refl, sym, ap, subst, ◌∙◌, arith}
 use Rattle.std.specs.Prelude.{◌==◌, ◌&&◌, not}
 use Rattle.ctl_tree.specs.declared.span.Span.{Span}
-use Rattle.ctl_grammar.specs.Form.{Node, none, num, written, at, pair, tag}
+use Rattle.ctl_grammar.specs.Form.{Node, none, written, at, pair, tag}
 use Rattle.ctl_grammar.specs.Label.{Label}
 use Rattle.ctl_grammar.specs.Label as labels
 use Rattle.ctl_grammar.specs.Nodes.{alone, first, second, part_2, is_none, row_of, tagged_part}

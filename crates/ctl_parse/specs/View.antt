@@ -1,5 +1,5 @@
 -- What trees stand for.
-use Rattle.std.specs.Prelude.{ℕ, ◌==◌, Bool, true, false, ◌&&◌, not, cond, List, map, Option, Some, None}
+use Rattle.std.specs.Prelude.{◌==◌, Bool, true, false, ◌&&◌, not, cond, List, map, Option, Some, None}
 use Rattle.ctl_tree.specs.declared.span.Span.{Span}
 use Rattle.ctl_grammar.specs.Form.{Node, none, leaf, num, written, at, pair, tag}
 use Rattle.ctl_grammar.specs.Label.{Label}

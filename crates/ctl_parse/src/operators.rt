@@ -1,7 +1,7 @@
 //! Operators, literals, and what stands behind names without a parenthesis (RM 4).
 
 ghost use Rattle.std.specs.Prelude.{◌≡◌, MatchOption, Some, true, false, not};
-ghost use Rattle.ctl_grammar.specs.Form.{none, at, pair, tag, starts, act, alt};
+ghost use Rattle.ctl_grammar.specs.Form.{none, starts, act, alt};
 ghost use Rattle.ctl_grammar.specs.Grammar.{second_word, joiner, relational, sign, adding, multiplying, number, string, null, selection, spot, identifier, attribute, attributes, is_among, known, suffix};
 ghost use Rattle.ctl_grammar.specs.Nodes.{alone, all_of_access, attribute_of, selector_of};
 ghost use Rattle.ctl_parse.specs.Kept.{spelled_attribute};

@@ -1,4 +1,4 @@
-use Rattle.std.proofs.Common.{true, false, refl, sym, ap, ◌∙◌}
+use Rattle.std.proofs.Common.{refl, sym, ap, ◌∙◌}
 use Rattle.ctl_grammar.specs.Form.{none, pair, tag}
 use Rattle.ctl_grammar.specs.Grammar.{addend, addends, adding, allocator, behind_and, behind_or, body, compared, expression, expressions, factor, handle, identifier, joined, joiner, multiplicand, multiplicands, multiplying, name, next_expression, next_relation, null, number, primary, qualified, relation, relational, relations, selection, simple, string, suffix, suffixes, term}
 use Rattle.ctl_grammar.specs.Label as labels

@@ -1,4 +1,4 @@
-use Rattle.std.proofs.Common.{◌+◌, ◌*◌, true, false, map}
+use Rattle.std.proofs.Common.{◌+◌, ◌*◌, map}
 use Rattle.ctl_grammar.specs.Form.{none, many}
 use Rattle.ctl_grammar.specs.Grammar.{addend, addends, multiplicand, multiplicands, next_expression, next_relation, suffix, suffixes}
 use Rattle.ctl_parse.specs.Reads.{Gathers, pending}
