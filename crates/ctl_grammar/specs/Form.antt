@@ -5,6 +5,7 @@ use Rattle.ctl_tree.specs.declared.token.Kind.{Kind}
 use Rattle.ctl_tree.specs.declared.token.Kind.TheVariants as kinds
 use Rattle.ctl_tree.specs.declared.token.Token.{Token}
 use Rattle.ctl_grammar.specs.Kind.{same_kind}
+use Rattle.ctl_grammar.specs.Label.{Label}
 
 -- A tree without types: what a text stands for.
 pub data Node : Type 0 where
@@ -14,7 +15,7 @@ pub data Node : Type 0 where
   written : List ℕ → Node
   at : Span → Node
   pair : Node → Node → Node
-  tag : ℕ → Node → Node
+  tag : Label → Node → Node
 
 -- the constructs that may stand in themselves: each counts for the depth
 pub data Nest : Type 0 where

@@ -5,8 +5,9 @@ use Rattle.ctl_tree.specs.declared.token.Kind.TheVariants as kinds
 use Rattle.ctl_syntax.specs.declared.operators.LogicalOperator.{LogicalOperator}
 use Rattle.ctl_syntax.specs.declared.operators.LogicalOperator.TheVariants as operators
 use Rattle.ctl_grammar.specs.Spelling.{same_name}
-use Rattle.ctl_grammar.specs.Form.{none, num, pair, tag, Nest, Enclosed, Arguments, Handle, Formals, Associations, Conditional, Repetition, Block, Body, BareBody, Known, Ends, Form, word, keep, tested, empty, within, alt, when, many, act, late, nest, ◌▸◌}
-use Rattle.ctl_grammar.specs.Nodes.{first, second, part_2, part_3, part_4, part_5, behind_2, behind_3, behind_4, behind_5, place, letters, or_else, identifier_of, yes, no, number_of, string_of, null_of, name_of, parentheses_of, unary_of, product_of, sum_of, relation_of, logical_of, allocator_of, selector_of, all_of_access, arguments_of, access_of, attribute_of, is_bare, association_of, assignment_of, procedure_of, part_2_letters}
+use Rattle.ctl_grammar.specs.Form.{none, pair, tag, Nest, Enclosed, Arguments, Handle, Formals, Associations, Conditional, Repetition, Block, Body, BareBody, Known, Ends, Form, word, keep, tested, empty, within, alt, when, many, act, late, nest, ◌▸◌}
+use Rattle.ctl_grammar.specs.Label as labels
+use Rattle.ctl_grammar.specs.Nodes.{alone, first, second, part_2, part_3, part_4, part_5, behind_2, behind_3, behind_4, behind_5, place, letters, or_else, identifier_of, yes, no, number_of, string_of, null_of, name_of, parentheses_of, unary_of, product_of, sum_of, relation_of, logical_of, allocator_of, selector_of, all_of_access, arguments_of, access_of, attribute_of, is_bare, association_of, assignment_of, procedure_of, part_2_letters}
 
 -- ---- forms that serve others
 
@@ -104,19 +105,19 @@ joiner operator = act (λ v. none) (word (first_word operator) ▸ second_word o
 
 -- a relational operator
 unfoldable pub relational : Form
-relational = alt (act (λ v. num 0) (word kinds.Equal)) (alt (act (λ v. num 1) (word kinds.NotEqual)) (alt (act (λ v. num 2) (word kinds.Less)) (alt (act (λ v. num 3) (word kinds.LessEqual)) (alt (act (λ v. num 4) (word kinds.Greater)) (act (λ v. num 5) (word kinds.GreaterEqual))))))
+relational = alt (act (λ v. alone labels.Equal) (word kinds.Equal)) (alt (act (λ v. alone labels.NotEqual) (word kinds.NotEqual)) (alt (act (λ v. alone labels.Less) (word kinds.Less)) (alt (act (λ v. alone labels.LessEqual) (word kinds.LessEqual)) (alt (act (λ v. alone labels.Greater) (word kinds.Greater)) (act (λ v. alone labels.GreaterEqual) (word kinds.GreaterEqual))))))
 
 -- a sign, if there is one, with its place
 unfoldable pub sign : Form
-sign = alt (act (pair (num 0)) (spot kinds.Plus)) (alt (act (pair (num 1)) (spot kinds.Minus)) (empty))
+sign = alt (act (pair (alone labels.Plus)) (spot kinds.Plus)) (alt (act (pair (alone labels.Minus)) (spot kinds.Minus)) (empty))
 
 -- what joins terms
 unfoldable pub adding : Form
-adding = alt (act (λ v. num 0) (word kinds.Plus)) (alt (act (λ v. num 1) (word kinds.Minus)) (act (λ v. num 2) (word kinds.Ampersand)))
+adding = alt (act (λ v. alone labels.Plus) (word kinds.Plus)) (alt (act (λ v. alone labels.Minus) (word kinds.Minus)) (act (λ v. alone labels.Concatenate) (word kinds.Ampersand)))
 
 -- what joins factors
 unfoldable pub multiplying : Form
-multiplying = alt (act (λ v. num 0) (word kinds.Star)) (alt (act (λ v. num 1) (word kinds.Slash)) (alt (act (λ v. num 2) (word kinds.Mod)) (act (λ v. num 3) (word kinds.Rem))))
+multiplying = alt (act (λ v. alone labels.Times) (word kinds.Star)) (alt (act (λ v. alone labels.Divide) (word kinds.Slash)) (alt (act (λ v. alone labels.Mod) (word kinds.Mod)) (act (λ v. alone labels.Rem) (word kinds.Rem))))
 
 unfoldable pub number : Form
 number = act number_of (keep kinds.Number)
@@ -156,7 +157,7 @@ unfoldable pub primary : Form
 primary = alt (number) (alt (string) (alt (null) (alt (act name_of name) (alt (allocator) (act parentheses_of (nest Enclosed))))))
 
 unfoldable pub factor : Form
-factor = alt (act (unary_of 0) (spot kinds.Abs ▸ primary)) (alt (act (unary_of 1) (spot kinds.Not ▸ primary)) (primary))
+factor = alt (act (unary_of labels.Abs) (spot kinds.Abs ▸ primary)) (alt (act (unary_of labels.Not) (spot kinds.Not ▸ primary)) (primary))
 
 unfoldable pub multiplicand : Form
 multiplicand = multiplying ▸ factor
@@ -190,13 +191,13 @@ unfoldable pub relations : LogicalOperator → Form
 relations operator = relation ▸ many (next_relation operator)
 
 unfoldable pub behind_and : Form
-behind_and = alt (act (λ v. pair (num 3) (second v)) (word kinds.Then ▸ relations operators.AndThen)) (act (λ v. pair (num 0) v) (relations operators.And))
+behind_and = alt (act (λ v. pair (alone labels.AndThen) (second v)) (word kinds.Then ▸ relations operators.AndThen)) (act (λ v. pair (alone labels.And) v) (relations operators.And))
 
 unfoldable pub behind_or : Form
-behind_or = alt (act (λ v. pair (num 4) (second v)) (word kinds.Else ▸ relations operators.OrElse)) (act (λ v. pair (num 1) v) (relations operators.Or))
+behind_or = alt (act (λ v. pair (alone labels.OrElse) (second v)) (word kinds.Else ▸ relations operators.OrElse)) (act (λ v. pair (alone labels.Or) v) (relations operators.Or))
 
 unfoldable pub joined : Form
-joined = alt (act second (word kinds.And ▸ behind_and)) (alt (act second (word kinds.Or ▸ behind_or)) (alt (act (λ v. pair (num 2) (second v)) (word kinds.Xor ▸ relations operators.Xor)) empty))
+joined = alt (act second (word kinds.And ▸ behind_and)) (alt (act second (word kinds.Or ▸ behind_or)) (alt (act (λ v. pair (alone labels.Xor) (second v)) (word kinds.Xor ▸ relations operators.Xor)) empty))
 
 unfoldable pub expression : Form
 expression = act (λ v. logical_of (first v) (second v)) (relation ▸ joined)
@@ -210,10 +211,10 @@ expressions = expression ▸ many next_expression
 -- ---- headings
 
 unfoldable pub mode_behind_in : Form
-mode_behind_in = alt (act (λ v. num 2) (word kinds.Out)) (act (λ v. num 0) empty)
+mode_behind_in = alt (act (λ v. alone labels.InOut) (word kinds.Out)) (act (λ v. alone labels.In) empty)
 
 unfoldable pub mode : Form
-mode = alt (act second (word kinds.In ▸ mode_behind_in)) (alt (act (λ v. num 1) (word kinds.Out)) (act (λ v. num 0) empty))
+mode = alt (act second (word kinds.In ▸ mode_behind_in)) (alt (act (λ v. alone labels.Out) (word kinds.Out)) (act (λ v. alone labels.In) empty))
 
 unfoldable pub formal : Form
 formal = act (λ v. pair (second (first v)) (pair (part_3 v) (behind_3 v))) (identifiers ▸ word kinds.Colon ▸ mode ▸ dotted)
@@ -275,10 +276,10 @@ unfoldable pub recorded : Form
 recorded = alt null_record full_record
 
 unfoldable pub limited_record : Form
-limited_record = act (λ v. tag 40 (pair yes (second v))) (word kinds.Limited ▸ recorded)
+limited_record = act (λ v. tag labels.Record (pair yes (second v))) (word kinds.Limited ▸ recorded)
 
 unfoldable pub extension : Form
-extension = act (λ v. tag 41 (pair (first v) (behind_2 v))) (behind kinds.New ▸ word kinds.With ▸ recorded)
+extension = act (λ v. tag labels.Extension (pair (first v) (behind_2 v))) (behind kinds.New ▸ word kinds.With ▸ recorded)
 
 unfoldable pub aspect : Form
 aspect = alt (act (λ v. pair (part_2 v) (behind_3 v)) (word kinds.With ▸ known storage_pool ▸ word kinds.Arrow ▸ dotted)) empty
@@ -287,15 +288,15 @@ unfoldable pub designated_attribute : Form
 designated_attribute = alt (act second (word kinds.Apostrophe ▸ known [])) empty
 
 unfoldable pub access : Form
-access = act (λ v. tag 42 (second v)) (word kinds.Access ▸ flag kinds.All ▸ dotted ▸ designated_attribute ▸ aspect)
+access = act (λ v. tag labels.AccessType (second v)) (word kinds.Access ▸ flag kinds.All ▸ dotted ▸ designated_attribute ▸ aspect)
 
 unfoldable pub definition : Form
-definition = alt limited_record (alt (extension) (alt (access) (act (λ v. tag 40 (pair no v)) recorded)))
+definition = alt limited_record (alt (extension) (alt (access) (act (λ v. tag labels.Record (pair no v)) recorded)))
 
 -- ---- items that hold no other item
 
 unfoldable pub context_kind : Form
-context_kind = alt (act (λ v. pair v (num 0)) (spot kinds.With)) (act (λ v. pair v (num 1)) (spot kinds.Use))
+context_kind = alt (act (λ v. pair v (alone labels.With)) (spot kinds.With)) (act (λ v. pair v (alone labels.Use)) (spot kinds.Use))
 
 unfoldable pub context : Form
 context = act (λ v. pair (first v) (part_2 v)) (context_kind ▸ dotted_list kinds.Comma ▸ word kinds.Semicolon)
@@ -310,10 +311,10 @@ unfoldable pub type_kind : Form
 type_kind = alt (act second (word kinds.Is ▸ defined)) (act (λ v. no) empty)
 
 unfoldable pub type_item : Form
-type_item = act (λ v. pair (first v) (tag 50 (pair (part_2 v) (part_3 v)))) (spot kinds.Type ▸ identifier ▸ type_kind ▸ word kinds.Semicolon)
+type_item = act (λ v. pair (first v) (tag labels.TypeItem (pair (part_2 v) (part_3 v)))) (spot kinds.Type ▸ identifier ▸ type_kind ▸ word kinds.Semicolon)
 
 unfoldable pub clause : Form
-clause = act (λ v. pair (first v) (tag 51 (pair (part_2 v) (pair (part_4 v) (part_5 v))))) (spot kinds.For ▸ identifier ▸ word kinds.Apostrophe ▸ known storage_pool ▸ behind kinds.Use ▸ word kinds.Semicolon)
+clause = act (λ v. pair (first v) (tag labels.PoolClause (pair (part_2 v) (pair (part_4 v) (part_5 v))))) (spot kinds.For ▸ identifier ▸ word kinds.Apostrophe ▸ known storage_pool ▸ behind kinds.Use ▸ word kinds.Semicolon)
 
 unfoldable pub objects : Form
 objects = flag kinds.Aliased ▸ flag kinds.Constant ▸ dotted ▸ optional_associations ▸ optional_value
@@ -322,7 +323,7 @@ unfoldable pub named_kind : Form
 named_kind = alt (act (λ v. none) (word kinds.Exception)) objects
 
 unfoldable pub named_item : Form
-named_item = act (λ v. pair (first (first v)) (tag 52 (pair (second (first v)) (part_3 v)))) (identifiers ▸ word kinds.Colon ▸ named_kind ▸ word kinds.Semicolon)
+named_item = act (λ v. pair (first (first v)) (tag labels.NamedItem (pair (second (first v)) (part_3 v)))) (identifiers ▸ word kinds.Colon ▸ named_kind ▸ word kinds.Semicolon)
 
 unfoldable pub instance : Form
 instance = act (λ v. pair (first v) (part_2 v)) (behind kinds.New ▸ nest Associations ▸ word kinds.Semicolon)
@@ -330,7 +331,7 @@ instance = act (λ v. pair (first v) (part_2 v)) (behind kinds.New ▸ nest Asso
 -- ---- statements
 
 unfoldable pub null_statement : Form
-null_statement = act (λ v. pair (first v) (tag 60 none)) (spot kinds.Null ▸ word kinds.Semicolon)
+null_statement = act (λ v. pair (first v) (tag labels.NullStatement none)) (spot kinds.Null ▸ word kinds.Semicolon)
 
 unfoldable pub named_statement : Form
 named_statement = act (λ v. assignment_of (first v) (part_2 v)) (name ▸ optional_value ▸ word kinds.Semicolon)
@@ -339,29 +340,29 @@ unfoldable pub exit_condition : Form
 exit_condition = alt (act (λ v. pair none (second v)) (word kinds.When ▸ expression)) empty
 
 unfoldable pub exit_statement : Form
-exit_statement = act (λ v. pair (first v) (tag 61 (part_2 v))) (spot kinds.Exit ▸ exit_condition ▸ word kinds.Semicolon)
+exit_statement = act (λ v. pair (first v) (tag labels.Exit (part_2 v))) (spot kinds.Exit ▸ exit_condition ▸ word kinds.Semicolon)
 
 unfoldable pub returned : Form
 returned = alt (act (λ v. pair none v) expression) empty
 
 unfoldable pub return_statement : Form
-return_statement = act (λ v. pair (first v) (tag 62 (part_2 v))) (spot kinds.Return ▸ returned ▸ word kinds.Semicolon)
+return_statement = act (λ v. pair (first v) (tag labels.Return (part_2 v))) (spot kinds.Return ▸ returned ▸ word kinds.Semicolon)
 
 unfoldable pub raised : Form
 raised = alt (act (λ v. pair none v) dotted) empty
 
 unfoldable pub raise_statement : Form
-raise_statement = act (λ v. pair (first v) (tag 63 (part_2 v))) (spot kinds.Raise ▸ raised ▸ word kinds.Semicolon)
+raise_statement = act (λ v. pair (first v) (tag labels.Raise (part_2 v))) (spot kinds.Raise ▸ raised ▸ word kinds.Semicolon)
 
 unfoldable pub while_scheme : Form
-while_scheme = act (λ v. pair (first v) (tag 70 (second v))) (spot kinds.While ▸ expression)
+while_scheme = act (λ v. pair (first v) (tag labels.While (second v))) (spot kinds.While ▸ expression)
 
 unfoldable pub for_scheme : Form
-for_scheme = act (λ v. pair (first v) (tag 71 (pair (part_2 v) (pair (part_4 v) (pair (part_5 v) (second (behind_5 v))))))) (spot kinds.For ▸ identifier ▸ word kinds.In ▸ flag kinds.Reverse ▸ simple ▸ word kinds.DoubleDot ▸ simple)
+for_scheme = act (λ v. pair (first v) (tag labels.For (pair (part_2 v) (pair (part_4 v) (pair (part_5 v) (second (behind_5 v))))))) (spot kinds.For ▸ identifier ▸ word kinds.In ▸ flag kinds.Reverse ▸ simple ▸ word kinds.DoubleDot ▸ simple)
 
 -- how a loop goes on, with the place of its first word, if it has one
 unfoldable pub scheme : Form
-scheme = alt while_scheme (alt for_scheme (act (λ v. pair none (tag 72 none)) empty))
+scheme = alt while_scheme (alt for_scheme (act (λ v. pair none (tag labels.Endless none)) empty))
 
 unfoldable pub choices : Form
 choices = alt (act (λ v. none) (word kinds.Others)) (dotted_list kinds.Bar)
@@ -448,10 +449,10 @@ unfoldable pub completed_function : Form
 completed_function = late start_of_function_body (heading function)
 
 unfoldable pub overriding_item : Form
-overriding_item = act (λ v. pair (first v) (tag 53 (pair yes (second v)))) (spot kinds.Overriding ▸ completed_specification)
+overriding_item = act (λ v. pair (first v) (tag labels.Subprogram (pair yes (second v)))) (spot kinds.Overriding ▸ completed_specification)
 
 unfoldable pub function_item : Form
-function_item = act (λ v. pair (first (first v)) (tag 53 (pair no v))) completed_function
+function_item = act (λ v. pair (first (first v)) (tag labels.Subprogram (pair no v))) completed_function
 
 -- an instance, or a body without parameters, behind the `is` of a procedure
 unfoldable pub behind_is : Form
@@ -492,9 +493,9 @@ body Arguments = act (λ v. arguments_of (first v) (part_2 v)) (spot kinds.LeftP
 body Handle = act (λ v. part_2 v) (word kinds.LeftParenthesis ▸ name ▸ word kinds.RightParenthesis)
 body Formals = in_formals
 body Associations = act part_2 (word kinds.LeftParenthesis ▸ association_list ▸ word kinds.RightParenthesis)
-body Conditional = act (λ v. pair (first v) (tag 64 (pair (part_2 v) (part_3 v)))) (spot kinds.If ▸ branches ▸ otherwise ▸ end_if)
-body Repetition = act (λ v. pair (or_else (first (first v)) (part_2 v)) (tag 65 (pair (second (first v)) (part_3 v)))) (scheme ▸ spot kinds.Loop ▸ statements ▸ end_loop)
-body Block = act (λ v. pair (or_else (first (first v)) (part_2 v)) (tag 66 (pair (second (first v)) (part_3 v)))) (declared ▸ spot kinds.Begin ▸ handled ▸ word kinds.End ▸ word kinds.Semicolon)
+body Conditional = act (λ v. pair (first v) (tag labels.If (pair (part_2 v) (part_3 v)))) (spot kinds.If ▸ branches ▸ otherwise ▸ end_if)
+body Repetition = act (λ v. pair (or_else (first (first v)) (part_2 v)) (tag labels.Loop (pair (second (first v)) (part_3 v)))) (scheme ▸ spot kinds.Loop ▸ statements ▸ end_loop)
+body Block = act (λ v. pair (or_else (first (first v)) (part_2 v)) (tag labels.Block (pair (second (first v)) (part_3 v)))) (declared ▸ spot kinds.Begin ▸ handled ▸ word kinds.End ▸ word kinds.Semicolon)
 body Body = act second (word kinds.Is ▸ completion)
 body BareBody = completion
 

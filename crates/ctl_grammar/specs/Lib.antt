@@ -3,6 +3,7 @@ pub mod Derivation
 pub mod Form
 pub mod Grammar
 pub mod Kind
+pub mod Label
 pub mod Nodes
 pub mod Reading
 pub mod Spelling

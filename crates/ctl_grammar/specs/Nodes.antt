@@ -1,6 +1,8 @@
 -- What texts of the grammar stand for, as nodes.
-use Rattle.std.specs.Prelude.{ℕ, Bool, true, false, ◌==◌, ◌&&◌, List, [], ◌∷◌}
+use Rattle.std.specs.Prelude.{ℕ, Bool, true, false, List, [], ◌∷◌}
 use Rattle.ctl_grammar.specs.Form.{Node, none, leaf, num, written, at, pair, tag}
+use Rattle.ctl_grammar.specs.Label.{Label}
+use Rattle.ctl_grammar.specs.Label as labels
 
 -- ---- the parts of a node
 
@@ -106,38 +108,42 @@ or_else (tag n v) p = tag n v
 abbrev pub identifier_of : Node → Node
 identifier_of t = pair (spelling t) (place t)
 
+-- a word that says no more than its label
+abbrev pub alone : Label → Node
+alone label = tag label none
+
 -- a yes or a no
 abbrev pub yes : Node
-yes = num 1
+yes = alone labels.Yes
 
 abbrev pub no : Node
-no = num 0
+no = alone labels.No
 
 -- ---- expressions: a place and what stands there
 
 abbrev pub number_of : Node → Node
-number_of t = pair (place t) (tag 1 (value t))
+number_of t = pair (place t) (tag labels.Number (value t))
 
 abbrev pub string_of : Node → Node
-string_of t = pair (place t) (tag 2 (spelling t))
+string_of t = pair (place t) (tag labels.String (spelling t))
 
 abbrev pub null_of : Node → Node
-null_of p = pair p (tag 3 none)
+null_of p = pair p (tag labels.Null none)
 
 -- a name as an expression stands where its identifier stands
 abbrev pub name_of : Node → Node
-name_of n = pair (second (first n)) (tag 4 n)
+name_of n = pair (second (first n)) (tag labels.Name n)
 
 abbrev pub parentheses_of : Node → Node
-parentheses_of v = pair (first v) (tag 5 (second v))
+parentheses_of v = pair (first v) (tag labels.Parentheses (second v))
 
-abbrev pub unary_of : ℕ → Node → Node
-unary_of word v = pair (first v) (tag 6 (pair (num word) (second v)))
+abbrev pub unary_of : Label → Node → Node
+unary_of operator v = pair (first v) (tag labels.Unary (pair (alone operator) (second v)))
 
 -- further factors join the first one
 abbrev pub product_of : Node → Node → Node
 product_of a none = a
-product_of a (pair b more) = pair (first a) (tag 7 (pair a (pair b more)))
+product_of a (pair b more) = pair (first a) (tag labels.Product (pair a (pair b more)))
 product_of a (leaf t) = a
 product_of a (num n) = a
 product_of a (written s) = a
@@ -147,7 +153,7 @@ product_of a (tag n v) = a
 -- further terms join the first one
 abbrev pub unsigned_sum_of : Node → Node → Node
 unsigned_sum_of a none = a
-unsigned_sum_of a (pair b more) = pair (first a) (tag 8 (pair none (pair a (pair b more))))
+unsigned_sum_of a (pair b more) = pair (first a) (tag labels.Sum (pair none (pair a (pair b more))))
 unsigned_sum_of a (leaf t) = a
 unsigned_sum_of a (num n) = a
 unsigned_sum_of a (written s) = a
@@ -157,7 +163,7 @@ unsigned_sum_of a (tag n v) = a
 -- a sum with its sign and the sign's place, if there is one
 abbrev pub sum_of : Node → Node → Node → Node
 sum_of none a more = unsigned_sum_of a more
-sum_of (pair sign p) a more = pair p (tag 8 (pair sign (pair a more)))
+sum_of (pair sign p) a more = pair p (tag labels.Sum (pair sign (pair a more)))
 sum_of (leaf t) a more = a
 sum_of (num n) a more = a
 sum_of (written s) a more = a
@@ -167,7 +173,7 @@ sum_of (tag n v) a more = a
 -- a comparison, if there is a right side
 abbrev pub relation_of : Node → Node → Node
 relation_of a none = a
-relation_of a (pair operator b) = pair (first a) (tag 9 (pair operator (pair a b)))
+relation_of a (pair operator b) = pair (first a) (tag labels.Relation (pair operator (pair a b)))
 relation_of a (leaf t) = a
 relation_of a (num n) = a
 relation_of a (written s) = a
@@ -177,7 +183,7 @@ relation_of a (tag n v) = a
 -- relations that an operator joins, if there is one
 abbrev pub logical_of : Node → Node → Node
 logical_of a none = a
-logical_of a (pair operator more) = pair (first a) (tag 10 (pair operator (pair a more)))
+logical_of a (pair operator more) = pair (first a) (tag labels.Logical (pair operator (pair a more)))
 logical_of a (leaf t) = a
 logical_of a (num n) = a
 logical_of a (written s) = a
@@ -185,24 +191,24 @@ logical_of a (at p) = a
 logical_of a (tag n v) = a
 
 abbrev pub allocator_of : Node → Node → Node → Node → Node
-allocator_of p handle mark given = pair p (tag 11 (pair handle (pair mark given)))
+allocator_of p handle mark given = pair p (tag labels.Allocator (pair handle (pair mark given)))
 
 -- ---- what stands behind the first identifier of a name
 
 abbrev pub selector_of : Node → Node
-selector_of id = tag 20 id
+selector_of id = tag labels.Selector id
 
 abbrev pub all_of_access : Node → Node
-all_of_access p = tag 21 p
+all_of_access p = tag labels.All p
 
 abbrev pub arguments_of : Node → Node → Node
-arguments_of p more = tag 22 (pair p more)
+arguments_of p more = tag labels.Arguments (pair p more)
 
 abbrev pub access_of : Node → Node
-access_of p = tag 23 p
+access_of p = tag labels.Access p
 
 abbrev pub attribute_of : Node → Node
-attribute_of id = tag 24 id
+attribute_of id = tag labels.Attribute id
 
 -- whether an expression is an identifier alone
 abbrev pub is_none : Node → Bool
@@ -215,13 +221,8 @@ is_none (pair a b) = false
 is_none (tag n v) = false
 
 abbrev pub is_bare_kind : Node → Bool
-is_bare_kind (tag n v) = (n == 4) && is_none (second v)
-is_bare_kind none = false
-is_bare_kind (leaf t) = false
-is_bare_kind (num n) = false
-is_bare_kind (written s) = false
-is_bare_kind (at p) = false
-is_bare_kind (pair a b) = false
+is_bare_kind (tag labels.Name v) = is_none (second v)
+is_bare_kind _ = false
 
 abbrev pub is_bare : Node → Bool
 is_bare e = is_bare_kind (second e)
@@ -252,8 +253,8 @@ association_of e (tag n v) = pair none e
 -- ---- statements: a place and what stands there
 
 abbrev pub assignment_of : Node → Node → Node
-assignment_of n none = pair (second (first n)) (tag 31 n)
-assignment_of n (pair becomes e) = pair (second (first n)) (tag 30 (pair n e))
+assignment_of n none = pair (second (first n)) (tag labels.Call n)
+assignment_of n (pair becomes e) = pair (second (first n)) (tag labels.Assignment (pair n e))
 assignment_of n (leaf t) = none
 assignment_of n (num m) = none
 assignment_of n (written s) = none
@@ -269,13 +270,13 @@ part_2_letters v = first (part_2 v)
 -- What a procedure that does not say `overriding` is, from its place, its name and what stands behind that: the actuals of an
 -- instance, or its parameters with its body, if it has one.
 abbrev pub procedure_of : Node → Node → Node → Node
-procedure_of p id (pair none v) = tag 53 (pair no (pair (pair p (pair id (pair (first v) none))) (second v)))
-procedure_of p id (pair (leaf t) v) = tag 54 (pair id v)
-procedure_of p id (pair (num n) v) = tag 54 (pair id v)
-procedure_of p id (pair (written s) v) = tag 54 (pair id v)
-procedure_of p id (pair (at q) v) = tag 54 (pair id v)
-procedure_of p id (pair (pair a b) v) = tag 54 (pair id v)
-procedure_of p id (pair (tag n w) v) = tag 54 (pair id v)
+procedure_of p id (pair none v) = tag labels.Subprogram (pair no (pair (pair p (pair id (pair (first v) none))) (second v)))
+procedure_of p id (pair (leaf t) v) = tag labels.Instance (pair id v)
+procedure_of p id (pair (num n) v) = tag labels.Instance (pair id v)
+procedure_of p id (pair (written s) v) = tag labels.Instance (pair id v)
+procedure_of p id (pair (at q) v) = tag labels.Instance (pair id v)
+procedure_of p id (pair (pair a b) v) = tag labels.Instance (pair id v)
+procedure_of p id (pair (tag n w) v) = tag labels.Instance (pair id v)
 procedure_of p id none = none
 procedure_of p id (leaf t) = none
 procedure_of p id (num n) = none

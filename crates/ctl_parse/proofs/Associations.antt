@@ -17,6 +17,7 @@ use Rattle.ctl_tree.specs.declared.token.Token.{Token}
 use Rattle.ctl_syntax.specs.declared.name.Identifier.{Identifier}
 use Rattle.ctl_grammar.specs.Form.{Node, none, at, pair, tag, Form, word, act, when, ◌▸◌, starts}
 use Rattle.ctl_grammar.specs.Grammar.{apart, association, expression}
+use Rattle.ctl_grammar.specs.Label as labels
 use Rattle.ctl_grammar.specs.Nodes.{first, second, part_2, row_of, is_bare, is_bare_kind, is_none, tagged_part, association_of, bare_of}
 use Rattle.ctl_grammar.specs.Reading.{Read, ◌>>=◌, begins, read}
 use Rattle.ctl_parse.specs.declared.cursor.Parser.{Parser}
@@ -100,7 +101,7 @@ name_is_bare p n = ap is_bare (view_name p n) ∙ row_is_none n.suffixes
 pub name_bare_of : (p : Span) (n : Name Identifier (Expression Identifier)) → identifier_node n.first ≡ bare_of (view (e.Name p n))
 name_bare_of p n = ap bare_of (sym (view_name p n))
 
-unnamed_sum : (own : Bool) (s t v more : Node) → is_bare_kind (cond own (tag 8 (pair s (pair t more))) (tag 8 (pair none (pair v more)))) ≡ false
+unnamed_sum : (own : Bool) (s t v more : Node) → is_bare_kind (cond own (tag labels.Sum (pair s (pair t more))) (tag labels.Sum (pair none (pair v more)))) ≡ false
 unnamed_sum true s t v more = refl
 unnamed_sum false s t v more = refl
 

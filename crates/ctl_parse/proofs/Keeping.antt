@@ -1,10 +1,10 @@
 -- What is kept of parts of nodes, and of nodes made from parts.
-use Rattle.std.proofs.Common.{◌≡◌, ℕ, ◌==◌, Bool, true, false, refl, sym, ap, ◌∙◌, ◌⊎◌, inl, inr}
-use Rattle.std.specs.Prelude.{◌&&◌, List}
-use Rattle.std.proofs.lemmas.Bool.{eqb-true}
+use Rattle.std.proofs.Common.{◌≡◌, ℕ, true, false, refl, sym, ap, ◌∙◌, ◌⊎◌, inl, inr}
+use Rattle.std.specs.Prelude.{List}
 use Rattle.ctl_grammar.specs.Form.{Node, none, leaf, num, written, at, pair, tag}
+use Rattle.ctl_grammar.specs.Label as labels
 use Rattle.ctl_grammar.specs.Nodes.{first, second, part_2, behind_2, part_3, behind_3, part_4, behind_4, part_5, behind_5, or_else, assignment_of, procedure_of, is_none, is_bare, is_bare_kind, bare_of, tagged_part, association_of, part_2_letters, no}
-use Rattle.ctl_parse.specs.Kept.{kept, kept_parts, kept_here}
+use Rattle.ctl_parse.specs.Kept.{kept, kept_here}
 use Rattle.ctl_parse.proofs.Steps.{kept_first, kept_second}
 
 -- ---- parts in a row
@@ -54,16 +54,16 @@ kept_or_else (pair a b) w = refl
 kept_or_else (tag n v) w = refl
 
 pub kept_assignment : (v w : Node) → kept (assignment_of v w) ≡ assignment_of (kept v) (kept w)
-kept_assignment v none = ap (λ (n : Node). pair n (tag 31 (kept v))) (kept_second_first v)
-kept_assignment v (pair a b) = ap (λ (n : Node). pair n (tag 30 (pair (kept v) (kept b)))) (kept_second_first v)
+kept_assignment v none = ap (λ (n : Node). pair n (tag labels.Call (kept v))) (kept_second_first v)
+kept_assignment v (pair a b) = ap (λ (n : Node). pair n (tag labels.Assignment (pair (kept v) (kept b)))) (kept_second_first v)
 kept_assignment v (leaf t) = refl
 kept_assignment v (num n) = refl
 kept_assignment v (written s) = refl
 kept_assignment v (at p) = refl
 kept_assignment v (tag n x) = refl
 
-declared_kept : (p i a b c d : Node) → a ≡ b → c ≡ d → kept_here (tag 53 (pair no (pair (pair p (pair i (pair a none))) c))) ≡ kept_here (tag 53 (pair no (pair (pair p (pair i (pair b none))) d)))
-declared_kept p i a b c d h k = ap (λ (n : Node). kept_here (tag 53 (pair no (pair (pair p (pair i (pair n none))) c)))) h ∙ ap (λ (n : Node). kept_here (tag 53 (pair no (pair (pair p (pair i (pair b none))) n)))) k
+declared_kept : (p i a b c d : Node) → a ≡ b → c ≡ d → kept_here (tag labels.Subprogram (pair no (pair (pair p (pair i (pair a none))) c))) ≡ kept_here (tag labels.Subprogram (pair no (pair (pair p (pair i (pair b none))) d)))
+declared_kept p i a b c d h k = ap (λ (n : Node). kept_here (tag labels.Subprogram (pair no (pair (pair p (pair i (pair n none))) c)))) h ∙ ap (λ (n : Node). kept_here (tag labels.Subprogram (pair no (pair (pair p (pair i (pair b none))) n)))) k
 
 pub kept_procedure : (p i w : Node) → kept (procedure_of p i w) ≡ kept_here (procedure_of (kept p) (kept i) (kept w))
 kept_procedure p i (pair none v) = declared_kept (kept p) (kept i) (kept (first v)) (first (kept v)) (kept (second v)) (second (kept v)) (kept_first v) (kept_second v)
@@ -103,42 +103,21 @@ kept_is_none (at p) = refl
 kept_is_none (pair a b) = refl
 kept_is_none (tag n v) = refl
 
-bare_tag : (n : ℕ) (v : Node) (b : Bool) → (n == 4) ≡ b → (b && is_none (second (kept_parts n (kept v)))) ≡ (b && is_none (second v))
-bare_tag n v false h = refl
-bare_tag n v true h =
-    let four : n ≡ 4 = eqb-true n 4 h in
-    rw four (ap is_none (sym (kept_second v)) ∙ kept_is_none (second v))
-
 kept_bare_kind : (v : Node) → is_bare_kind (kept v) ≡ is_bare_kind v
-kept_bare_kind (tag n v) = bare_tag n v (n == 4) refl
-kept_bare_kind none = refl
-kept_bare_kind (leaf t) = refl
-kept_bare_kind (num n) = refl
-kept_bare_kind (written s) = refl
-kept_bare_kind (at p) = refl
-kept_bare_kind (pair a b) = refl
+kept_bare_kind (tag labels.Name v) = ap is_none (sym (kept_second v)) ∙ kept_is_none (second v)
+kept_bare_kind _ = refl
 
 -- whether an expression is an identifier alone is kept
 pub kept_bare : (v : Node) → is_bare (kept v) ≡ is_bare v
 kept_bare v = ap is_bare_kind (sym (kept_second v)) ∙ kept_bare_kind (second v)
 
-and_first : (a b : Bool) → (a && b) ≡ true → a ≡ true
-and_first true b h = refl
-and_first false b h = absurd cc
-
-named_tag : (n : ℕ) (v : Node) → (n == 4) ≡ true → kept (first v) ≡ first (kept_parts n (kept v))
-named_tag n v h =
-    let four : n ≡ 4 = eqb-true n 4 h in
-    rw four (kept_first v)
+-- of what is no name there is nothing to show
+not_bare : {P : Type 0} → false ≡ true → P
+not_bare h = absurd cc
 
 kept_named : (v : Node) → is_bare_kind v ≡ true → kept (first (tagged_part v)) ≡ first (tagged_part (kept v))
-kept_named (tag n v) h = named_tag n v (and_first (n == 4) (is_none (second v)) h)
-kept_named none h = refl
-kept_named (leaf t) h = refl
-kept_named (num n) h = refl
-kept_named (written s) h = refl
-kept_named (at p) h = refl
-kept_named (pair a b) h = refl
+kept_named (tag labels.Name v) h = kept_first v
+kept_named _ h = not_bare h
 
 -- and so is the identifier
 pub kept_bare_of : (v : Node) → is_bare v ≡ true → kept (bare_of v) ≡ bare_of (kept v)
@@ -177,11 +156,11 @@ kept_procedure_item v = paired (kept_first_first v) (kept_procedure (first (firs
 kept_earlier : (v : Node) → kept (or_else (first (first v)) (part_2 v)) ≡ or_else (first (first (kept v))) (part_2 (kept v))
 kept_earlier v = kept_or_else (first (first v)) (part_2 v) ∙ ap (λ (n : Node). or_else n (kept (part_2 v))) (kept_first_first v) ∙ ap (λ (n : Node). or_else (first (first (kept v))) n) (kept_part_2 v)
 
-pub kept_looped : (v : Node) → kept (pair (or_else (first (first v)) (part_2 v)) (tag 65 (pair (second (first v)) (part_3 v)))) ≡ pair (or_else (first (first (kept v))) (part_2 (kept v))) (tag 65 (pair (second (first (kept v))) (part_3 (kept v))))
-kept_looped v = paired (kept_earlier v) (ap (λ (n : Node). tag 65 n) (paired (kept_second_first v) (kept_part_3 v)))
+pub kept_looped : (v : Node) → kept (pair (or_else (first (first v)) (part_2 v)) (tag labels.Loop (pair (second (first v)) (part_3 v)))) ≡ pair (or_else (first (first (kept v))) (part_2 (kept v))) (tag labels.Loop (pair (second (first (kept v))) (part_3 (kept v))))
+kept_looped v = paired (kept_earlier v) (ap (λ (n : Node). tag labels.Loop n) (paired (kept_second_first v) (kept_part_3 v)))
 
-pub kept_blocked : (v : Node) → kept (pair (or_else (first (first v)) (part_2 v)) (tag 66 (pair (second (first v)) (part_3 v)))) ≡ pair (or_else (first (first (kept v))) (part_2 (kept v))) (tag 66 (pair (second (first (kept v))) (part_3 (kept v))))
-kept_blocked v = paired (kept_earlier v) (ap (λ (n : Node). tag 66 n) (paired (kept_second_first v) (kept_part_3 v)))
+pub kept_blocked : (v : Node) → kept (pair (or_else (first (first v)) (part_2 v)) (tag labels.Block (pair (second (first v)) (part_3 v)))) ≡ pair (or_else (first (first (kept v))) (part_2 (kept v))) (tag labels.Block (pair (second (first (kept v))) (part_3 (kept v))))
+kept_blocked v = paired (kept_earlier v) (ap (λ (n : Node). tag labels.Block n) (paired (kept_second_first v) (kept_part_3 v)))
 
 -- ---- whole texts
 

@@ -17,6 +17,7 @@ use Rattle.ctl_syntax.specs.declared.item.Statement.{Statement, fold_out-Stateme
 use Rattle.ctl_syntax.specs.declared.item.Statement.TheVariants as s
 use Rattle.ctl_syntax.specs.declared.item.Statement.TheViews.{outs-Null, outs-Exit, outs-Return, outs-Raise, outs-RaiseAgain, outs-Assignment, outs-Call, outs-If, outs-Loop, outs-While, outs-For, outs-Block}
 use Rattle.ctl_grammar.specs.Form.{Node, none, pair, tag, at}
+use Rattle.ctl_grammar.specs.Label as labels
 use Rattle.ctl_grammar.specs.Nodes.{first, second, row_of}
 use Rattle.ctl_parse.specs.Kept.{aspect_part, completed_part}
 use Rattle.ctl_parse.specs.Parts.{view_statement, view_item, view_body, item_kind_node, aspect_node, branch_node, handler_node, choices_node, direction_node, completed_node, statement_step, body_step, item_step}
@@ -26,25 +27,25 @@ use Rattle.ctl_parse.specs.declared.cursor.Parser.{Parser}
 use Rattle.ctl_parse.proofs.Parts.{built, unbuilt}
 use Rattle.ctl_parse.proofs.Views.{map_same, mapped}
 
-pub view_pass : (p : Span) → view_statement (s.Null p) ≡ pair (at p) (tag 60 none)
+pub view_pass : (p : Span) → view_statement (s.Null p) ≡ pair (at p) (tag labels.NullStatement none)
 view_pass p = rw (fold_out-Statement, outs-Null p) refl
 
-pub view_exit : (p : Span) (x : Option (Expression Identifier)) → view_statement (s.Exit p x) ≡ pair (at p) (tag 61 (optional view x))
+pub view_exit : (p : Span) (x : Option (Expression Identifier)) → view_statement (s.Exit p x) ≡ pair (at p) (tag labels.Exit (optional view x))
 view_exit p x = rw (fold_out-Statement, outs-Exit p x) refl
 
-pub view_return : (p : Span) (x : Option (Expression Identifier)) → view_statement (s.Return p x) ≡ pair (at p) (tag 62 (optional view x))
+pub view_return : (p : Span) (x : Option (Expression Identifier)) → view_statement (s.Return p x) ≡ pair (at p) (tag labels.Return (optional view x))
 view_return p x = rw (fold_out-Statement, outs-Return p x) refl
 
-pub view_raise : (p : Span) (m : Mark Identifier) → view_statement (s.Raise p m) ≡ pair (at p) (tag 63 (pair none (mark_node m)))
+pub view_raise : (p : Span) (m : Mark Identifier) → view_statement (s.Raise p m) ≡ pair (at p) (tag labels.Raise (pair none (mark_node m)))
 view_raise p m = rw (fold_out-Statement, outs-Raise p m) refl
 
-pub view_raise_again : (p : Span) → view_statement (s.RaiseAgain p) ≡ pair (at p) (tag 63 none)
+pub view_raise_again : (p : Span) → view_statement (s.RaiseAgain p) ≡ pair (at p) (tag labels.Raise none)
 view_raise_again p = rw (fold_out-Statement, outs-RaiseAgain p) refl
 
-pub view_assignment : (p : Span) (n : Name Identifier (Expression Identifier)) (x : Expression Identifier) → view_statement (s.Assignment p n x) ≡ pair (at p) (tag 30 (pair (name_node view n) (view x)))
+pub view_assignment : (p : Span) (n : Name Identifier (Expression Identifier)) (x : Expression Identifier) → view_statement (s.Assignment p n x) ≡ pair (at p) (tag labels.Assignment (pair (name_node view n) (view x)))
 view_assignment p n x = rw (fold_out-Statement, outs-Assignment p n x) refl
 
-pub view_call : (p : Span) (n : Name Identifier (Expression Identifier)) → view_statement (s.Call p n) ≡ pair (at p) (tag 31 (name_node view n))
+pub view_call : (p : Span) (n : Name Identifier (Expression Identifier)) → view_statement (s.Call p n) ≡ pair (at p) (tag labels.Call (name_node view n))
 view_call p n = rw (fold_out-Statement, outs-Call p n) refl
 
 pub view_of_item : (p : Span) (k : ItemKind Identifier Identifier (Body Identifier Identifier)) → view_item (roll-Item Identifier Identifier (record { span = p; kind = k })) ≡ pair (at p) (item_kind_node view_body k)
@@ -72,25 +73,25 @@ aspect_kept word (Some m) = refl
 
 conditional_is : (p : Span) (b : Branch (Statement Identifier Identifier) Identifier) (F : Branch (Statement Identifier Identifier) Identifier → Branch Node Identifier) (more : List (Branch (Statement Identifier Identifier) Identifier)) (others : Node)
     → ((x : Branch (Statement Identifier Identifier) Identifier) → branch_node (λ v. v) (F x) ≡ branch_node view_statement x)
-    → pair (at p) (tag 64 (pair (pair (branch_node (λ v. v) (F b)) (row_of (map (branch_node (λ v. v)) (map F more)))) others)) ≡ pair (at p) (tag 64 (pair (pair (branch_node view_statement b) (row_of (map (branch_node view_statement) more))) others))
+    → pair (at p) (tag labels.If (pair (pair (branch_node (λ v. v) (F b)) (row_of (map (branch_node (λ v. v)) (map F more)))) others)) ≡ pair (at p) (tag labels.If (pair (pair (branch_node view_statement b) (row_of (map (branch_node view_statement) more))) others))
 conditional_is p b F more others h =
-    ap (λ (n : Node). pair (at p) (tag 64 (pair (pair n (row_of (map (branch_node (λ v. v)) (map F more)))) others))) (h b)
-    ∙ ap (λ (r : List Node). pair (at p) (tag 64 (pair (pair (branch_node view_statement b) (row_of r)) others))) (mapped F (branch_node (λ v. v)) (branch_node view_statement) h more)
+    ap (λ (n : Node). pair (at p) (tag labels.If (pair (pair n (row_of (map (branch_node (λ v. v)) (map F more)))) others))) (h b)
+    ∙ ap (λ (r : List Node). pair (at p) (tag labels.If (pair (pair (branch_node view_statement b) (row_of r)) others))) (mapped F (branch_node (λ v. v)) (branch_node view_statement) h more)
 
 pub view_if : (p : Span) (b : Branch (Statement Identifier Identifier) Identifier) (more : List (Branch (Statement Identifier Identifier) Identifier)) (others : List (Statement Identifier Identifier))
-    → view_statement (s.If p b more others) ≡ pair (at p) (tag 64 (pair (pair (branch_node view_statement b) (row_of (map (branch_node view_statement) more))) (row_of (map view_statement others))))
+    → view_statement (s.If p b more others) ≡ pair (at p) (tag labels.If (pair (pair (branch_node view_statement b) (row_of (map (branch_node view_statement) more))) (row_of (map view_statement others))))
 view_if p b more others = rw (fold_out-Statement, outs-If p b more others) (conditional_is p b _ more _ (λ x. ap (λ (r : List Node). pair (view x.condition) (row_of r)) (map_same (map view_statement x.statements))))
 
-pub view_loop : (p : Span) (xs : List (Statement Identifier Identifier)) → view_statement (s.Loop p xs) ≡ pair (at p) (tag 65 (pair (tag 72 none) (row_of (map view_statement xs))))
+pub view_loop : (p : Span) (xs : List (Statement Identifier Identifier)) → view_statement (s.Loop p xs) ≡ pair (at p) (tag labels.Loop (pair (tag labels.Endless none) (row_of (map view_statement xs))))
 view_loop p xs = rw (fold_out-Statement, outs-Loop p xs) refl
 
-pub view_while : (p : Span) (x : Expression Identifier) (xs : List (Statement Identifier Identifier)) → view_statement (s.While p x xs) ≡ pair (at p) (tag 65 (pair (tag 70 (view x)) (row_of (map view_statement xs))))
+pub view_while : (p : Span) (x : Expression Identifier) (xs : List (Statement Identifier Identifier)) → view_statement (s.While p x xs) ≡ pair (at p) (tag labels.Loop (pair (tag labels.While (view x)) (row_of (map view_statement xs))))
 view_while p x xs = rw (fold_out-Statement, outs-While p x xs) refl
 
-pub view_for : (p : Span) (i : Identifier) (d : Direction) (low high : Expression Identifier) (xs : List (Statement Identifier Identifier)) → view_statement (s.For p i d low high xs) ≡ pair (at p) (tag 65 (pair (tag 71 (pair (identifier_node i) (pair (direction_node d) (pair (view low) (view high))))) (row_of (map view_statement xs))))
+pub view_for : (p : Span) (i : Identifier) (d : Direction) (low high : Expression Identifier) (xs : List (Statement Identifier Identifier)) → view_statement (s.For p i d low high xs) ≡ pair (at p) (tag labels.Loop (pair (tag labels.For (pair (identifier_node i) (pair (direction_node d) (pair (view low) (view high))))) (row_of (map view_statement xs))))
 view_for p i d low high xs = rw (fold_out-Statement, outs-For p i d low high xs) refl
 
-pub view_block : (p : Span) (b : Body Identifier Identifier) → view_statement (s.Block p b) ≡ pair (at p) (tag 66 (view_body b))
+pub view_block : (p : Span) (b : Body Identifier Identifier) → view_statement (s.Block p b) ≡ pair (at p) (tag labels.Block (view_body b))
 view_block p b = rw (fold_out-Statement, outs-Block p b) refl
 
 -- ---- bodies

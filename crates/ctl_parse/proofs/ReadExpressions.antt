@@ -2,8 +2,10 @@
 use Rattle.std.proofs.Common.{◌≡◌, ℕ, zero, suc, ◌<◌, Bool, true, false, cond, List, [], ◌∷◌, map, Option, Some, None, refl, sym, ap, subst, ◌∙◌, arith}
 use Rattle.std.specs.Prelude.{◌==◌, ◌&&◌, not}
 use Rattle.ctl_tree.specs.declared.span.Span.{Span}
-use Rattle.ctl_grammar.specs.Form.{Node, none, num, written, at, pair, tag}
-use Rattle.ctl_grammar.specs.Nodes.{first, second, part_2, is_none, row_of, tagged_part}
+use Rattle.ctl_grammar.specs.Form.{Node, none, written, at, pair, tag}
+use Rattle.ctl_grammar.specs.Label.{Label}
+use Rattle.ctl_grammar.specs.Label as labels
+use Rattle.ctl_grammar.specs.Nodes.{alone, first, second, part_2, is_none, row_of, tagged_part}
 use Rattle.ctl_syntax.specs.declared.name.Identifier.{Identifier}
 use Rattle.ctl_syntax.specs.declared.name.Mark.{Mark}
 use Rattle.ctl_syntax.specs.declared.name.Name.{Name}
@@ -24,8 +26,8 @@ use Rattle.ctl_syntax.specs.declared.expression.Expression.TheOpen.{Expression-F
 use Rattle.ctl_syntax.specs.declared.expression.Expression.TheVariants as e
 use Rattle.ctl_syntax.specs.declared.expression.Expression.TheVariants.{rolls-Logical, rolls-Relation, rolls-Chain, rolls-Unary, rolls-Number, rolls-String, rolls-Null, rolls-Name, rolls-Parentheses, rolls-New}
 use Rattle.ctl_syntax.specs.declared.expression.Expression.TheViews.{outs-Logical, outs-Relation, outs-Unary, outs-String, outs-Parentheses}
-use Rattle.ctl_parse.specs.Read.{row_in, size, read_optional, read_identifier, read_mark, read_suffix, read_name, read_operand, read_chain, logical_numbered, relational_numbered, arithmetic_numbered, sign_numbered, read_expression_below, read_expression}
-use Rattle.ctl_parse.specs.View.{optional, identifier_node, mark_node, suffix_node, name_node, logical_code, relational_code, arithmetic_code, unary_node, operand_node, is_adding, is_signed, is_signed_sum, is_same_place, is_same_span, sum_node, chain_node, view}
+use Rattle.ctl_parse.specs.Read.{row_in, size, read_optional, read_identifier, read_mark, read_suffix, read_name, read_operand, read_chain, read_logical, read_relational, read_arithmetic, read_sign, read_expression_below, read_expression}
+use Rattle.ctl_parse.specs.View.{optional, identifier_node, mark_node, suffix_node, name_node, logical_label, relational_label, arithmetic_label, unary_node, operand_node, is_adding, is_signed, is_signed_sum, is_same_place, is_same_span, sum_node, chain_node, view}
 use Rattle.ctl_parse.proofs.Terms.{unsigned_sum}
 use Rattle.ctl_parse.proofs.Views.{view_name, view_chain, view_new, view_null, view_number}
 
@@ -38,7 +40,7 @@ in_second : (a b : Node) {n : ℕ} → size (pair a b) < n → size b < n
 in_second a b k = omega (arith, k)
 
 -- what stands behind a place, within a tag
-within : (a v : Node) (t n : ℕ) → size (pair a (tag t v)) < suc n → size v < n
+within : (a v : Node) (t : Label) (n : ℕ) → size (pair a (tag t v)) < suc n → size v < n
 within a v t n k = omega (arith, k)
 
 -- ---- rows
@@ -92,14 +94,14 @@ name_back r n h m k = ap (with_suffixes m.first) (row_back (suffix_node view) (r
 
 -- ---- operators
 
-logical_back : (o : LogicalOperator) → logical_numbered (logical_code o) ≡ o
+logical_back : (o : LogicalOperator) → read_logical (alone (logical_label o)) ≡ o
 logical_back logical.And = refl
 logical_back logical.Or = refl
 logical_back logical.Xor = refl
 logical_back logical.AndThen = refl
 logical_back logical.OrElse = refl
 
-relational_back : (o : RelationalOperator) → relational_numbered (relational_code o) ≡ o
+relational_back : (o : RelationalOperator) → read_relational (alone (relational_label o)) ≡ o
 relational_back relational.Equal = refl
 relational_back relational.NotEqual = refl
 relational_back relational.Less = refl
@@ -107,54 +109,47 @@ relational_back relational.LessEqual = refl
 relational_back relational.Greater = refl
 relational_back relational.GreaterEqual = refl
 
-arithmetic_back : (adding : Bool) (o : ArithmeticOperator) → arithmetic_numbered adding (arithmetic_code adding o) ≡ o
-arithmetic_back true arithmetic.Plus = refl
-arithmetic_back true arithmetic.Minus = refl
-arithmetic_back true arithmetic.Concatenate = refl
-arithmetic_back true arithmetic.Times = refl
-arithmetic_back true arithmetic.Divide = refl
-arithmetic_back true arithmetic.Mod = refl
-arithmetic_back true arithmetic.Rem = refl
-arithmetic_back false arithmetic.Plus = refl
-arithmetic_back false arithmetic.Minus = refl
-arithmetic_back false arithmetic.Concatenate = refl
-arithmetic_back false arithmetic.Times = refl
-arithmetic_back false arithmetic.Divide = refl
-arithmetic_back false arithmetic.Mod = refl
-arithmetic_back false arithmetic.Rem = refl
+arithmetic_back : (o : ArithmeticOperator) → read_arithmetic (alone (arithmetic_label o)) ≡ o
+arithmetic_back arithmetic.Plus = refl
+arithmetic_back arithmetic.Minus = refl
+arithmetic_back arithmetic.Concatenate = refl
+arithmetic_back arithmetic.Times = refl
+arithmetic_back arithmetic.Divide = refl
+arithmetic_back arithmetic.Mod = refl
+arithmetic_back arithmetic.Rem = refl
 
 abbrev with_operand : ArithmeticOperator → Expression Identifier → Operand (Expression Identifier)
 with_operand o x = record { operator = o; operand = x }
 
-operand_back : (adding : Bool) (r : Node → Expression Identifier) (n : ℕ) → ((x : Expression Identifier) → size (view x) < n → r (view x) ≡ x) → (o : Operand (Expression Identifier)) → size (operand_node adding view o) < n → read_operand adding r (operand_node adding view o) ≡ o
-operand_back adding r n h o k =
-    ap (λ q. with_operand q (r (view o.operand))) (arithmetic_back adding o.operator)
-    ∙ ap (with_operand o.operator) (h o.operand (in_second (num (arithmetic_code adding o.operator)) (view o.operand) k))
+operand_back : (r : Node → Expression Identifier) (n : ℕ) → ((x : Expression Identifier) → size (view x) < n → r (view x) ≡ x) → (o : Operand (Expression Identifier)) → size (operand_node view o) < n → read_operand r (operand_node view o) ≡ o
+operand_back r n h o k =
+    ap (λ q. with_operand q (r (view o.operand))) (arithmetic_back o.operator)
+    ∙ ap (with_operand o.operator) (h o.operand (in_second (alone (arithmetic_label o.operator)) (view o.operand) k))
 
 -- what stands behind the first operand
-abbrev behind : Bool → Operand (Expression Identifier) → List (Operand (Expression Identifier)) → Node
-behind adding o more = pair (operand_node adding view o) (row_of (map (operand_node adding view) more))
+abbrev behind : Operand (Expression Identifier) → List (Operand (Expression Identifier)) → Node
+behind o more = pair (operand_node view o) (row_of (map (operand_node view) more))
 
-operands_back : (adding : Bool) (r : Node → Expression Identifier) (n : ℕ) → ((x : Expression Identifier) → size (view x) < n → r (view x) ≡ x) → (p : Span) (a : Expression Identifier) (o : Operand (Expression Identifier)) (more : List (Operand (Expression Identifier))) → size (behind adding o more) < n → read_chain adding r p a (behind adding o more) ≡ e.Chain p a o more
-operands_back adding r n h p a o more k =
-    ap (λ q. e.Chain p a q (map (read_operand adding r) (row_in (row_of (map (operand_node adding view) more))))) (operand_back adding r n h o (in_first (operand_node adding view o) (row_of (map (operand_node adding view) more)) k))
-    ∙ ap (λ qs. e.Chain p a o qs) (row_back (operand_node adding view) (read_operand adding r) n (operand_back adding r n h) more (in_second (operand_node adding view o) (row_of (map (operand_node adding view) more)) k))
+operands_back : (r : Node → Expression Identifier) (n : ℕ) → ((x : Expression Identifier) → size (view x) < n → r (view x) ≡ x) → (p : Span) (a : Expression Identifier) (o : Operand (Expression Identifier)) (more : List (Operand (Expression Identifier))) → size (behind o more) < n → read_chain r p a (behind o more) ≡ e.Chain p a o more
+operands_back r n h p a o more k =
+    ap (λ q. e.Chain p a q (map (read_operand r) (row_in (row_of (map (operand_node view) more))))) (operand_back r n h o (in_first (operand_node view o) (row_of (map (operand_node view) more)) k))
+    ∙ ap (λ qs. e.Chain p a o qs) (row_back (operand_node view) (read_operand r) n (operand_back r n h) more (in_second (operand_node view o) (row_of (map (operand_node view) more)) k))
 
 -- ---- what expressions of parts stand for
 
-view_string : (p : Span) (s : List ℕ) → view (e.String p s) ≡ pair (at p) (tag 2 (written s))
+view_string : (p : Span) (s : List ℕ) → view (e.String p s) ≡ pair (at p) (tag labels.String (written s))
 view_string p s = rw (fold_out-Expression, outs-String p s) refl
 
-view_parentheses : (p : Span) (a : Expression Identifier) → view (e.Parentheses p a) ≡ pair (at p) (tag 5 (view a))
+view_parentheses : (p : Span) (a : Expression Identifier) → view (e.Parentheses p a) ≡ pair (at p) (tag labels.Parentheses (view a))
 view_parentheses p a = rw (fold_out-Expression, outs-Parentheses p a) refl
 
 view_unary : (p : Span) (o : UnaryOperator) (a : Expression Identifier) → view (e.Unary p o a) ≡ pair (at p) (unary_node o (view a))
 view_unary p o a = rw (fold_out-Expression, outs-Unary p o a) refl
 
-view_relation : (p : Span) (o : RelationalOperator) (a b : Expression Identifier) → view (e.Relation p o a b) ≡ pair (at p) (tag 9 (pair (num (relational_code o)) (pair (view a) (view b))))
+view_relation : (p : Span) (o : RelationalOperator) (a b : Expression Identifier) → view (e.Relation p o a b) ≡ pair (at p) (tag labels.Relation (pair (alone (relational_label o)) (pair (view a) (view b))))
 view_relation p o a b = rw (fold_out-Expression, outs-Relation p o a b) refl
 
-view_logical : (p : Span) (o : LogicalOperator) (a b : Expression Identifier) (more : List (Expression Identifier)) → view (e.Logical p o a b more) ≡ pair (at p) (tag 10 (pair (num (logical_code o)) (pair (view a) (pair (view b) (row_of (map view more))))))
+view_logical : (p : Span) (o : LogicalOperator) (a b : Expression Identifier) (more : List (Expression Identifier)) → view (e.Logical p o a b more) ≡ pair (at p) (tag labels.Logical (pair (alone (logical_label o)) (pair (view a) (pair (view b) (row_of (map view more))))))
 view_logical p o a b more = rw (fold_out-Expression, outs-Logical p o a b more) refl
 
 -- ---- places
@@ -180,7 +175,7 @@ no_more : (b : Bool) → (b && false) ≡ false
 no_more true = refl
 no_more false = refl
 
-unsigned_chain : (own : Bool) (s t v x xs : Node) → is_signed_sum (cond own (tag 8 (pair s (pair t (pair x xs)))) (tag 8 (pair none (pair v (pair x xs))))) ≡ false
+unsigned_chain : (own : Bool) (s t v x xs : Node) → is_signed_sum (cond own (tag labels.Sum (pair s (pair t (pair x xs)))) (tag labels.Sum (pair none (pair v (pair x xs))))) ≡ false
 unsigned_chain true s t v x xs = no_more (not (is_none s))
 unsigned_chain false s t v x xs = refl
 
@@ -221,7 +216,7 @@ seen : (n : ℕ) (x : Expression Identifier) (w : Node) → view x ≡ w → See
 seen n x w is h = subst (λ z. Seen n z x) (sym is) h
 
 module _ (n : ℕ) (h : (x : Expression Identifier) → size (view x) < n → read_expression_below n (view x) ≡ x) where
-  relation_back : (p : Span) (o : RelationalOperator) (a b : Expression Identifier) → Seen n (pair (at p) (tag 9 (pair (num (relational_code o)) (pair (view a) (view b))))) (e.Relation p o a b)
+  relation_back : (p : Span) (o : RelationalOperator) (a b : Expression Identifier) → Seen n (pair (at p) (tag labels.Relation (pair (alone (relational_label o)) (pair (view a) (view b))))) (e.Relation p o a b)
   relation_back p o a b k =
       let left : size (view a) < n = omega (arith, k) in
       let right : size (view b) < n = omega (arith, k) in
@@ -229,7 +224,7 @@ module _ (n : ℕ) (h : (x : Expression Identifier) → size (view x) < n → re
       ∙ ap (λ y. e.Relation p o y (read_expression_below n (view b))) (h a left)
       ∙ ap (λ y. e.Relation p o a y) (h b right)
 
-  relations_back : (p : Span) (o : LogicalOperator) (a b : Expression Identifier) (more : List (Expression Identifier)) → Seen n (pair (at p) (tag 10 (pair (num (logical_code o)) (pair (view a) (pair (view b) (row_of (map view more))))))) (e.Logical p o a b more)
+  relations_back : (p : Span) (o : LogicalOperator) (a b : Expression Identifier) (more : List (Expression Identifier)) → Seen n (pair (at p) (tag labels.Logical (pair (alone (logical_label o)) (pair (view a) (pair (view b) (row_of (map view more))))))) (e.Logical p o a b more)
   relations_back p o a b more k =
       let left : size (view a) < n = omega (arith, k) in
       let right : size (view b) < n = omega (arith, k) in
@@ -245,7 +240,7 @@ module _ (n : ℕ) (h : (x : Expression Identifier) → size (view x) < n → re
   unary_back p unary.Abs a k = ap (e.Unary p unary.Abs) (h a (omega (arith, k)))
   unary_back p unary.Not a k = ap (e.Unary p unary.Not) (h a (omega (arith, k)))
 
-  allocator_back : (p : Span) (handle : Option (Name Identifier (Expression Identifier))) (mark : Mark Identifier) (value : Option (Expression Identifier)) → Seen n (pair (at p) (tag 11 (pair (optional (name_node view) handle) (pair (mark_node mark) (optional view value))))) (e.New p handle mark value)
+  allocator_back : (p : Span) (handle : Option (Name Identifier (Expression Identifier))) (mark : Mark Identifier) (value : Option (Expression Identifier)) → Seen n (pair (at p) (tag labels.Allocator (pair (optional (name_node view) handle) (pair (mark_node mark) (optional view value))))) (e.New p handle mark value)
   allocator_back p handle mark value k =
       let in_handle : size (optional (name_node view) handle) < n = omega (arith, k) in
       let in_value : size (optional view value) < n = omega (arith, k) in
@@ -253,43 +248,43 @@ module _ (n : ℕ) (h : (x : Expression Identifier) → size (view x) < n → re
       ∙ ap (λ y. e.New p handle y (read_optional (read_expression_below n) (optional view value))) (mark_back mark)
       ∙ ap (λ y. e.New p handle mark y) (option_back view (read_expression_below n) n h value in_value)
 
-  product_back : (p : Span) (a : Expression Identifier) (o : Operand (Expression Identifier)) (more : List (Operand (Expression Identifier))) → Seen n (pair (at p) (tag 7 (pair (view a) (behind false o more)))) (e.Chain p a o more)
+  product_back : (p : Span) (a : Expression Identifier) (o : Operand (Expression Identifier)) (more : List (Operand (Expression Identifier))) → Seen n (pair (at p) (tag labels.Product (pair (view a) (behind o more)))) (e.Chain p a o more)
   product_back p a o more k =
       let first_one : size (view a) < n = omega (arith, k) in
-      let others : size (behind false o more) < n = omega (arith, k) in
-      ap (λ y. read_chain false (read_expression_below n) p y (behind false o more)) (h a first_one) ∙ operands_back false (read_expression_below n) n h p a o more others
+      let others : size (behind o more) < n = omega (arith, k) in
+      ap (λ y. read_chain (read_expression_below n) p y (behind o more)) (h a first_one) ∙ operands_back (read_expression_below n) n h p a o more others
 
   -- a sum whose first operand is kept whole
-  whole_sum_back : (p : Span) (a : Expression Identifier) (o : Operand (Expression Identifier)) (more : List (Operand (Expression Identifier))) → Seen n (pair (at p) (tag 8 (pair none (pair (view a) (behind true o more))))) (e.Chain p a o more)
+  whole_sum_back : (p : Span) (a : Expression Identifier) (o : Operand (Expression Identifier)) (more : List (Operand (Expression Identifier))) → Seen n (pair (at p) (tag labels.Sum (pair none (pair (view a) (behind o more))))) (e.Chain p a o more)
   whole_sum_back p a o more k =
       let first_one : size (view a) < n = omega (arith, k) in
-      let others : size (behind true o more) < n = omega (arith, k) in
-      ap (λ y. read_chain true (read_expression_below n) p y (behind true o more)) (h a first_one) ∙ operands_back true (read_expression_below n) n h p a o more others
+      let others : size (behind o more) < n = omega (arith, k) in
+      ap (λ y. read_chain (read_expression_below n) p y (behind o more)) (h a first_one) ∙ operands_back (read_expression_below n) n h p a o more others
 
   -- a sum with a sign of its own
-  signed_sum_back : (p : Span) (c : ℕ) (a : Expression Identifier) (o : Operand (Expression Identifier)) (more : List (Operand (Expression Identifier))) → Seen n (pair (at p) (tag 8 (pair (num c) (pair (view a) (behind true o more))))) (e.Chain p (e.Unary p (sign_numbered c) a) o more)
+  signed_sum_back : (p : Span) (c : Label) (a : Expression Identifier) (o : Operand (Expression Identifier)) (more : List (Operand (Expression Identifier))) → Seen n (pair (at p) (tag labels.Sum (pair (alone c) (pair (view a) (behind o more))))) (e.Chain p (e.Unary p (read_sign (alone c)) a) o more)
   signed_sum_back p c a o more k =
       let first_one : size (view a) < n = omega (arith, k) in
-      let others : size (behind true o more) < n = omega (arith, k) in
-      ap (λ y. read_chain true (read_expression_below n) p (e.Unary p (sign_numbered c) y) (behind true o more)) (h a first_one) ∙ operands_back true (read_expression_below n) n h p (e.Unary p (sign_numbered c) a) o more others
+      let others : size (behind o more) < n = omega (arith, k) in
+      ap (λ y. read_chain (read_expression_below n) p (e.Unary p (read_sign (alone c)) y) (behind o more)) (h a first_one) ∙ operands_back (read_expression_below n) n h p (e.Unary p (read_sign (alone c)) a) o more others
 
   -- a sum whose first operand is a sign with a term: the sign stands at the sum's place, or not
-  either_sum_back : (c : ℕ) (s : UnaryOperator) → sign_numbered c ≡ s → (p q : Span) (a : Expression Identifier) (o : Operand (Expression Identifier)) (more : List (Operand (Expression Identifier))) → view (e.Unary q s a) ≡ pair (at q) (tag 8 (pair (num c) (pair (view a) none)))
-      → (own : Bool) → is_same_span p q ≡ own → Seen n (pair (at p) (cond own (tag 8 (pair (num c) (pair (view a) (behind true o more)))) (tag 8 (pair none (pair (pair (at q) (tag 8 (pair (num c) (pair (view a) none)))) (behind true o more)))))) (e.Chain p (e.Unary q s a) o more)
+  either_sum_back : (c : Label) (s : UnaryOperator) → read_sign (alone c) ≡ s → (p q : Span) (a : Expression Identifier) (o : Operand (Expression Identifier)) (more : List (Operand (Expression Identifier))) → view (e.Unary q s a) ≡ pair (at q) (tag labels.Sum (pair (alone c) (pair (view a) none)))
+      → (own : Bool) → is_same_span p q ≡ own → Seen n (pair (at p) (cond own (tag labels.Sum (pair (alone c) (pair (view a) (behind o more)))) (tag labels.Sum (pair none (pair (pair (at q) (tag labels.Sum (pair (alone c) (pair (view a) none)))) (behind o more)))))) (e.Chain p (e.Unary q s a) o more)
   either_sum_back c s is p q a o more g true same k = signed_sum_back p c a o more k ∙ ap (λ z. e.Chain p (e.Unary p z a) o more) is ∙ ap (λ z. e.Chain p (e.Unary z s a) o more) (one_span p q same)
-  either_sum_back c s is p q a o more g false same k = subst (λ z. Seen n (pair (at p) (tag 8 (pair none (pair z (behind true o more))))) (e.Chain p (e.Unary q s a) o more)) g (whole_sum_back p (e.Unary q s a) o more) k
+  either_sum_back c s is p q a o more g false same k = subst (λ z. Seen n (pair (at p) (tag labels.Sum (pair none (pair z (behind o more))))) (e.Chain p (e.Unary q s a) o more)) g (whole_sum_back p (e.Unary q s a) o more) k
 
-  own_sign_back : (c : ℕ) (s : UnaryOperator) → sign_numbered c ≡ s → (p q : Span) (a : Expression Identifier) (o : Operand (Expression Identifier)) (more : List (Operand (Expression Identifier))) → view (e.Unary q s a) ≡ pair (at q) (tag 8 (pair (num c) (pair (view a) none)))
-      → Seen n (pair (at p) (sum_node (at p) (view (e.Unary q s a)) (behind true o more))) (e.Chain p (e.Unary q s a) o more)
-  own_sign_back c s is p q a o more g = subst (λ z. Seen n (pair (at p) (sum_node (at p) z (behind true o more))) (e.Chain p (e.Unary q s a) o more)) (sym g) (either_sum_back c s is p q a o more g (is_same_span p q) refl)
+  own_sign_back : (c : Label) (s : UnaryOperator) → read_sign (alone c) ≡ s → (p q : Span) (a : Expression Identifier) (o : Operand (Expression Identifier)) (more : List (Operand (Expression Identifier))) → view (e.Unary q s a) ≡ pair (at q) (tag labels.Sum (pair (alone c) (pair (view a) none)))
+      → Seen n (pair (at p) (sum_node (at p) (view (e.Unary q s a)) (behind o more))) (e.Chain p (e.Unary q s a) o more)
+  own_sign_back c s is p q a o more g = subst (λ z. Seen n (pair (at p) (sum_node (at p) z (behind o more))) (e.Chain p (e.Unary q s a) o more)) (sym g) (either_sum_back c s is p q a o more g (is_same_span p q) refl)
 
-  sum_back : (p : Span) (a : Expression Identifier) (o : Operand (Expression Identifier)) (more : List (Operand (Expression Identifier))) → Seen n (pair (at p) (sum_node (at p) (view a) (behind true o more))) (e.Chain p a o more)
-  sum_back p a o more = by_sign (λ x. Seen n (pair (at p) (sum_node (at p) (view x) (behind true o more))) (e.Chain p x o more))
-      (λ x g. subst (λ z. Seen n (pair (at p) z) (e.Chain p x o more)) (sym (unsigned_sum (at p) (view x) (behind true o more) g)) (whole_sum_back p x o more))
-      (λ q x. own_sign_back 0 unary.Plus refl p q x o more (view_unary q unary.Plus x))
-      (λ q x. own_sign_back 1 unary.Minus refl p q x o more (view_unary q unary.Minus x)) a
+  sum_back : (p : Span) (a : Expression Identifier) (o : Operand (Expression Identifier)) (more : List (Operand (Expression Identifier))) → Seen n (pair (at p) (sum_node (at p) (view a) (behind o more))) (e.Chain p a o more)
+  sum_back p a o more = by_sign (λ x. Seen n (pair (at p) (sum_node (at p) (view x) (behind o more))) (e.Chain p x o more))
+      (λ x g. subst (λ z. Seen n (pair (at p) z) (e.Chain p x o more)) (sym (unsigned_sum (at p) (view x) (behind o more) g)) (whole_sum_back p x o more))
+      (λ q x. own_sign_back labels.Plus unary.Plus refl p q x o more (view_unary q unary.Plus x))
+      (λ q x. own_sign_back labels.Minus unary.Minus refl p q x o more (view_unary q unary.Minus x)) a
 
-  chain_back : (adding : Bool) (p : Span) (a : Expression Identifier) (o : Operand (Expression Identifier)) (more : List (Operand (Expression Identifier))) → Seen n (pair (at p) (chain_node adding (at p) (view a) (behind adding o more))) (e.Chain p a o more)
+  chain_back : (adding : Bool) (p : Span) (a : Expression Identifier) (o : Operand (Expression Identifier)) (more : List (Operand (Expression Identifier))) → Seen n (pair (at p) (chain_node adding (at p) (view a) (behind o more))) (e.Chain p a o more)
   chain_back true p a o more = sum_back p a o more
   chain_back false p a o more = product_back p a o more
 
@@ -301,8 +296,8 @@ module _ (n : ℕ) (h : (x : Expression Identifier) → size (view x) < n → re
   back_by_layer x (Expression-F.Number p m) is = subst (Back n) (sym (rolls-Number p m) ∙ is) (seen n (e.Number p m) _ (view_number p m) (λ k. refl))
   back_by_layer x (Expression-F.String p s) is = subst (Back n) (sym (rolls-String p s) ∙ is) (seen n (e.String p s) _ (view_string p s) (λ k. refl))
   back_by_layer x (Expression-F.Null p) is = subst (Back n) (sym (rolls-Null p) ∙ is) (seen n (e.Null p) _ (view_null p) (λ k. refl))
-  back_by_layer x (Expression-F.Name p m) is = subst (Back n) (sym (rolls-Name p m) ∙ is) (seen n (e.Name p m) _ (view_name p m) (λ k. ap (e.Name p) (name_back (read_expression_below n) n h m (within (at p) (name_node view m) 4 n k))))
-  back_by_layer x (Expression-F.Parentheses p a) is = subst (Back n) (sym (rolls-Parentheses p a) ∙ is) (seen n (e.Parentheses p a) _ (view_parentheses p a) (λ k. ap (e.Parentheses p) (h a (within (at p) (view a) 5 n k))))
+  back_by_layer x (Expression-F.Name p m) is = subst (Back n) (sym (rolls-Name p m) ∙ is) (seen n (e.Name p m) _ (view_name p m) (λ k. ap (e.Name p) (name_back (read_expression_below n) n h m (within (at p) (name_node view m) labels.Name n k))))
+  back_by_layer x (Expression-F.Parentheses p a) is = subst (Back n) (sym (rolls-Parentheses p a) ∙ is) (seen n (e.Parentheses p a) _ (view_parentheses p a) (λ k. ap (e.Parentheses p) (h a (within (at p) (view a) labels.Parentheses n k))))
   back_by_layer x (Expression-F.New p handle mark value) is = subst (Back n) (sym (rolls-New p handle mark value) ∙ is) (seen n (e.New p handle mark value) _ (view_new p handle mark value) (allocator_back p handle mark value))
 
 expression_below_back : (n : ℕ) (x : Expression Identifier) → size (view x) < n → read_expression_below n (view x) ≡ x

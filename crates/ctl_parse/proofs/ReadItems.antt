@@ -2,7 +2,7 @@
 use Rattle.std.proofs.Common.{◌≡◌, List, [], ◌∷◌, map, Option, Some, None, refl, ap, ◌∙◌}
 use Rattle.ctl_tree.specs.declared.span.Span.{Span}
 use Rattle.ctl_grammar.specs.Form.{Node}
-use Rattle.ctl_grammar.specs.Nodes.{row_of, tagged_part}
+use Rattle.ctl_grammar.specs.Nodes.{alone, row_of}
 use Rattle.ctl_syntax.specs.declared.name.Identifier.{Identifier}
 use Rattle.ctl_syntax.specs.declared.name.Mark.{Mark}
 use Rattle.ctl_syntax.specs.declared.expression.Expression.{Expression}
@@ -37,8 +37,8 @@ use Rattle.ctl_syntax.specs.declared.item.Mode.TheVariants as mode
 use Rattle.ctl_syntax.specs.declared.item.Objects.{Objects}
 use Rattle.ctl_syntax.specs.declared.item.Specification.{Specification}
 use Rattle.ctl_syntax.specs.declared.item.Taggedness.TheVariants as taggedness
-use Rattle.ctl_parse.specs.Parts.{aliasing_node, constancy_node, direction_node, generality_node, indicator_node, limitation_node, coverage_node, mode_code, formal_node, result_node, specification_node, named_node, association_node, components_node, definition_node, objects_node, item_kind_node, choices_node, context_code, context_node}
-use Rattle.ctl_parse.specs.Read.{row_in, tag_in, read_optional, read_identifier, read_mark, read_expression, read_aliasing, read_constancy, read_direction, read_generality, read_indicator, read_limitation, read_coverage, mode_numbered, identifiers_in, read_formal, read_present, read_specification, read_association, associations_in, read_components, read_definition, read_objects, kind_tagged, read_choices, context_numbered, read_context}
+use Rattle.ctl_parse.specs.Parts.{aliasing_node, constancy_node, direction_node, generality_node, indicator_node, limitation_node, coverage_node, mode_label, formal_node, result_node, specification_node, named_node, association_node, components_node, definition_node, objects_node, item_kind_node, choices_node, context_label, context_node}
+use Rattle.ctl_parse.specs.Read.{row_in, read_optional, read_identifier, read_mark, read_expression, read_aliasing, read_constancy, read_direction, read_generality, read_indicator, read_limitation, read_coverage, read_mode, identifiers_in, read_formal, read_present, read_specification, read_association, associations_in, read_components, read_definition, read_objects, read_kind, read_choices, read_context_kind, read_context}
 use Rattle.ctl_parse.specs.View.{optional, identifier_node, mark_node, view}
 use Rattle.ctl_parse.proofs.ReadExpressions.{whole_row_back, whole_option_back, identifier_back, mark_back, expression_back}
 
@@ -72,7 +72,7 @@ coverage_back : (c : Coverage) → read_coverage (coverage_node c) ≡ c
 coverage_back coverage.ClassWide = refl
 coverage_back coverage.Specific = refl
 
-mode_back : (m : Mode) → mode_numbered (mode_code m) ≡ m
+mode_back : (m : Mode) → read_mode (alone (mode_label m)) ≡ m
 mode_back mode.In = refl
 mode_back mode.Out = refl
 mode_back mode.InOut = refl
@@ -87,7 +87,7 @@ formal_of is m t = record { names = is; mode = m; mark = t }
 
 formal_back : (f : Formal Identifier Identifier) → read_formal (formal_node f) ≡ f
 formal_back f =
-    ap (λ is. formal_of is (mode_numbered (mode_code f.mode)) (read_mark (mark_node f.mark))) (identifiers_back f.names)
+    ap (λ is. formal_of is (read_mode (alone (mode_label f.mode))) (read_mark (mark_node f.mark))) (identifiers_back f.names)
     ∙ ap (λ m. formal_of f.names m (read_mark (mark_node f.mark))) (mode_back f.mode)
     ∙ ap (formal_of f.names f.mode) (mark_back f.mark)
 
@@ -164,7 +164,7 @@ objects_back o =
 
 -- an item but for its body, if it has one
 pub kind_back : {B : Type 0} (node : B → Node) (r : Node → B) (k : ItemKind Identifier Identifier B) → ((s : Specification Identifier Identifier) (b : B) → k ≡ item.Body s b → r (node b) ≡ b)
-    → kind_tagged r (tag_in (item_kind_node node k)) (tagged_part (item_kind_node node k)) ≡ k
+    → read_kind r (item_kind_node node k) ≡ k
 kind_back node r (item.Declaration s) h = ap item.Declaration (specification_back s)
 kind_back node r (item.Body s b) h = ap (λ y. item.Body y (r (node b))) (specification_back s) ∙ ap (item.Body s) (h s b refl)
 kind_back node r (item.Instance i m xs) h =
@@ -184,7 +184,7 @@ choices_back choice.Others = refl
 choices_back (choice.Exceptions []) = refl
 choices_back (choice.Exceptions (m ∷ ms)) = ap choice.Exceptions (whole_row_back mark_node read_mark mark_back (m ∷ ms))
 
-context_kind_back : (k : ContextKind) → context_numbered (context_code k) ≡ k
+context_kind_back : (k : ContextKind) → read_context_kind (alone (context_label k)) ≡ k
 context_kind_back context_kind.With = refl
 context_kind_back context_kind.Use = refl
 

@@ -2,6 +2,7 @@
 use Rattle.std.proofs.Common.{◌≡◌, ℕ, zero, suc, ◌<◌, List, map, refl, sym, ap, subst, ◌∙◌, arith}
 use Rattle.ctl_tree.specs.declared.span.Span.{Span}
 use Rattle.ctl_grammar.specs.Form.{Node, none, at, pair, tag}
+use Rattle.ctl_grammar.specs.Label as labels
 use Rattle.ctl_grammar.specs.Nodes.{row_of}
 use Rattle.ctl_syntax.specs.declared.name.Identifier.{Identifier}
 use Rattle.ctl_syntax.specs.declared.name.Name.{Name}
@@ -82,11 +83,11 @@ module _ (n : ℕ) (h : (x : Statement Identifier Identifier) → StatementBack 
       ap (λ c. handler_from x.span c (map (read_statement_below n) (row_in (row_of (map view_statement x.statements))))) (choices_back x.choices)
       ∙ ap (handler_from x.span x.choices) (lines_back x.statements rest)
 
-  assignment_back : (p : Span) (m : Name Identifier (Expression Identifier)) (x : Expression Identifier) → Seen n (pair (at p) (tag 30 (pair (name_node view m) (view x)))) (s.Assignment p m x)
+  assignment_back : (p : Span) (m : Name Identifier (Expression Identifier)) (x : Expression Identifier) → Seen n (pair (at p) (tag labels.Assignment (pair (name_node view m) (view x)))) (s.Assignment p m x)
   assignment_back p m x k = ap (λ y. s.Assignment p y (read_expression (view x))) (whole_name_back m) ∙ ap (s.Assignment p m) (expression_back x)
 
   if_back : (p : Span) (b : Branch (Statement Identifier Identifier) Identifier) (more : List (Branch (Statement Identifier Identifier) Identifier)) (others : Lines)
-      → Seen n (pair (at p) (tag 64 (pair (pair (branch_node view_statement b) (row_of (map (branch_node view_statement) more))) (row_of (map view_statement others))))) (s.If p b more others)
+      → Seen n (pair (at p) (tag labels.If (pair (pair (branch_node view_statement b) (row_of (map (branch_node view_statement) more))) (row_of (map view_statement others))))) (s.If p b more others)
   if_back p b more others k =
       let in_first_one : size (branch_node view_statement b) < n = omega (arith, k) in
       let in_more : size (row_of (map (branch_node view_statement) more)) < n = omega (arith, k) in
@@ -95,19 +96,19 @@ module _ (n : ℕ) (h : (x : Statement Identifier Identifier) → StatementBack 
       ∙ ap (λ ys. s.If p b ys (map (read_statement_below n) (row_in (row_of (map view_statement others))))) (row_back (branch_node view_statement) (read_branch (read_statement_below n)) n branch_back more in_more)
       ∙ ap (s.If p b more) (lines_back others in_others)
 
-  loop_back : (p : Span) (ss : Lines) → Seen n (pair (at p) (tag 65 (pair (tag 72 none) (row_of (map view_statement ss))))) (s.Loop p ss)
+  loop_back : (p : Span) (ss : Lines) → Seen n (pair (at p) (tag labels.Loop (pair (tag labels.Endless none) (row_of (map view_statement ss))))) (s.Loop p ss)
   loop_back p ss k =
       let rest : size (row_of (map view_statement ss)) < n = omega (arith, k) in
       ap (s.Loop p) (lines_back ss rest)
 
-  while_back : (p : Span) (x : Expression Identifier) (ss : Lines) → Seen n (pair (at p) (tag 65 (pair (tag 70 (view x)) (row_of (map view_statement ss))))) (s.While p x ss)
+  while_back : (p : Span) (x : Expression Identifier) (ss : Lines) → Seen n (pair (at p) (tag labels.Loop (pair (tag labels.While (view x)) (row_of (map view_statement ss))))) (s.While p x ss)
   while_back p x ss k =
       let rest : size (row_of (map view_statement ss)) < n = omega (arith, k) in
       ap (λ y. s.While p y (map (read_statement_below n) (row_in (row_of (map view_statement ss))))) (expression_back x)
       ∙ ap (s.While p x) (lines_back ss rest)
 
   for_back : (p : Span) (i : Identifier) (d : Direction) (low high : Expression Identifier) (ss : Lines)
-      → Seen n (pair (at p) (tag 65 (pair (tag 71 (pair (identifier_node i) (pair (direction_node d) (pair (view low) (view high))))) (row_of (map view_statement ss))))) (s.For p i d low high ss)
+      → Seen n (pair (at p) (tag labels.Loop (pair (tag labels.For (pair (identifier_node i) (pair (direction_node d) (pair (view low) (view high))))) (row_of (map view_statement ss))))) (s.For p i d low high ss)
   for_back p i d low high ss k =
       let rest : size (row_of (map view_statement ss)) < n = omega (arith, k) in
       ap (λ y. s.For p i y (read_expression (view low)) (read_expression (view high)) (map (read_statement_below n) (row_in (row_of (map view_statement ss))))) (direction_back d)
@@ -116,7 +117,7 @@ module _ (n : ℕ) (h : (x : Statement Identifier Identifier) → StatementBack 
       ∙ ap (s.For p i d low high) (lines_back ss rest)
 
   module _ (g : (x : Body Identifier Identifier) → BodyBack n x) where
-    block_back : (p : Span) (b : Body Identifier Identifier) → Seen n (pair (at p) (tag 66 (view_body b))) (s.Block p b)
+    block_back : (p : Span) (b : Body Identifier Identifier) → Seen n (pair (at p) (tag labels.Block (view_body b))) (s.Block p b)
     block_back p b k =
         let inside : size (view_body b) < n = omega (arith, k) in
         ap (s.Block p) (g b inside)

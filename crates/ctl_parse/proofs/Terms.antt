@@ -10,12 +10,13 @@ use Rattle.ctl_syntax.specs.declared.operators.UnaryOperator.{UnaryOperator}
 use Rattle.ctl_grammar.specs.declared.refused.Refused.{Refused}
 use Rattle.ctl_grammar.specs.Form.{Node, none, leaf, num, written, at, pair, tag, Form, alt, act, starts}
 use Rattle.ctl_grammar.specs.Grammar.{term, factor, multiplicands, primary, number, string, null, allocator}
-use Rattle.ctl_grammar.specs.Nodes.{first, second, product_of, sum_of}
+use Rattle.ctl_grammar.specs.Label as labels
+use Rattle.ctl_grammar.specs.Nodes.{alone, first, second, product_of, sum_of}
 use Rattle.ctl_grammar.specs.Reading.{Read, ◌>>=◌, begins, read}
 use Rattle.ctl_parse.specs.declared.cursor.Parser.{Parser}
 use Rattle.ctl_parse.specs.Kept.{kept, kept_read}
 use Rattle.ctl_parse.specs.Reads.{Reads, Goes}
-use Rattle.ctl_parse.specs.View.{is_signed, is_same_span, is_adding, chain_node, sum_node, chain_of, further_node, operands_node, joins, signed_node, sign_node, unary_code}
+use Rattle.ctl_parse.specs.View.{is_signed, is_same_span, is_adding, chain_node, sum_node, chain_of, further_node, operands_node, joins, signed_node, sign_node, unary_label}
 use Rattle.ctl_parse.proofs.Steps.{kept_product}
 
 -- what was read is no sum with a sign
@@ -85,19 +86,19 @@ term_unsigned {p} {q} {v} r h =
 
 -- ---- chains
 
-not_adding : (b : Bool) (v a : Node) (p : Operand (Expression Identifier) × List (Operand (Expression Identifier))) → not b ≡ true → pair a (chain_node b a v (operands_node b p)) ≡ pair a (tag 7 (pair v (operands_node false p)))
+not_adding : (b : Bool) (v a : Node) (p : Operand (Expression Identifier) × List (Operand (Expression Identifier))) → not b ≡ true → pair a (chain_node b a v (operands_node p)) ≡ pair a (tag labels.Product (pair v (operands_node p)))
 not_adding true v a p h = absurd cc
 not_adding false v a p h = refl
 
-pub product_is : (v : Node) (rest : Option (Operand (Expression Identifier) × List (Operand (Expression Identifier)))) → joins false rest ≡ true → product_of v (further_node false rest) ≡ chain_of v rest
+pub product_is : (v : Node) (rest : Option (Operand (Expression Identifier) × List (Operand (Expression Identifier)))) → joins false rest ≡ true → product_of v (further_node rest) ≡ chain_of v rest
 product_is v None h = refl
 product_is v (Some p) h = sym (not_adding (is_adding p.0.operator) v (first v) p h)
 
-adding_sum : (b : Bool) (v a : Node) (p : Operand (Expression Identifier) × List (Operand (Expression Identifier))) → b ≡ true → pair a (chain_node b a v (operands_node b p)) ≡ pair a (sum_node a v (operands_node true p))
+adding_sum : (b : Bool) (v a : Node) (p : Operand (Expression Identifier) × List (Operand (Expression Identifier))) → b ≡ true → pair a (chain_node b a v (operands_node p)) ≡ pair a (sum_node a v (operands_node p))
 adding_sum true v a p h = refl
 adding_sum false v a p h = absurd cc
 
-pub unsigned_sum : (place v more : Node) → is_signed v ≡ false → sum_node place v more ≡ tag 8 (pair none (pair v more))
+pub unsigned_sum : (place v more : Node) → is_signed v ≡ false → sum_node place v more ≡ tag labels.Sum (pair none (pair v more))
 unsigned_sum place v more h = rw h refl
 
 same_number : (n : ℕ) → (n == n) ≡ true
@@ -106,11 +107,11 @@ same_number n = grind arith
 same_span : (p : Span) → is_same_span p p ≡ true
 same_span p = rw (same_number p.line, same_number p.column) refl
 
-signed_sum : (s : UnaryOperator × Span) (v more : Node) → sum_node (at s.1) (signed_node (Some s) v) more ≡ tag 8 (pair (num (unary_code s.0)) (pair v more))
+signed_sum : (s : UnaryOperator × Span) (v more : Node) → sum_node (at s.1) (signed_node (Some s) v) more ≡ tag labels.Sum (pair (alone (unary_label s.0)) (pair v more))
 signed_sum s v more = rw (same_span s.1) refl
 
-pub sum_is : (sign : Option (UnaryOperator × Span)) (v : Node) (rest : Option (Operand (Expression Identifier) × List (Operand (Expression Identifier)))) → is_signed v ≡ false → joins true rest ≡ true → sum_of (sign_node sign) v (further_node true rest) ≡ chain_of (signed_node sign v) rest
+pub sum_is : (sign : Option (UnaryOperator × Span)) (v : Node) (rest : Option (Operand (Expression Identifier) × List (Operand (Expression Identifier)))) → is_signed v ≡ false → joins true rest ≡ true → sum_of (sign_node sign) v (further_node rest) ≡ chain_of (signed_node sign v) rest
 sum_is None v None h k = refl
-sum_is None v (Some p) h k = ap (λ (n : Node). pair (first v) n) (sym (unsigned_sum (first v) v (operands_node true p) h)) ∙ sym (adding_sum (is_adding p.0.operator) v (first v) p k)
+sum_is None v (Some p) h k = ap (λ (n : Node). pair (first v) n) (sym (unsigned_sum (first v) v (operands_node p) h)) ∙ sym (adding_sum (is_adding p.0.operator) v (first v) p k)
 sum_is (Some s) v None h k = refl
-sum_is (Some s) v (Some p) h k = ap (λ (n : Node). pair (at s.1) n) (sym (signed_sum s v (operands_node true p))) ∙ sym (adding_sum (is_adding p.0.operator) (signed_node (Some s) v) (at s.1) p k)
+sum_is (Some s) v (Some p) h k = ap (λ (n : Node). pair (at s.1) n) (sym (signed_sum s v (operands_node p))) ∙ sym (adding_sum (is_adding p.0.operator) (signed_node (Some s) v) (at s.1) p k)

@@ -1,17 +1,19 @@
 -- What a tree keeps of a node.
-use Rattle.std.specs.Prelude.{ℕ, ◌==◌, List, codes, cond}
+use Rattle.std.specs.Prelude.{ℕ, List, codes, cond}
 use Rattle.ctl_grammar.specs.Form.{Node, none, leaf, num, written, at, pair, tag}
-use Rattle.ctl_grammar.specs.Nodes.{first, second, part_2, behind_2, part_3, behind_3, letters}
+use Rattle.ctl_grammar.specs.Label.{Label}
+use Rattle.ctl_grammar.specs.Label as labels
+use Rattle.ctl_grammar.specs.Nodes.{alone, first, second, part_2, behind_2, part_3, behind_3, letters}
 use Rattle.ctl_grammar.specs.Reading.{Read, made}
 use Rattle.ctl_grammar.specs.Spelling.{same_name}
 
--- the number of an attribute that is spelled so: Image, First or Last
-abbrev pub attribute_number : List ℕ → ℕ
-attribute_number s = cond (same_name (codes "image") s) 0 (cond (same_name (codes "first") s) 1 2)
+-- which attribute is spelled so: Image, First or Last
+abbrev pub spelled_attribute : List ℕ → Label
+spelled_attribute s = cond (same_name (codes "image") s) labels.Image (cond (same_name (codes "first") s) labels.First labels.Last)
 
 -- of an attribute: which one, and where
 abbrev pub attribute_part : Node → Node
-attribute_part id = pair (num (attribute_number (letters (first id)))) (second id)
+attribute_part id = pair (alone (spelled_attribute (letters (first id)))) (second id)
 
 -- of the aspect of an access type, if there is one: the pool, and not the word Storage_Pool
 abbrev pub aspect_part : Node → Node
@@ -49,9 +51,13 @@ completed_part (tag n v) = none
 abbrev pub subprogram_part : Node → Node
 subprogram_part v = pair (first v) (pair (part_2 v) (completed_part (behind_2 v)))
 
--- the parts of a node with this number, from what is kept of each
-abbrev pub kept_parts : ℕ → Node → Node
-kept_parts n v = cond (n == 24) (attribute_part v) (cond (n == 42) (access_part v) (cond (n == 51) (pool_part v) (cond (n == 53) (subprogram_part v) v)))
+-- the parts of a node with this label, from what is kept of each
+abbrev pub kept_parts : Label → Node → Node
+kept_parts labels.Attribute v = attribute_part v
+kept_parts labels.AccessType v = access_part v
+kept_parts labels.PoolClause v = pool_part v
+kept_parts labels.Subprogram v = subprogram_part v
+kept_parts _ v = v
 
 -- all but how an attribute or the word Storage_Pool is spelled, and the names at the ends of subprograms
 abbrev pub kept : Node → Node

@@ -1,8 +1,10 @@
 -- What declarations, statements and bodies stand for.
-use Rattle.std.specs.Prelude.{ℕ, List, [], ◌∷◌, map, Option, Some, None}
+use Rattle.std.specs.Prelude.{List, [], ◌∷◌, map, Option, Some, None}
 use Rattle.ctl_tree.specs.declared.span.Span.{Span}
-use Rattle.ctl_grammar.specs.Form.{Node, none, num, at, pair, tag}
-use Rattle.ctl_grammar.specs.Nodes.{first, second, row_of, yes}
+use Rattle.ctl_grammar.specs.Form.{Node, none, at, pair, tag}
+use Rattle.ctl_grammar.specs.Label.{Label}
+use Rattle.ctl_grammar.specs.Label as labels
+use Rattle.ctl_grammar.specs.Nodes.{alone, first, second, row_of, yes, no}
 use Rattle.ctl_syntax.specs.declared.name.Identifier.{Identifier}
 use Rattle.ctl_syntax.specs.declared.name.Mark.{Mark}
 use Rattle.ctl_syntax.specs.declared.item.Aliasing.{Aliasing}
@@ -55,37 +57,37 @@ use Rattle.ctl_parse.specs.View.{optional, identifier_node, mark_node, name_node
 -- ---- words that are there or not
 
 abbrev pub aliasing_node : Aliasing → Node
-aliasing_node aliasing.Aliased = num 1
-aliasing_node aliasing.Unaliased = num 0
+aliasing_node aliasing.Aliased = yes
+aliasing_node aliasing.Unaliased = no
 
 abbrev pub constancy_node : Constancy → Node
-constancy_node constancy.Constant = num 1
-constancy_node constancy.Variable = num 0
+constancy_node constancy.Constant = yes
+constancy_node constancy.Variable = no
 
 abbrev pub direction_node : Direction → Node
-direction_node direction.Downward = num 1
-direction_node direction.Upward = num 0
+direction_node direction.Downward = yes
+direction_node direction.Upward = no
 
 abbrev pub generality_node : Generality → Node
-generality_node generality.General = num 1
-generality_node generality.PoolSpecific = num 0
+generality_node generality.General = yes
+generality_node generality.PoolSpecific = no
 
 abbrev pub indicator_node : Indicator → Node
-indicator_node indicator.Overriding = num 1
-indicator_node indicator.Absent = num 0
+indicator_node indicator.Overriding = yes
+indicator_node indicator.Absent = no
 
 abbrev pub limitation_node : Limitation → Node
-limitation_node limitation.Limited = num 1
-limitation_node limitation.Nonlimited = num 0
+limitation_node limitation.Limited = yes
+limitation_node limitation.Nonlimited = no
 
 abbrev pub taggedness_node : Taggedness → Node
-taggedness_node taggedness.Tagged = num 1
-taggedness_node taggedness.Unsaid = num 0
+taggedness_node taggedness.Tagged = yes
+taggedness_node taggedness.Unsaid = no
 
 -- no text of the grammar says that an access type designates a class
 abbrev pub coverage_node : Coverage → Node
 coverage_node coverage.Specific = none
-coverage_node coverage.ClassWide = num 1
+coverage_node coverage.ClassWide = yes
 
 -- ---- headings and lists in parentheses
 
@@ -93,13 +95,13 @@ coverage_node coverage.ClassWide = num 1
 abbrev pub placed_node : Span × List Identifier → Node
 placed_node p = pair (at p.0) (row_of (map identifier_node p.1))
 
-abbrev pub mode_code : Mode → ℕ
-mode_code mode.In = 0
-mode_code mode.Out = 1
-mode_code mode.InOut = 2
+abbrev pub mode_label : Mode → Label
+mode_label mode.In = labels.In
+mode_label mode.Out = labels.Out
+mode_label mode.InOut = labels.InOut
 
 abbrev pub formal_node : Formal Identifier Identifier → Node
-formal_node f = pair (row_of (map identifier_node f.names)) (pair (num (mode_code f.mode)) (mark_node f.mark))
+formal_node f = pair (row_of (map identifier_node f.names)) (pair (alone (mode_label f.mode)) (mark_node f.mark))
 
 abbrev pub result_node : Option (Mark Identifier) → Node
 result_node None = none
@@ -122,9 +124,9 @@ abbrev pub components_node : Components Identifier → Node
 components_node c = pair (row_of (map identifier_node c.names)) (pair (mark_node c.mark) (optional view c.default))
 
 abbrev pub definition_node : Definition Identifier → Node
-definition_node (definition.Record l cs) = tag 40 (pair (limitation_node l) (row_of (map components_node cs)))
-definition_node (definition.Extension m cs) = tag 41 (pair (mark_node m) (row_of (map components_node cs)))
-definition_node (definition.Access g m c pool) = tag 42 (pair (generality_node g) (pair (mark_node m) (pair (coverage_node c) (optional mark_node pool))))
+definition_node (definition.Record l cs) = tag labels.Record (pair (limitation_node l) (row_of (map components_node cs)))
+definition_node (definition.Extension m cs) = tag labels.Extension (pair (mark_node m) (row_of (map components_node cs)))
+definition_node (definition.Access g m c pool) = tag labels.AccessType (pair (generality_node g) (pair (mark_node m) (pair (coverage_node c) (optional mark_node pool))))
 
 -- ---- items, by what their bodies stand for
 
@@ -132,14 +134,14 @@ abbrev pub objects_node : Objects Identifier Identifier → Node
 objects_node o = pair (aliasing_node o.aliasing) (pair (constancy_node o.constancy) (pair (mark_node o.mark) (pair (row_of (map association_node o.discriminants)) (optional view o.value))))
 
 abbrev pub item_kind_node : {B : Type 0} → (B → Node) → ItemKind Identifier Identifier B → Node
-item_kind_node body (item.Declaration s) = tag 53 (pair (indicator_node s.indicator) (pair (specification_node s) none))
-item_kind_node body (item.Body s b) = tag 53 (pair (indicator_node s.indicator) (pair (specification_node s) (pair none (body b))))
-item_kind_node body (item.Instance i m actuals) = tag 54 (pair (identifier_node i) (pair (mark_node m) (row_of (map association_node actuals))))
-item_kind_node body (item.Incomplete i t) = tag 50 (pair (identifier_node i) (taggedness_node t))
-item_kind_node body (item.«Type» i d) = tag 50 (pair (identifier_node i) (pair none (definition_node d)))
-item_kind_node body (item.StoragePool i pool) = tag 51 (pair (identifier_node i) (mark_node pool))
-item_kind_node body (item.Exceptions ids) = tag 52 (pair (row_of (map identifier_node ids)) none)
-item_kind_node body (item.Objects o) = tag 52 (pair (row_of (map identifier_node o.names)) (objects_node o))
+item_kind_node body (item.Declaration s) = tag labels.Subprogram (pair (indicator_node s.indicator) (pair (specification_node s) none))
+item_kind_node body (item.Body s b) = tag labels.Subprogram (pair (indicator_node s.indicator) (pair (specification_node s) (pair none (body b))))
+item_kind_node body (item.Instance i m actuals) = tag labels.Instance (pair (identifier_node i) (pair (mark_node m) (row_of (map association_node actuals))))
+item_kind_node body (item.Incomplete i t) = tag labels.TypeItem (pair (identifier_node i) (taggedness_node t))
+item_kind_node body (item.«Type» i d) = tag labels.TypeItem (pair (identifier_node i) (pair none (definition_node d)))
+item_kind_node body (item.StoragePool i pool) = tag labels.PoolClause (pair (identifier_node i) (mark_node pool))
+item_kind_node body (item.Exceptions ids) = tag labels.NamedItem (pair (row_of (map identifier_node ids)) none)
+item_kind_node body (item.Objects o) = tag labels.NamedItem (pair (row_of (map identifier_node o.names)) (objects_node o))
 
 -- ---- parts of statements, by what their statements stand for
 
@@ -148,7 +150,7 @@ branch_node statement b = pair (view b.condition) (row_of (map statement b.state
 
 -- names of exceptions: in a text there is one at least
 abbrev pub exceptions_node : List (Mark Identifier) → Node
-exceptions_node [] = num 0
+exceptions_node [] = no
 exceptions_node (m ∷ ms) = pair (mark_node m) (row_of (map mark_node ms))
 
 abbrev pub choices_node : Choices Identifier → Node
@@ -161,18 +163,18 @@ handler_node statement h = pair (at h.span) (pair (choices_node h.choices) (row_
 -- ---- one layer of a statement, a body or an item, from the nodes of its parts
 
 abbrev pub statement_step : Statement-F Identifier Identifier Node Node Node → Node
-statement_step (Statement-F.Null p) = pair (at p) (tag 60 none)
-statement_step (Statement-F.Assignment p n e) = pair (at p) (tag 30 (pair (name_node view n) (view e)))
-statement_step (Statement-F.Call p n) = pair (at p) (tag 31 (name_node view n))
-statement_step (Statement-F.Exit p e) = pair (at p) (tag 61 (optional view e))
-statement_step (Statement-F.Return p e) = pair (at p) (tag 62 (optional view e))
-statement_step (Statement-F.Raise p m) = pair (at p) (tag 63 (pair none (mark_node m)))
-statement_step (Statement-F.RaiseAgain p) = pair (at p) (tag 63 none)
-statement_step (Statement-F.If p b more others) = pair (at p) (tag 64 (pair (pair (branch_node (λ v. v) b) (row_of (map (branch_node (λ v. v)) more))) (row_of others)))
-statement_step (Statement-F.Loop p ss) = pair (at p) (tag 65 (pair (tag 72 none) (row_of ss)))
-statement_step (Statement-F.While p e ss) = pair (at p) (tag 65 (pair (tag 70 (view e)) (row_of ss)))
-statement_step (Statement-F.For p i d low high ss) = pair (at p) (tag 65 (pair (tag 71 (pair (identifier_node i) (pair (direction_node d) (pair (view low) (view high))))) (row_of ss)))
-statement_step (Statement-F.Block p b) = pair (at p) (tag 66 b)
+statement_step (Statement-F.Null p) = pair (at p) (tag labels.NullStatement none)
+statement_step (Statement-F.Assignment p n e) = pair (at p) (tag labels.Assignment (pair (name_node view n) (view e)))
+statement_step (Statement-F.Call p n) = pair (at p) (tag labels.Call (name_node view n))
+statement_step (Statement-F.Exit p e) = pair (at p) (tag labels.Exit (optional view e))
+statement_step (Statement-F.Return p e) = pair (at p) (tag labels.Return (optional view e))
+statement_step (Statement-F.Raise p m) = pair (at p) (tag labels.Raise (pair none (mark_node m)))
+statement_step (Statement-F.RaiseAgain p) = pair (at p) (tag labels.Raise none)
+statement_step (Statement-F.If p b more others) = pair (at p) (tag labels.If (pair (pair (branch_node (λ v. v) b) (row_of (map (branch_node (λ v. v)) more))) (row_of others)))
+statement_step (Statement-F.Loop p ss) = pair (at p) (tag labels.Loop (pair (tag labels.Endless none) (row_of ss)))
+statement_step (Statement-F.While p e ss) = pair (at p) (tag labels.Loop (pair (tag labels.While (view e)) (row_of ss)))
+statement_step (Statement-F.For p i d low high ss) = pair (at p) (tag labels.Loop (pair (tag labels.For (pair (identifier_node i) (pair (direction_node d) (pair (view low) (view high))))) (row_of ss)))
+statement_step (Statement-F.Block p b) = pair (at p) (tag labels.Block b)
 
 abbrev pub body_step : Body-F Identifier Identifier Node Node Node → Node
 body_step b = pair (row_of b.items) (pair (row_of b.statements) (row_of (map (handler_node (λ v. v)) b.handlers)))
@@ -191,12 +193,12 @@ view_body = fold-Body Identifier Identifier Node Node Node statement_step body_s
 abbrev pub view_item : Item Identifier Identifier → Node
 view_item = fold-Item Identifier Identifier Node Node Node statement_step body_step item_step
 
-abbrev pub context_code : ContextKind → ℕ
-context_code context_kind.With = 0
-context_code context_kind.Use = 1
+abbrev pub context_label : ContextKind → Label
+context_label context_kind.With = labels.With
+context_label context_kind.Use = labels.Use
 
 abbrev pub context_node : Context → Node
-context_node c = pair (pair (at c.span) (num (context_code c.kind))) (row_of (map mark_node c.units))
+context_node c = pair (pair (at c.span) (alone (context_label c.kind))) (row_of (map mark_node c.units))
 
 abbrev pub tree_node : Tree Identifier Identifier → Node
 tree_node t = pair (row_of (map context_node t.contexts)) (pair (at t.span) (pair (identifier_node t.name) (view_body t.body)))
@@ -225,9 +227,9 @@ defined_node (defined.Full d) = pair none (definition_node d)
 
 -- how a loop goes on
 abbrev pub scheme_node : Scheme → Node
-scheme_node scheme.Endless = tag 72 none
-scheme_node (scheme.While e) = tag 70 (view e)
-scheme_node (scheme.For i d low high) = tag 71 (pair (identifier_node i) (pair (direction_node d) (pair (view low) (view high))))
+scheme_node scheme.Endless = tag labels.Endless none
+scheme_node (scheme.While e) = tag labels.While (view e)
+scheme_node (scheme.For i d low high) = tag labels.For (pair (identifier_node i) (pair (direction_node d) (pair (view low) (view high))))
 
 -- a body with what stands at its end
 abbrev pub ended_node : Body Identifier Identifier → Node → Node

@@ -1,9 +1,10 @@
 -- The tree that stands for a node: `tree_node` the other way round. For a node that no tree stands for it is some tree.
-use Rattle.std.specs.Prelude.{◌≡◌, ℕ, zero, suc, ◌+◌, ◌==◌, Bool, true, false, cond, List, [], ◌∷◌, map, Option, Some, None}
+use Rattle.std.specs.Prelude.{◌≡◌, ℕ, zero, suc, ◌+◌, Bool, true, false, cond, List, [], ◌∷◌, map, Option, Some, None}
 use Rattle.ctl_tree.specs.declared.span.Span.{Span}
 use Rattle.ctl_tree.specs.declared.token.Token.{Token}
 use Rattle.ctl_grammar.specs.Form.{Node, num, at, pair, tag}
-use Rattle.ctl_grammar.specs.Nodes.{first, second, part_2, behind_2, part_3, behind_3, part_4, behind_4, letters, is_none, tagged_part}
+use Rattle.ctl_grammar.specs.Label as labels
+use Rattle.ctl_grammar.specs.Nodes.{first, second, part_2, behind_2, part_3, behind_3, part_4, behind_4, letters, is_none}
 use Rattle.ctl_grammar.specs.Text.{IsProgram}
 use Rattle.ctl_syntax.specs.declared.name.Identifier.{Identifier}
 use Rattle.ctl_syntax.specs.declared.name.Mark.{Mark}
@@ -78,9 +79,10 @@ abbrev pub number_in : Node → ℕ
 number_in (num n) = n
 number_in _ = 0
 
-abbrev pub tag_in : Node → ℕ
-tag_in (tag n v) = n
-tag_in _ = 0
+-- whether a word is there
+abbrev pub says_yes : Node → Bool
+says_yes (tag labels.Yes v) = true
+says_yes _ = false
 
 -- the nodes of a row
 abbrev pub row_in : Node → List Node
@@ -105,81 +107,90 @@ read_identifier v = record { text = letters (first v); span = span_in (second v)
 abbrev pub read_mark : Node → Mark Identifier
 read_mark v = record { first = read_identifier (first v); rest = map read_identifier (row_in (second v)) }
 
-abbrev pub attribute_numbered : ℕ → Attribute
-attribute_numbered n = cond (n == 0) attribute.Image (cond (n == 1) attribute.First attribute.Last)
-
-abbrev pub suffix_tagged : {E : Type 0} → (Node → E) → ℕ → Node → Suffix E
-suffix_tagged read n v =
-    cond (n == 20) (suffix.Selector (read_identifier v))
-    (cond (n == 21) (suffix.All (span_in v))
-    (cond (n == 22) (suffix.Arguments (span_in (first v)) (read (part_2 v)) (map read (row_in (behind_2 v))))
-    (cond (n == 23) (suffix.Attribute (span_in v) attribute.Access)
-    (suffix.Attribute (span_in (second v)) (attribute_numbered (number_in (first v)))))))
+abbrev pub read_attribute : Node → Attribute
+read_attribute (tag labels.Image v) = attribute.Image
+read_attribute (tag labels.First v) = attribute.First
+read_attribute _ = attribute.Last
 
 abbrev pub read_suffix : {E : Type 0} → (Node → E) → Node → Suffix E
-read_suffix read v = suffix_tagged read (tag_in v) (tagged_part v)
+read_suffix read (tag labels.Selector v) = suffix.Selector (read_identifier v)
+read_suffix read (tag labels.All v) = suffix.All (span_in v)
+read_suffix read (tag labels.Arguments v) = suffix.Arguments (span_in (first v)) (read (part_2 v)) (map read (row_in (behind_2 v)))
+read_suffix read (tag labels.Access v) = suffix.Attribute (span_in v) attribute.Access
+read_suffix read (tag labels.Attribute v) = suffix.Attribute (span_in (second v)) (read_attribute (first v))
+read_suffix read _ = suffix.All nowhere
 
 abbrev pub read_name : {E : Type 0} → (Node → E) → Node → Name Identifier E
 read_name read v = record { first = read_identifier (first v); suffixes = map (read_suffix read) (row_in (second v)) }
 
 -- ---- operators
 
-abbrev pub logical_numbered : ℕ → LogicalOperator
-logical_numbered n = cond (n == 0) logical.And (cond (n == 1) logical.Or (cond (n == 2) logical.Xor (cond (n == 3) logical.AndThen logical.OrElse)))
+abbrev pub read_logical : Node → LogicalOperator
+read_logical (tag labels.And v) = logical.And
+read_logical (tag labels.Or v) = logical.Or
+read_logical (tag labels.Xor v) = logical.Xor
+read_logical (tag labels.AndThen v) = logical.AndThen
+read_logical _ = logical.OrElse
 
-abbrev pub relational_numbered : ℕ → RelationalOperator
-relational_numbered n = cond (n == 0) relational.Equal (cond (n == 1) relational.NotEqual (cond (n == 2) relational.Less (cond (n == 3) relational.LessEqual (cond (n == 4) relational.Greater relational.GreaterEqual))))
+abbrev pub read_relational : Node → RelationalOperator
+read_relational (tag labels.Equal v) = relational.Equal
+read_relational (tag labels.NotEqual v) = relational.NotEqual
+read_relational (tag labels.Less v) = relational.Less
+read_relational (tag labels.LessEqual v) = relational.LessEqual
+read_relational (tag labels.Greater v) = relational.Greater
+read_relational _ = relational.GreaterEqual
 
-abbrev pub adding_numbered : ℕ → ArithmeticOperator
-adding_numbered n = cond (n == 0) arithmetic.Plus (cond (n == 1) arithmetic.Minus (cond (n == 2) arithmetic.Concatenate (cond (n == 3) arithmetic.Times (cond (n == 4) arithmetic.Divide (cond (n == 5) arithmetic.Mod arithmetic.Rem)))))
+abbrev pub read_arithmetic : Node → ArithmeticOperator
+read_arithmetic (tag labels.Plus v) = arithmetic.Plus
+read_arithmetic (tag labels.Minus v) = arithmetic.Minus
+read_arithmetic (tag labels.Concatenate v) = arithmetic.Concatenate
+read_arithmetic (tag labels.Times v) = arithmetic.Times
+read_arithmetic (tag labels.Divide v) = arithmetic.Divide
+read_arithmetic (tag labels.Mod v) = arithmetic.Mod
+read_arithmetic _ = arithmetic.Rem
 
-abbrev pub multiplying_numbered : ℕ → ArithmeticOperator
-multiplying_numbered n = cond (n == 0) arithmetic.Times (cond (n == 1) arithmetic.Divide (cond (n == 2) arithmetic.Mod (cond (n == 3) arithmetic.Rem (cond (n == 4) arithmetic.Plus (cond (n == 5) arithmetic.Minus arithmetic.Concatenate)))))
+abbrev pub read_sign : Node → UnaryOperator
+read_sign (tag labels.Plus v) = unary.Plus
+read_sign _ = unary.Minus
 
--- an operator among those that join terms, or among those that join factors
-abbrev pub arithmetic_numbered : Bool → ℕ → ArithmeticOperator
-arithmetic_numbered true n = adding_numbered n
-arithmetic_numbered false n = multiplying_numbered n
+abbrev pub read_word : Node → UnaryOperator
+read_word (tag labels.Abs v) = unary.Abs
+read_word _ = unary.Not
 
-abbrev pub sign_numbered : ℕ → UnaryOperator
-sign_numbered n = cond (n == 0) unary.Plus unary.Minus
-
-abbrev pub word_numbered : ℕ → UnaryOperator
-word_numbered n = cond (n == 0) unary.Abs unary.Not
-
-abbrev pub read_operand : {E : Type 0} → Bool → (Node → E) → Node → Operand E
-read_operand adding read v = record { operator = arithmetic_numbered adding (number_in (first v)); operand = read (second v) }
+abbrev pub read_operand : {E : Type 0} → (Node → E) → Node → Operand E
+read_operand read v = record { operator = read_arithmetic (first v); operand = read (second v) }
 
 -- ---- expressions, by how their parts are read
 
-abbrev pub read_chain : Bool → (Node → Expression Identifier) → Span → Expression Identifier → Node → Expression Identifier
-read_chain adding read p a more = e.Chain p a (read_operand adding read (first more)) (map (read_operand adding read) (row_in (second more)))
+abbrev pub read_chain : (Node → Expression Identifier) → Span → Expression Identifier → Node → Expression Identifier
+read_chain read p a more = e.Chain p a (read_operand read (first more)) (map (read_operand read) (row_in (second more)))
 
 -- a sign with its term, which others may stand behind
 abbrev pub read_signed : (Node → Expression Identifier) → Span → Expression Identifier → Node → Expression Identifier
-read_signed read p a more = cond (is_none more) a (read_chain true read p a more)
+read_signed read p a more = cond (is_none more) a (read_chain read p a more)
 
 abbrev pub read_sum : (Node → Expression Identifier) → Span → Node → Expression Identifier
-read_sum read p v = cond (is_none (first v)) (read_chain true read p (read (part_2 v)) (behind_2 v)) (read_signed read p (e.Unary p (sign_numbered (number_in (first v))) (read (part_2 v))) (behind_2 v))
+read_sum read p v = cond (is_none (first v)) (read_chain read p (read (part_2 v)) (behind_2 v)) (read_signed read p (e.Unary p (read_sign (first v)) (read (part_2 v))) (behind_2 v))
 
-abbrev pub expression_tagged : (Node → Expression Identifier) → Span → ℕ → Node → Expression Identifier
-expression_tagged read p n v =
-    cond (n == 1) (e.Number p (number_in v))
-    (cond (n == 2) (e.String p (letters v))
-    (cond (n == 3) (e.Null p)
-    (cond (n == 4) (e.Name p (read_name read v))
-    (cond (n == 5) (e.Parentheses p (read v))
-    (cond (n == 6) (e.Unary p (word_numbered (number_in (first v))) (read (second v)))
-    (cond (n == 7) (read_chain false read p (read (first v)) (second v))
-    (cond (n == 8) (read_sum read p v)
-    (cond (n == 9) (e.Relation p (relational_numbered (number_in (first v))) (read (part_2 v)) (read (behind_2 v)))
-    (cond (n == 10) (e.Logical p (logical_numbered (number_in (first v))) (read (part_2 v)) (read (part_3 v)) (map read (row_in (behind_3 v))))
-    (e.New p (read_optional (read_name read) (first v)) (read_mark (part_2 v)) (read_optional read (behind_2 v))))))))))))
+-- an expression from its place and what stands there
+abbrev pub expression_at : (Node → Expression Identifier) → Span → Node → Expression Identifier
+expression_at read p (tag labels.Number v) = e.Number p (number_in v)
+expression_at read p (tag labels.String v) = e.String p (letters v)
+expression_at read p (tag labels.Null v) = e.Null p
+expression_at read p (tag labels.Name v) = e.Name p (read_name read v)
+expression_at read p (tag labels.Parentheses v) = e.Parentheses p (read v)
+expression_at read p (tag labels.Unary v) = e.Unary p (read_word (first v)) (read (second v))
+expression_at read p (tag labels.Product v) = read_chain read p (read (first v)) (second v)
+expression_at read p (tag labels.Sum v) = read_sum read p v
+expression_at read p (tag labels.Relation v) = e.Relation p (read_relational (first v)) (read (part_2 v)) (read (behind_2 v))
+expression_at read p (tag labels.Logical v) = e.Logical p (read_logical (first v)) (read (part_2 v)) (read (part_3 v)) (map read (row_in (behind_3 v)))
+expression_at read p (tag labels.Allocator v) = e.New p (read_optional (read_name read) (first v)) (read_mark (part_2 v)) (read_optional read (behind_2 v))
+expression_at read p _ = e.Null p
 
 -- an expression of a node of less than this size
 abbrev pub read_expression_below : ℕ → Node → Expression Identifier
 read_expression_below zero v = e.Null nowhere
-read_expression_below (suc n) v = expression_tagged (read_expression_below n) (span_in (first v)) (tag_in (second v)) (tagged_part (second v))
+read_expression_below (suc n) v = expression_at (read_expression_below n) (span_in (first v)) (second v)
 
 abbrev pub read_expression : Node → Expression Identifier
 read_expression v = read_expression_below (suc (size v)) v
@@ -187,31 +198,33 @@ read_expression v = read_expression_below (suc (size v)) v
 -- ---- words that are there or not
 
 abbrev pub read_aliasing : Node → Aliasing
-read_aliasing v = cond (number_in v == 1) aliasing.Aliased aliasing.Unaliased
+read_aliasing v = cond (says_yes v) aliasing.Aliased aliasing.Unaliased
 
 abbrev pub read_constancy : Node → Constancy
-read_constancy v = cond (number_in v == 1) constancy.Constant constancy.Variable
+read_constancy v = cond (says_yes v) constancy.Constant constancy.Variable
 
 abbrev pub read_direction : Node → Direction
-read_direction v = cond (number_in v == 1) direction.Downward direction.Upward
+read_direction v = cond (says_yes v) direction.Downward direction.Upward
 
 abbrev pub read_generality : Node → Generality
-read_generality v = cond (number_in v == 1) generality.General generality.PoolSpecific
+read_generality v = cond (says_yes v) generality.General generality.PoolSpecific
 
 abbrev pub read_indicator : Node → Indicator
-read_indicator v = cond (number_in v == 1) indicator.Overriding indicator.Absent
+read_indicator v = cond (says_yes v) indicator.Overriding indicator.Absent
 
 abbrev pub read_limitation : Node → Limitation
-read_limitation v = cond (number_in v == 1) limitation.Limited limitation.Nonlimited
+read_limitation v = cond (says_yes v) limitation.Limited limitation.Nonlimited
 
 abbrev pub read_taggedness : Node → Taggedness
-read_taggedness v = cond (number_in v == 1) taggedness.Tagged taggedness.Unsaid
+read_taggedness v = cond (says_yes v) taggedness.Tagged taggedness.Unsaid
 
 abbrev pub read_coverage : Node → Coverage
-read_coverage v = cond (number_in v == 1) coverage.ClassWide coverage.Specific
+read_coverage v = cond (says_yes v) coverage.ClassWide coverage.Specific
 
-abbrev pub mode_numbered : ℕ → Mode
-mode_numbered n = cond (n == 0) mode.In (cond (n == 1) mode.Out mode.InOut)
+abbrev pub read_mode : Node → Mode
+read_mode (tag labels.In v) = mode.In
+read_mode (tag labels.Out v) = mode.Out
+read_mode _ = mode.InOut
 
 -- ---- headings and lists in parentheses
 
@@ -219,7 +232,7 @@ abbrev pub identifiers_in : Node → List Identifier
 identifiers_in v = map read_identifier (row_in v)
 
 abbrev pub read_formal : Node → Formal Identifier Identifier
-read_formal v = record { names = identifiers_in (first v); mode = mode_numbered (number_in (part_2 v)); mark = read_mark (behind_2 v) }
+read_formal v = record { names = identifiers_in (first v); mode = read_mode (part_2 v); mark = read_mark (behind_2 v) }
 
 -- a part that is absent where its node is none
 abbrev pub read_present : {X : Type 0} → (Node → X) → Node → Option X
@@ -239,14 +252,11 @@ associations_in v = map read_association (row_in v)
 abbrev pub read_components : Node → Components Identifier
 read_components v = record { names = identifiers_in (first v); mark = read_mark (part_2 v); default = read_optional read_expression (behind_2 v) }
 
-abbrev pub definition_tagged : ℕ → Node → Definition Identifier
-definition_tagged n v =
-    cond (n == 40) (definition.Record (read_limitation (first v)) (map read_components (row_in (second v))))
-    (cond (n == 41) (definition.Extension (read_mark (first v)) (map read_components (row_in (second v))))
-    (definition.Access (read_generality (first v)) (read_mark (part_2 v)) (read_coverage (part_3 v)) (read_optional read_mark (behind_3 v))))
-
 abbrev pub read_definition : Node → Definition Identifier
-read_definition v = definition_tagged (tag_in v) (tagged_part v)
+read_definition (tag labels.Record v) = definition.Record (read_limitation (first v)) (map read_components (row_in (second v)))
+read_definition (tag labels.Extension v) = definition.Extension (read_mark (first v)) (map read_components (row_in (second v)))
+read_definition (tag labels.AccessType v) = definition.Access (read_generality (first v)) (read_mark (part_2 v)) (read_coverage (part_3 v)) (read_optional read_mark (behind_3 v))
+read_definition _ = definition.Record limitation.Nonlimited []
 
 -- ---- items, by how bodies are read
 
@@ -262,13 +272,17 @@ read_objects is v = record { names = is; aliasing = read_aliasing (first v); con
 abbrev pub read_subprogram : {B : Type 0} → (Node → B) → Specification Identifier Identifier → Node → ItemKind Identifier Identifier B
 read_subprogram body s v = cond (is_none v) (item.Declaration s) (item.Body s (body (second v)))
 
-abbrev pub kind_tagged : {B : Type 0} → (Node → B) → ℕ → Node → ItemKind Identifier Identifier B
-kind_tagged body n v =
-    cond (n == 50) (read_type (read_identifier (first v)) (second v))
-    (cond (n == 51) (item.StoragePool (read_identifier (first v)) (read_mark (second v)))
-    (cond (n == 52) (cond (is_none (second v)) (item.Exceptions (identifiers_in (first v))) (item.Objects (read_objects (identifiers_in (first v)) (second v))))
-    (cond (n == 53) (read_subprogram body (read_specification (read_indicator (first v)) (part_2 v)) (behind_2 v))
-    (item.Instance (read_identifier (first v)) (read_mark (part_2 v)) (associations_in (behind_2 v))))))
+-- names of exceptions, or of objects
+abbrev pub read_named : {B : Type 0} → List Identifier → Node → ItemKind Identifier Identifier B
+read_named is v = cond (is_none v) (item.Exceptions is) (item.Objects (read_objects is v))
+
+abbrev pub read_kind : {B : Type 0} → (Node → B) → Node → ItemKind Identifier Identifier B
+read_kind body (tag labels.TypeItem v) = read_type (read_identifier (first v)) (second v)
+read_kind body (tag labels.PoolClause v) = item.StoragePool (read_identifier (first v)) (read_mark (second v))
+read_kind body (tag labels.NamedItem v) = read_named (identifiers_in (first v)) (second v)
+read_kind body (tag labels.Subprogram v) = read_subprogram body (read_specification (read_indicator (first v)) (part_2 v)) (behind_2 v)
+read_kind body (tag labels.Instance v) = item.Instance (read_identifier (first v)) (read_mark (part_2 v)) (associations_in (behind_2 v))
+read_kind body _ = item.Exceptions []
 
 -- ---- parts of statements, by how statements are read
 
@@ -283,29 +297,33 @@ read_handler statement v = record { span = span_in (first v); choices = read_cho
 
 -- ---- statements, by how statements and bodies are read
 
-abbrev pub read_loop : (Node → Statement Identifier Identifier) → Span → ℕ → Node → Node → Statement Identifier Identifier
-read_loop statement p n scheme rest =
-    cond (n == 70) (s.While p (read_expression scheme) (map statement (row_in rest)))
-    (cond (n == 71) (s.For p (read_identifier (first scheme)) (read_direction (part_2 scheme)) (read_expression (part_3 scheme)) (read_expression (behind_3 scheme)) (map statement (row_in rest)))
-    (s.Loop p (map statement (row_in rest))))
+-- a raise statement, with a name or without one
+abbrev pub read_raise : Span → Node → Statement Identifier Identifier
+read_raise p v = cond (is_none v) (s.RaiseAgain p) (s.Raise p (read_mark (second v)))
 
-abbrev pub statement_tagged : (Node → Statement Identifier Identifier) → (Node → Body Identifier Identifier) → Span → ℕ → Node → Statement Identifier Identifier
-statement_tagged statement body p n v =
-    cond (n == 30) (s.Assignment p (read_name read_expression (first v)) (read_expression (second v)))
-    (cond (n == 31) (s.Call p (read_name read_expression v))
-    (cond (n == 60) (s.Null p)
-    (cond (n == 61) (s.Exit p (read_optional read_expression v))
-    (cond (n == 62) (s.Return p (read_optional read_expression v))
-    (cond (n == 63) (cond (is_none v) (s.RaiseAgain p) (s.Raise p (read_mark (second v))))
-    (cond (n == 64) (s.If p (read_branch statement (first (first v))) (map (read_branch statement) (row_in (second (first v)))) (map statement (row_in (second v))))
-    (cond (n == 65) (read_loop statement p (tag_in (first v)) (tagged_part (first v)) (second v))
-    (s.Block p (body v)))))))))
+abbrev pub read_loop : (Node → Statement Identifier Identifier) → Span → Node → Node → Statement Identifier Identifier
+read_loop statement p (tag labels.While v) rest = s.While p (read_expression v) (map statement (row_in rest))
+read_loop statement p (tag labels.For v) rest = s.For p (read_identifier (first v)) (read_direction (part_2 v)) (read_expression (part_3 v)) (read_expression (behind_3 v)) (map statement (row_in rest))
+read_loop statement p _ rest = s.Loop p (map statement (row_in rest))
+
+-- a statement from its place and what stands there
+abbrev pub statement_at : (Node → Statement Identifier Identifier) → (Node → Body Identifier Identifier) → Span → Node → Statement Identifier Identifier
+statement_at statement body p (tag labels.NullStatement v) = s.Null p
+statement_at statement body p (tag labels.Assignment v) = s.Assignment p (read_name read_expression (first v)) (read_expression (second v))
+statement_at statement body p (tag labels.Call v) = s.Call p (read_name read_expression v)
+statement_at statement body p (tag labels.Exit v) = s.Exit p (read_optional read_expression v)
+statement_at statement body p (tag labels.Return v) = s.Return p (read_optional read_expression v)
+statement_at statement body p (tag labels.Raise v) = read_raise p v
+statement_at statement body p (tag labels.If v) = s.If p (read_branch statement (first (first v))) (map (read_branch statement) (row_in (second (first v)))) (map statement (row_in (second v)))
+statement_at statement body p (tag labels.Loop v) = read_loop statement p (first v) (second v)
+statement_at statement body p (tag labels.Block v) = s.Block p (body v)
+statement_at statement body p _ = s.Null p
 
 -- statements, bodies and items of nodes of less than this size
 abbrev mutual
   pub read_statement_below : ℕ → Node → Statement Identifier Identifier
   read_statement_below zero v = s.Null nowhere
-  read_statement_below (suc n) v = statement_tagged (read_statement_below n) (read_body_below n) (span_in (first v)) (tag_in (second v)) (tagged_part (second v))
+  read_statement_below (suc n) v = statement_at (read_statement_below n) (read_body_below n) (span_in (first v)) (second v)
 
   pub read_body_below : ℕ → Node → Body Identifier Identifier
   read_body_below zero v = roll-Body Identifier Identifier (record { items = []; statements = []; handlers = [] })
@@ -313,18 +331,19 @@ abbrev mutual
 
   pub read_item_below : ℕ → Node → Item Identifier Identifier
   read_item_below zero v = roll-Item Identifier Identifier (record { span = nowhere; kind = item.Exceptions [] })
-  read_item_below (suc n) v = roll-Item Identifier Identifier (record { span = span_in (first v); kind = kind_tagged (read_body_below n) (tag_in (second v)) (tagged_part (second v)) })
+  read_item_below (suc n) v = roll-Item Identifier Identifier (record { span = span_in (first v); kind = read_kind (read_body_below n) (second v) })
 
 abbrev pub read_body : Node → Body Identifier Identifier
 read_body v = read_body_below (suc (size v)) v
 
 -- ---- the whole
 
-abbrev pub context_numbered : ℕ → ContextKind
-context_numbered n = cond (n == 0) context_kind.With context_kind.Use
+abbrev pub read_context_kind : Node → ContextKind
+read_context_kind (tag labels.With v) = context_kind.With
+read_context_kind _ = context_kind.Use
 
 abbrev pub read_context : Node → Context
-read_context v = record { span = span_in (first (first v)); kind = context_numbered (number_in (second (first v))); units = map read_mark (row_in (second v)) }
+read_context v = record { span = span_in (first (first v)); kind = read_context_kind (second (first v)); units = map read_mark (row_in (second v)) }
 
 abbrev pub read_tree : Node → Tree Identifier Identifier
 read_tree v = record { contexts = map read_context (row_in (first v)); span = span_in (part_2 v); name = read_identifier (part_3 v); body = read_body (behind_3 v) }

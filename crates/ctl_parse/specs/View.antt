@@ -1,8 +1,10 @@
 -- What trees stand for.
-use Rattle.std.specs.Prelude.{ℕ, ◌==◌, Bool, true, false, ◌&&◌, not, cond, List, map, Option, Some, None}
+use Rattle.std.specs.Prelude.{◌==◌, Bool, true, false, ◌&&◌, not, cond, List, map, Option, Some, None}
 use Rattle.ctl_tree.specs.declared.span.Span.{Span}
 use Rattle.ctl_grammar.specs.Form.{Node, none, leaf, num, written, at, pair, tag}
-use Rattle.ctl_grammar.specs.Nodes.{first, second, part_2, behind_2, is_none, tagged_part, row_of}
+use Rattle.ctl_grammar.specs.Label.{Label}
+use Rattle.ctl_grammar.specs.Label as labels
+use Rattle.ctl_grammar.specs.Nodes.{alone, first, second, part_2, behind_2, is_none, tagged_part, row_of}
 use Rattle.ctl_syntax.specs.declared.name.Identifier.{Identifier}
 use Rattle.ctl_syntax.specs.declared.name.Mark.{Mark}
 use Rattle.ctl_syntax.specs.declared.name.Name.{Name}
@@ -35,25 +37,25 @@ identifier_node i = pair (written i.text) (at i.span)
 abbrev pub mark_node : Mark Identifier → Node
 mark_node m = pair (identifier_node m.first) (row_of (map identifier_node m.rest))
 
--- an attribute but Access has the number that is kept of its spelling
+-- an attribute but Access has the label that is kept of its spelling
 abbrev pub attribute_node : Span → Attribute → Node
-attribute_node p attribute.Access = tag 23 (at p)
-attribute_node p attribute.Image = tag 24 (pair (num 0) (at p))
-attribute_node p attribute.First = tag 24 (pair (num 1) (at p))
-attribute_node p attribute.Last = tag 24 (pair (num 2) (at p))
+attribute_node p attribute.Access = tag labels.Access (at p)
+attribute_node p attribute.Image = tag labels.Attribute (pair (alone labels.Image) (at p))
+attribute_node p attribute.First = tag labels.Attribute (pair (alone labels.First) (at p))
+attribute_node p attribute.Last = tag labels.Attribute (pair (alone labels.Last) (at p))
 
--- the number of an attribute's name, where it has one
-abbrev pub attribute_code : Attribute → Option ℕ
-attribute_code attribute.Access = None
-attribute_code attribute.Image = Some 0
-attribute_code attribute.First = Some 1
-attribute_code attribute.Last = Some 2
+-- the label of an attribute that an identifier names
+abbrev pub attribute_label : Attribute → Option Label
+attribute_label attribute.Access = None
+attribute_label attribute.Image = Some labels.Image
+attribute_label attribute.First = Some labels.First
+attribute_label attribute.Last = Some labels.Last
 
 -- what stands behind the beginning of a name, by what its expressions stand for
 abbrev pub suffix_node : {E : Type 0} → (E → Node) → Suffix E → Node
-suffix_node view (suffix.Selector i) = tag 20 (identifier_node i)
-suffix_node view (suffix.All p) = tag 21 (at p)
-suffix_node view (suffix.Arguments p e more) = tag 22 (pair (at p) (pair (view e) (row_of (map view more))))
+suffix_node view (suffix.Selector i) = tag labels.Selector (identifier_node i)
+suffix_node view (suffix.All p) = tag labels.All (at p)
+suffix_node view (suffix.Arguments p e more) = tag labels.Arguments (pair (at p) (pair (view e) (row_of (map view more))))
 suffix_node view (suffix.Attribute p a) = attribute_node p a
 
 abbrev pub name_node : {E : Type 0} → (E → Node) → Name Identifier E → Node
@@ -61,38 +63,29 @@ name_node view n = pair (identifier_node n.first) (row_of (map (suffix_node view
 
 -- ---- operators
 
-abbrev pub logical_code : LogicalOperator → ℕ
-logical_code logical.And = 0
-logical_code logical.Or = 1
-logical_code logical.Xor = 2
-logical_code logical.AndThen = 3
-logical_code logical.OrElse = 4
+abbrev pub logical_label : LogicalOperator → Label
+logical_label logical.And = labels.And
+logical_label logical.Or = labels.Or
+logical_label logical.Xor = labels.Xor
+logical_label logical.AndThen = labels.AndThen
+logical_label logical.OrElse = labels.OrElse
 
-abbrev pub relational_code : RelationalOperator → ℕ
-relational_code relational.Equal = 0
-relational_code relational.NotEqual = 1
-relational_code relational.Less = 2
-relational_code relational.LessEqual = 3
-relational_code relational.Greater = 4
-relational_code relational.GreaterEqual = 5
+abbrev pub relational_label : RelationalOperator → Label
+relational_label relational.Equal = labels.Equal
+relational_label relational.NotEqual = labels.NotEqual
+relational_label relational.Less = labels.Less
+relational_label relational.LessEqual = labels.LessEqual
+relational_label relational.Greater = labels.Greater
+relational_label relational.GreaterEqual = labels.GreaterEqual
 
--- The number among those that join terms, or among those that join factors. In a tree that no text has, the others may stand there
--- too, and have numbers of their own.
-abbrev pub arithmetic_code : Bool → ArithmeticOperator → ℕ
-arithmetic_code true arithmetic.Plus = 0
-arithmetic_code true arithmetic.Minus = 1
-arithmetic_code true arithmetic.Concatenate = 2
-arithmetic_code true arithmetic.Times = 3
-arithmetic_code true arithmetic.Divide = 4
-arithmetic_code true arithmetic.Mod = 5
-arithmetic_code true arithmetic.Rem = 6
-arithmetic_code false arithmetic.Times = 0
-arithmetic_code false arithmetic.Divide = 1
-arithmetic_code false arithmetic.Mod = 2
-arithmetic_code false arithmetic.Rem = 3
-arithmetic_code false arithmetic.Plus = 4
-arithmetic_code false arithmetic.Minus = 5
-arithmetic_code false arithmetic.Concatenate = 6
+abbrev pub arithmetic_label : ArithmeticOperator → Label
+arithmetic_label arithmetic.Plus = labels.Plus
+arithmetic_label arithmetic.Minus = labels.Minus
+arithmetic_label arithmetic.Concatenate = labels.Concatenate
+arithmetic_label arithmetic.Times = labels.Times
+arithmetic_label arithmetic.Divide = labels.Divide
+arithmetic_label arithmetic.Mod = labels.Mod
+arithmetic_label arithmetic.Rem = labels.Rem
 
 -- whether it joins terms
 abbrev pub is_adding : ArithmeticOperator → Bool
@@ -106,26 +99,21 @@ is_adding arithmetic.Rem = false
 
 -- a sign makes a sum of one term, a word is an operator of its own
 abbrev pub unary_node : UnaryOperator → Node → Node
-unary_node unary.Plus v = tag 8 (pair (num 0) (pair v none))
-unary_node unary.Minus v = tag 8 (pair (num 1) (pair v none))
-unary_node unary.Abs v = tag 6 (pair (num 0) v)
-unary_node unary.Not v = tag 6 (pair (num 1) v)
+unary_node unary.Plus v = tag labels.Sum (pair (alone labels.Plus) (pair v none))
+unary_node unary.Minus v = tag labels.Sum (pair (alone labels.Minus) (pair v none))
+unary_node unary.Abs v = tag labels.Unary (pair (alone labels.Abs) v)
+unary_node unary.Not v = tag labels.Unary (pair (alone labels.Not) v)
 
--- an operand of terms that are joined, or of factors, with its operator
-abbrev pub operand_node : {E : Type 0} → Bool → (E → Node) → Operand E → Node
-operand_node adding view o = pair (num (arithmetic_code adding o.operator)) (view o.operand)
+-- an operand behind its operator
+abbrev pub operand_node : {E : Type 0} → (E → Node) → Operand E → Node
+operand_node view o = pair (alone (arithmetic_label o.operator)) (view o.operand)
 
 -- ---- expressions
 
 -- whether what stands behind a place is a sign with one term
 abbrev pub is_signed_sum : Node → Bool
-is_signed_sum (tag n v) = (n == 8) && (not (is_none (first v)) && is_none (behind_2 v))
-is_signed_sum none = false
-is_signed_sum (leaf t) = false
-is_signed_sum (num n) = false
-is_signed_sum (written s) = false
-is_signed_sum (at p) = false
-is_signed_sum (pair a b) = false
+is_signed_sum (tag labels.Sum v) = not (is_none (first v)) && is_none (behind_2 v)
+is_signed_sum _ = false
 
 abbrev pub is_signed : Node → Bool
 is_signed v = is_signed_sum (second v)
@@ -156,25 +144,25 @@ is_same_place (tag n w) v = false
 -- A sum from its place, its first term and those behind it. A sign before the first term is the sum's own, where it stands at the
 -- sum's place, as in every text.
 abbrev pub sum_node : Node → Node → Node → Node
-sum_node place v more = cond (is_signed v && is_same_place place (first v)) (tag 8 (pair (first (tagged_part (second v))) (pair (part_2 (tagged_part (second v))) more))) (tag 8 (pair none (pair v more)))
+sum_node place v more = cond (is_signed v && is_same_place place (first v)) (tag labels.Sum (pair (first (tagged_part (second v))) (pair (part_2 (tagged_part (second v))) more))) (tag labels.Sum (pair none (pair v more)))
 
 -- terms or factors from their place, the first one and those behind it
 abbrev pub chain_node : Bool → Node → Node → Node → Node
 chain_node true place v more = sum_node place v more
-chain_node false place v more = tag 7 (pair v more)
+chain_node false place v more = tag labels.Product (pair v more)
 
 -- one layer of an expression, from the nodes of its parts
 abbrev pub expression_step : Expression-F Identifier Node → Node
-expression_step (Expression-F.Logical p o a b more) = pair (at p) (tag 10 (pair (num (logical_code o)) (pair a (pair b (row_of more)))))
-expression_step (Expression-F.Relation p o a b) = pair (at p) (tag 9 (pair (num (relational_code o)) (pair a b)))
-expression_step (Expression-F.Chain p a o more) = pair (at p) (chain_node (is_adding o.operator) (at p) a (pair (operand_node (is_adding o.operator) (λ v. v) o) (row_of (map (operand_node (is_adding o.operator) (λ v. v)) more))))
+expression_step (Expression-F.Logical p o a b more) = pair (at p) (tag labels.Logical (pair (alone (logical_label o)) (pair a (pair b (row_of more)))))
+expression_step (Expression-F.Relation p o a b) = pair (at p) (tag labels.Relation (pair (alone (relational_label o)) (pair a b)))
+expression_step (Expression-F.Chain p a o more) = pair (at p) (chain_node (is_adding o.operator) (at p) a (pair (operand_node (λ v. v) o) (row_of (map (operand_node (λ v. v)) more))))
 expression_step (Expression-F.Unary p o a) = pair (at p) (unary_node o a)
-expression_step (Expression-F.Number p n) = pair (at p) (tag 1 (num n))
-expression_step (Expression-F.String p s) = pair (at p) (tag 2 (written s))
-expression_step (Expression-F.Null p) = pair (at p) (tag 3 none)
-expression_step (Expression-F.Name p n) = pair (at p) (tag 4 (name_node (λ v. v) n))
-expression_step (Expression-F.Parentheses p a) = pair (at p) (tag 5 a)
-expression_step (Expression-F.New p handle mark value) = pair (at p) (tag 11 (pair (optional (name_node (λ v. v)) handle) (pair (mark_node mark) (optional (λ v. v) value))))
+expression_step (Expression-F.Number p n) = pair (at p) (tag labels.Number (num n))
+expression_step (Expression-F.String p s) = pair (at p) (tag labels.String (written s))
+expression_step (Expression-F.Null p) = pair (at p) (tag labels.Null none)
+expression_step (Expression-F.Name p n) = pair (at p) (tag labels.Name (name_node (λ v. v) n))
+expression_step (Expression-F.Parentheses p a) = pair (at p) (tag labels.Parentheses a)
+expression_step (Expression-F.New p handle mark value) = pair (at p) (tag labels.Allocator (pair (optional (name_node (λ v. v)) handle) (pair (mark_node mark) (optional (λ v. v) value))))
 
 abbrev pub view : Expression Identifier → Node
 view = fold-Expression Identifier Node expression_step
@@ -184,28 +172,28 @@ view = fold-Expression Identifier Node expression_step
 -- a relation behind its operator, if there is one
 abbrev pub compared_node : Option (RelationalOperator × Expression Identifier) → Node
 compared_node None = none
-compared_node (Some p) = pair (num (relational_code p.0)) (view p.1)
+compared_node (Some p) = pair (alone (relational_label p.0)) (view p.1)
 
 -- relations behind the first one, with their operator
 abbrev pub joined_node : LogicalOperator → Expression Identifier → List (Expression Identifier) → Node
-joined_node o a more = pair (num (logical_code o)) (pair (view a) (row_of (map view more)))
+joined_node o a more = pair (alone (logical_label o)) (pair (view a) (row_of (map view more)))
 
 abbrev pub joint_node : Option (LogicalOperator × Expression Identifier × List (Expression Identifier)) → Node
 joint_node None = none
 joint_node (Some j) = joined_node j.0 j.1 j.2
 
 -- the second operand and those behind it
-abbrev pub operands_node : Bool → Operand (Expression Identifier) × List (Operand (Expression Identifier)) → Node
-operands_node adding p = pair (operand_node adding view p.0) (row_of (map (operand_node adding view) p.1))
+abbrev pub operands_node : Operand (Expression Identifier) × List (Operand (Expression Identifier)) → Node
+operands_node p = pair (operand_node view p.0) (row_of (map (operand_node view) p.1))
 
-abbrev pub further_node : Bool → Option (Operand (Expression Identifier) × List (Operand (Expression Identifier))) → Node
-further_node adding None = none
-further_node adding (Some p) = operands_node adding p
+abbrev pub further_node : Option (Operand (Expression Identifier) × List (Operand (Expression Identifier))) → Node
+further_node None = none
+further_node (Some p) = operands_node p
 
 -- a first operand with those behind it, or alone
 abbrev pub chain_of : Node → Option (Operand (Expression Identifier) × List (Operand (Expression Identifier))) → Node
 chain_of v None = v
-chain_of v (Some p) = pair (first v) (chain_node (is_adding p.0.operator) (first v) v (operands_node (is_adding p.0.operator) p))
+chain_of v (Some p) = pair (first v) (chain_node (is_adding p.0.operator) (first v) v (operands_node p))
 
 -- whether what is behind the first operand joins terms, or factors, where there is something
 abbrev pub joins : Bool → Option (Operand (Expression Identifier) × List (Operand (Expression Identifier))) → Bool
@@ -213,21 +201,21 @@ joins adding None = true
 joins true (Some p) = is_adding p.0.operator
 joins false (Some p) = not (is_adding p.0.operator)
 
--- a sign with its place, if there is one
-abbrev pub unary_code : UnaryOperator → ℕ
-unary_code unary.Plus = 0
-unary_code unary.Minus = 1
-unary_code unary.Abs = 0
-unary_code unary.Not = 1
+abbrev pub unary_label : UnaryOperator → Label
+unary_label unary.Plus = labels.Plus
+unary_label unary.Minus = labels.Minus
+unary_label unary.Abs = labels.Abs
+unary_label unary.Not = labels.Not
 
+-- a sign with its place, if there is one
 abbrev pub sign_node : Option (UnaryOperator × Span) → Node
 sign_node None = none
-sign_node (Some s) = pair (num (unary_code s.0)) (at s.1)
+sign_node (Some s) = pair (alone (unary_label s.0)) (at s.1)
 
 -- a first term behind its sign, if there is one
 abbrev pub signed_node : Option (UnaryOperator × Span) → Node → Node
 signed_node None v = v
-signed_node (Some s) v = pair (at s.1) (tag 8 (pair (num (unary_code s.0)) (pair v none)))
+signed_node (Some s) v = pair (at s.1) (tag labels.Sum (pair (alone (unary_label s.0)) (pair v none)))
 
 abbrev pub is_sign : UnaryOperator → Bool
 is_sign unary.Plus = true

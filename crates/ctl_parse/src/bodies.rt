@@ -4,6 +4,7 @@ ghost use Rattle.std.specs.Prelude.{◌≡◌, map};
 ghost use Rattle.ctl_grammar.specs.Form.{Node, none, written, at, pair, tag, starts, nest, nest_starts};
 ghost use Rattle.ctl_grammar.specs.Form as forms;
 ghost use Rattle.ctl_grammar.specs.Grammar.{completed, completed_specification, completed_function, completed_procedure, overriding_item, function_item, behind_is, behind_name, procedure_item, item, part, completion, body};
+ghost use Rattle.ctl_grammar.specs.Label as labels;
 ghost use Rattle.ctl_grammar.specs.Nodes.{procedure_of, row_of};
 ghost use Rattle.ctl_parse.specs.Kept.{kept_here};
 ghost use Rattle.ctl_parse.specs.Parts.{completed_node, ended_node, indicator_node, item_kind_node, rest_node, specification_node, view_body, view_item};
@@ -33,7 +34,7 @@ fn subprogram(
     specification: Specification<Identifier, Identifier>,
     body: Option<Boxed<Body<Identifier, Identifier>>>,
 ) -> ItemKind<Identifier, Identifier, Boxed<Body<Identifier, Identifier>>>
-    ensures { item_kind_node view_body result ≡ tag 53 (pair (indicator_node indicator) (pair (specification_node specification) (optional view_body body))) }
+    ensures { item_kind_node view_body result ≡ tag labels.Subprogram (pair (indicator_node indicator) (pair (specification_node specification) (optional view_body body))) }
 {
     let mut specification = specification;
     specification.indicator = indicator;

@@ -1,10 +1,11 @@
 //! Objects, exceptions and instances (RM 3.3.1, 11.1, 12.3), and clauses of the context (RM 10.1.2, 8.4).
 
 ghost use Rattle.std.specs.Prelude.{◌≡◌, ◌∷◌, [], map};
-ghost use Rattle.ctl_grammar.specs.Form.{none, num, at, pair, tag, starts};
+ghost use Rattle.ctl_grammar.specs.Form.{none, at, pair, tag, starts};
 ghost use Rattle.ctl_grammar.specs.Grammar.{flag, context_kind, context, contexts, objects, named_kind, named_item, instance};
-ghost use Rattle.ctl_grammar.specs.Nodes.{row_of};
-ghost use Rattle.ctl_parse.specs.Parts.{aliasing_node, association_node, constancy_node, context_code, context_node, declared_node, item_kind_node, objects_node, view_body, view_item};
+ghost use Rattle.ctl_grammar.specs.Label as labels;
+ghost use Rattle.ctl_grammar.specs.Nodes.{alone, row_of};
+ghost use Rattle.ctl_parse.specs.Parts.{aliasing_node, association_node, constancy_node, context_label, context_node, declared_node, item_kind_node, objects_node, view_body, view_item};
 ghost use Rattle.ctl_parse.specs.Reads.{Reads, sees};
 ghost use Rattle.ctl_parse.specs.View.{identifier_node, mark_node};
 
@@ -22,7 +23,7 @@ fn named_kind_of(
     names: Items<Identifier>,
     objects: Option<Objects<Identifier, Identifier>>,
 ) -> ItemKind<Identifier, Identifier, Boxed<Body<Identifier, Identifier>>>
-    ensures { item_kind_node view_body result ≡ tag 52 (pair (row_of (map identifier_node names)) (declared_node objects)) }
+    ensures { item_kind_node view_body result ≡ tag labels.NamedItem (pair (row_of (map identifier_node names)) (declared_node objects)) }
 {
     match objects {
         None => ItemKind::Exceptions(names),
@@ -36,7 +37,7 @@ fn named_kind_of(
 impl<'a> Parser<'a> {
     /// Reads `"with" | "use"`, with its place.
     fn context_kind(&mut self) -> (Span, ContextKind)
-        ensures { Reads context_kind none self.old (pair (at result.0) (num (context_code result.1))) self.new }
+        ensures { Reads context_kind none self.old (pair (at result.0) (alone (context_label result.1))) self.new }
     {
         if self.next_is(Kind::With) {
             let span = self.mark(Kind::With);

@@ -181,7 +181,7 @@ impl<'a> Parser<'a> {
             Items<Operand<Expression<Identifier>>>,
         ),
     >
-        ensures given { Reads addends none self.old (further_node true result) self.new }
+        ensures given { Reads addends none self.old (further_node result) self.new }
         ensures level { joins true result ≡ true }
     {
         if self.at_adding() {
@@ -196,7 +196,7 @@ impl<'a> Parser<'a> {
     /// Reads `ADDING term`.
     #[cycle(expressions)]
     fn addend(&mut self) -> Operand<Expression<Identifier>>
-        ensures given { Reads addend none self.old (operand_node true view result) self.new }
+        ensures given { Reads addend none self.old (operand_node view result) self.new }
         ensures level { is_adding result.operator ≡ true }
     {
         let operator = self.adding();
@@ -207,7 +207,7 @@ impl<'a> Parser<'a> {
     /// Reads `{ADDING term}` behind the second term.
     #[cycle(expressions)]
     fn next_addends(&mut self) -> Items<Operand<Expression<Identifier>>>
-        ensures { Reads addends none self.old (row_of (map (operand_node true view) result)) self.new }
+        ensures { Reads addends none self.old (row_of (map (operand_node view) result)) self.new }
     {
         let mut all = Items::new(self.alloc);
         'more: while self.at_adding() {
@@ -237,7 +237,7 @@ impl<'a> Parser<'a> {
             Items<Operand<Expression<Identifier>>>,
         ),
     >
-        ensures given { Reads multiplicands none self.old (further_node false result) self.new }
+        ensures given { Reads multiplicands none self.old (further_node result) self.new }
         ensures level { joins false result ≡ true }
     {
         if self.at_multiplying() {
@@ -252,7 +252,7 @@ impl<'a> Parser<'a> {
     /// Reads `MULTIPLYING factor`.
     #[cycle(expressions)]
     fn multiplicand(&mut self) -> Operand<Expression<Identifier>>
-        ensures given { Reads multiplicand none self.old (operand_node false view result) self.new }
+        ensures given { Reads multiplicand none self.old (operand_node view result) self.new }
         ensures level { not (is_adding result.operator) ≡ true }
     {
         let operator = self.multiplying();
@@ -263,7 +263,7 @@ impl<'a> Parser<'a> {
     /// Reads `{MULTIPLYING factor}` behind the second factor.
     #[cycle(expressions)]
     fn next_multiplicands(&mut self) -> Items<Operand<Expression<Identifier>>>
-        ensures { Reads multiplicands none self.old (row_of (map (operand_node false view) result)) self.new }
+        ensures { Reads multiplicands none self.old (row_of (map (operand_node view) result)) self.new }
     {
         let mut all = Items::new(self.alloc);
         'more: while self.at_multiplying() {

@@ -1,10 +1,10 @@
 //! Headings of subprograms, and lists in parentheses (RM 6.1, 12.3).
 
 ghost use Rattle.std.specs.Prelude.{◌≡◌, ◌&&◌, ◌∷◌, [], MatchOption, map, true, false};
-ghost use Rattle.ctl_grammar.specs.Form.{none, num, at, pair, word, act, nest, ◌▸◌, Formals, Associations};
+ghost use Rattle.ctl_grammar.specs.Form.{none, at, pair, word, act, nest, ◌▸◌, Formals, Associations};
 ghost use Rattle.ctl_grammar.specs.Grammar.{apart, expression, identifier, next_identifier, next_identifiers, identifiers, mode_behind_in, mode, formal, next_formal, formal_list, in_formals, optional_formals, procedure, function, specification, association, next_association, association_list, optional_associations, body};
-ghost use Rattle.ctl_grammar.specs.Nodes.{first, second, row_of, is_none, is_bare, bare_of};
-ghost use Rattle.ctl_parse.specs.Parts.{association_node, formal_node, mode_code, placed_node, specification_node};
+ghost use Rattle.ctl_grammar.specs.Nodes.{alone, first, second, row_of, is_none, is_bare, bare_of};
+ghost use Rattle.ctl_parse.specs.Parts.{association_node, formal_node, mode_label, placed_node, specification_node};
 ghost use Rattle.ctl_parse.specs.Reads.{Reads, sees};
 ghost use Rattle.ctl_parse.specs.View.{identifier_node, view};
 
@@ -80,7 +80,7 @@ impl<'a> Parser<'a> {
 
     /// Reads `["in"] ["out"]` (RM 6.2).
     fn mode(&mut self) -> Mode
-        ensures { Reads mode none self.old (num (mode_code result)) self.new }
+        ensures { Reads mode none self.old (alone (mode_label result)) self.new }
     {
         if self.next_is(Kind::In) {
             self.skip(Kind::In);
@@ -95,7 +95,7 @@ impl<'a> Parser<'a> {
 
     /// Reads `["out"]` behind `in`.
     fn mode_behind_in(&mut self) -> Mode
-        ensures { Reads mode_behind_in none self.old (num (mode_code result)) self.new }
+        ensures { Reads mode_behind_in none self.old (alone (mode_label result)) self.new }
     {
         if self.next_is(Kind::Out) {
             self.skip(Kind::Out);

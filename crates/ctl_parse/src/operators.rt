@@ -1,12 +1,12 @@
 //! Operators, literals, and what stands behind names without a parenthesis (RM 4).
 
 ghost use Rattle.std.specs.Prelude.{◌≡◌, MatchOption, Some, true, false, not};
-ghost use Rattle.ctl_grammar.specs.Form.{none, num, at, pair, tag, starts, act, alt};
+ghost use Rattle.ctl_grammar.specs.Form.{none, starts, act, alt};
 ghost use Rattle.ctl_grammar.specs.Grammar.{second_word, joiner, relational, sign, adding, multiplying, number, string, null, selection, spot, identifier, attribute, attributes, is_among, known, suffix};
-ghost use Rattle.ctl_grammar.specs.Nodes.{all_of_access, attribute_of, selector_of};
-ghost use Rattle.ctl_parse.specs.Kept.{attribute_number};
+ghost use Rattle.ctl_grammar.specs.Nodes.{alone, all_of_access, attribute_of, selector_of};
+ghost use Rattle.ctl_parse.specs.Kept.{spelled_attribute};
 ghost use Rattle.ctl_parse.specs.Reads.{Reads, sees};
-ghost use Rattle.ctl_parse.specs.View.{arithmetic_code, attribute_code, is_adding, relational_code, sign_node, signs, suffix_node, view};
+ghost use Rattle.ctl_parse.specs.View.{arithmetic_label, attribute_label, is_adding, relational_label, sign_node, signs, suffix_node, view};
 
 use crate::cursor::{NOWHERE, Parser};
 use ctl_grammar::joining::{first_word, joins};
@@ -23,7 +23,7 @@ use ctl_tree::token::Kind;
 
 /// Gives the attribute of this name, of those that an identifier names. Case does not count.
 fn attribute_named(name: &[u8]) -> Option<Attribute>
-    ensures { MatchOption result (is_among attributes name.now ≡ false) (λ a. (is_among attributes name.now ≡ true) × (attribute_code a ≡ Some (attribute_number name.now))) }
+    ensures { MatchOption result (is_among attributes name.now ≡ false) (λ a. (is_among attributes name.now ≡ true) × (attribute_label a ≡ Some (spelled_attribute name.now))) }
 {
     if is_same_name(b"image", name) {
         Some(Attribute::Image)
@@ -112,7 +112,7 @@ impl<'a> Parser<'a> {
 
     /// Reads a relational operator (RM 4.5.2).
     pub(crate) fn relational(&mut self) -> RelationalOperator
-        ensures { Reads relational none self.old (num (relational_code result)) self.new }
+        ensures { Reads relational none self.old (alone (relational_label result)) self.new }
     {
         if self.next_is(Kind::Equal) {
             self.skip(Kind::Equal);
@@ -153,7 +153,7 @@ impl<'a> Parser<'a> {
 
     /// Reads what joins terms (RM 4.5.3).
     pub(crate) fn adding(&mut self) -> ArithmeticOperator
-        ensures given { Reads adding none self.old (num (arithmetic_code true result)) self.new }
+        ensures given { Reads adding none self.old (alone (arithmetic_label result)) self.new }
         ensures level { is_adding result ≡ true }
     {
         if self.next_is(Kind::Plus) {
@@ -170,7 +170,7 @@ impl<'a> Parser<'a> {
 
     /// Reads what joins factors (RM 4.5.5).
     pub(crate) fn multiplying(&mut self) -> ArithmeticOperator
-        ensures given { Reads multiplying none self.old (num (arithmetic_code false result)) self.new }
+        ensures given { Reads multiplying none self.old (alone (arithmetic_label result)) self.new }
         ensures level { not (is_adding result) ≡ true }
     {
         if self.next_is(Kind::Star) {

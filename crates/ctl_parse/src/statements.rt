@@ -3,6 +3,7 @@
 ghost use Rattle.std.specs.Prelude.{◌≡◌, map};
 ghost use Rattle.ctl_grammar.specs.Form.{none, at, pair, tag, many, nest, Conditional, Repetition, Block};
 ghost use Rattle.ctl_grammar.specs.Grammar.{statement, statements, branch, next_branch, otherwise, handler, handler_list, handlers, handled, declared, body};
+ghost use Rattle.ctl_grammar.specs.Label as labels;
 ghost use Rattle.ctl_grammar.specs.Nodes.{or_else, row_of};
 ghost use Rattle.ctl_parse.specs.Parts.{branch_node, handler_node, place_node, scheme_node, view_body, view_item, view_statement};
 ghost use Rattle.ctl_parse.specs.Reads.{Builds, Reads};
@@ -31,7 +32,7 @@ fn looped(
     scheme: Scheme,
     statements: Items<Statement<Identifier, Identifier>>,
 ) -> Statement<Identifier, Identifier>
-    ensures { view_statement result ≡ pair (at span) (tag 65 (pair (scheme_node scheme) (row_of (map view_statement statements)))) }
+    ensures { view_statement result ≡ pair (at span) (tag labels.Loop (pair (scheme_node scheme) (row_of (map view_statement statements)))) }
 {
     match scheme {
         Scheme::Endless => Statement::Loop(span, statements),
@@ -50,7 +51,7 @@ impl<'a> Parser<'a> {
         span: Span,
         body: Body<Identifier, Identifier>,
     ) -> Statement<Identifier, Identifier>
-        ensures { Builds (pair (at span) (tag 66 (view_body body))) self.old (view_statement result) self.new }
+        ensures { Builds (pair (at span) (tag labels.Block (view_body body))) self.old (view_statement result) self.new }
     {
         match self.boxed(body) {
             Some(body) => Statement::Block(span, body),

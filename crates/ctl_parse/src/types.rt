@@ -3,6 +3,7 @@
 ghost use Rattle.std.specs.Prelude.{◌≡◌, ◌∷◌, [], map};
 ghost use Rattle.ctl_grammar.specs.Form.{Node, none, pair, tag};
 ghost use Rattle.ctl_grammar.specs.Grammar.{flag, optional_value, component, component_list, components, null_record, full_record, recorded, limited_record, extension, aspect, designated_attribute, access, definition, defined, type_kind, type_item, clause};
+ghost use Rattle.ctl_grammar.specs.Label as labels;
 ghost use Rattle.ctl_grammar.specs.Nodes.{row_of};
 ghost use Rattle.ctl_parse.specs.Parts.{aspect_node, components_node, defined_node, definition_node, generality_node, item_kind_node, view_body, view_item};
 ghost use Rattle.ctl_parse.specs.Reads.{Reads};
@@ -31,7 +32,7 @@ fn type_kind_of(
     name: Identifier,
     defined: Defined,
 ) -> ItemKind<Identifier, Identifier, Boxed<Body<Identifier, Identifier>>>
-    ensures { item_kind_node view_body result ≡ tag 50 (pair (identifier_node name) (defined_node defined)) }
+    ensures { item_kind_node view_body result ≡ tag labels.TypeItem (pair (identifier_node name) (defined_node defined)) }
 {
     match defined {
         Defined::Incomplete(taggedness) => ItemKind::Incomplete(name, taggedness),

@@ -1,7 +1,8 @@
-use Rattle.std.proofs.Common.{true, false, refl, sym, ap, ◌∙◌}
-use Rattle.ctl_grammar.specs.Form.{none, num, pair, tag}
+use Rattle.std.proofs.Common.{refl, sym, ap, ◌∙◌}
+use Rattle.ctl_grammar.specs.Form.{none, pair, tag}
 use Rattle.ctl_grammar.specs.Grammar.{addend, addends, adding, allocator, behind_and, behind_or, body, compared, expression, expressions, factor, handle, identifier, joined, joiner, multiplicand, multiplicands, multiplying, name, next_expression, next_relation, null, number, primary, qualified, relation, relational, relations, selection, simple, string, suffix, suffixes, term}
-use Rattle.ctl_grammar.specs.Nodes.{first, second, part_2, behind_2, part_3, behind_3, name_of, parentheses_of, unary_of, product_of, sum_of, relation_of, logical_of, allocator_of, arguments_of}
+use Rattle.ctl_grammar.specs.Label as labels
+use Rattle.ctl_grammar.specs.Nodes.{alone, first, second, part_2, behind_2, part_3, behind_3, name_of, parentheses_of, unary_of, product_of, sum_of, relation_of, logical_of, allocator_of, arguments_of}
 use Rattle.ctl_parse.specs.Kept.{kept}
 use Rattle.ctl_parse.specs.View.{view, operand_node, suffix_node, chain_of}
 use Rattle.ctl_parse.proofs.Steps.{then, making, making_2, building, building_as, built_from, built_before, moving, being, choosing, passing, staying, nesting, barring, sound_from, kept_first, kept_second, kept_name, kept_parentheses, kept_product, kept_sum_parts, kept_allocator, kept_relation, kept_logical}
@@ -23,7 +24,7 @@ joined-returns-then-next_is-2 t c = passing (sym c.next_is.ensures ∙ c.if-next
 
 pub joined-returns-then-next_is-3 : goal.joined-returns-then-next_is-3
 unfolding joined
-joined-returns-then-next_is-3 t c = passing (sym c.next_is.ensures ∙ c.if-next_is.false) (passing (sym c.next_is-else-next_is.ensures ∙ c.if-next_is-2.false) (choosing (sym c.next_is-else-next_is-2.ensures ∙ c.if-next_is-3.true) (making_2 (λ v. pair (num 2) (second v)) (λ x y. refl) c.skip-then-next_is-3.ensures c.relations-second.ensures)))
+joined-returns-then-next_is-3 t c = passing (sym c.next_is.ensures ∙ c.if-next_is.false) (passing (sym c.next_is-else-next_is.ensures ∙ c.if-next_is-2.false) (choosing (sym c.next_is-else-next_is-2.ensures ∙ c.if-next_is-3.true) (making_2 (λ v. pair (alone labels.Xor) (second v)) (λ x y. refl) c.skip-then-next_is-3.ensures c.relations-second.ensures)))
 
 pub joined-returns-else-next_is-3 : goal.joined-returns-else-next_is-3
 unfolding joined
@@ -31,19 +32,19 @@ joined-returns-else-next_is-3 t c = passing (sym c.next_is.ensures ∙ c.if-next
 
 pub conjunction-returns-then-next_is : goal.conjunction-returns-then-next_is
 unfolding behind_and
-conjunction-returns-then-next_is t c = choosing (sym c.next_is.ensures ∙ c.if-next_is.true) (making_2 (λ v. pair (num 3) (second v)) (λ x y. refl) c.skip.ensures c.relations-second.ensures)
+conjunction-returns-then-next_is t c = choosing (sym c.next_is.ensures ∙ c.if-next_is.true) (making_2 (λ v. pair (alone labels.AndThen) (second v)) (λ x y. refl) c.skip.ensures c.relations-second.ensures)
 
 pub conjunction-returns-else-next_is : goal.conjunction-returns-else-next_is
 unfolding behind_and
-conjunction-returns-else-next_is t c = passing (sym c.next_is.ensures ∙ c.if-next_is.false) (making (λ v. pair (num 0) v) (λ v. refl) c.relations-second-else-next_is.ensures)
+conjunction-returns-else-next_is t c = passing (sym c.next_is.ensures ∙ c.if-next_is.false) (making (λ v. pair (alone labels.And) v) (λ v. refl) c.relations-second-else-next_is.ensures)
 
 pub disjunction-returns-then-next_is : goal.disjunction-returns-then-next_is
 unfolding behind_or
-disjunction-returns-then-next_is t c = choosing (sym c.next_is.ensures ∙ c.if-next_is.true) (making_2 (λ v. pair (num 4) (second v)) (λ x y. refl) c.skip.ensures c.relations-second.ensures)
+disjunction-returns-then-next_is t c = choosing (sym c.next_is.ensures ∙ c.if-next_is.true) (making_2 (λ v. pair (alone labels.OrElse) (second v)) (λ x y. refl) c.skip.ensures c.relations-second.ensures)
 
 pub disjunction-returns-else-next_is : goal.disjunction-returns-else-next_is
 unfolding behind_or
-disjunction-returns-else-next_is t c = passing (sym c.next_is.ensures ∙ c.if-next_is.false) (making (λ v. pair (num 1) v) (λ v. refl) c.relations-second-else-next_is.ensures)
+disjunction-returns-else-next_is t c = passing (sym c.next_is.ensures ∙ c.if-next_is.false) (making (λ v. pair (alone labels.Or) v) (λ v. refl) c.relations-second-else-next_is.ensures)
 
 pub relations-returns : goal.relations-returns
 unfolding relations
@@ -104,11 +105,11 @@ multiplicand-returns-clause-given t c = then c.multiplying-operator.ensures.give
 
 pub factor-returns-then-next_is : goal.factor-returns-then-next_is
 unfolding factor
-factor-returns-then-next_is t c = choosing (sym c.next_is.ensures ∙ c.if-next_is.true) (building (making_2 (unary_of 0) (λ x y. refl) c.mark-span.ensures c.primary-operand.ensures) c.unary.ensures)
+factor-returns-then-next_is t c = choosing (sym c.next_is.ensures ∙ c.if-next_is.true) (building (making_2 (unary_of labels.Abs) (λ x y. refl) c.mark-span.ensures c.primary-operand.ensures) c.unary.ensures)
 
 pub factor-returns-then-next_is-2 : goal.factor-returns-then-next_is-2
 unfolding factor
-factor-returns-then-next_is-2 t c = passing (sym c.next_is.ensures ∙ c.if-next_is.false) (choosing (sym c.next_is-else-next_is.ensures ∙ c.if-next_is-2.true) (building (making_2 (unary_of 1) (λ x y. refl) c.mark-span-then-next_is-2.ensures c.primary-operand-then-next_is-2.ensures) c.unary-then-next_is-2.ensures))
+factor-returns-then-next_is-2 t c = passing (sym c.next_is.ensures ∙ c.if-next_is.false) (choosing (sym c.next_is-else-next_is.ensures ∙ c.if-next_is-2.true) (building (making_2 (unary_of labels.Not) (λ x y. refl) c.mark-span-then-next_is-2.ensures c.primary-operand-then-next_is-2.ensures) c.unary-then-next_is-2.ensures))
 
 pub factor-returns-else-next_is-2 : goal.factor-returns-else-next_is-2
 unfolding factor
@@ -178,7 +179,7 @@ in_enclosed-returns t c = making_2 (λ v. pair (first v) (part_2 v)) (λ x y. ap
 
 pub in_arguments-returns : goal.in_arguments-returns
 unfolding body
-in_arguments-returns t c = making_2 (λ v. arguments_of (first v) (part_2 v)) (λ x y. ap (λ n. tag 22 (pair (kept x) n)) (kept_first y)) c.mark-span.ensures (then c.expressions-first.ensures c.skip.ensures)
+in_arguments-returns t c = making_2 (λ v. arguments_of (first v) (part_2 v)) (λ x y. ap (λ n. tag labels.Arguments (pair (kept x) n)) (kept_first y)) c.mark-span.ensures (then c.expressions-first.ensures c.skip.ensures)
 
 pub qualified-returns-then-next_is : goal.qualified-returns-then-next_is
 unfolding qualified
@@ -238,7 +239,7 @@ next_addends-more-smaller t c = smaller refl (sym c.at_adding.ensures ∙ c.more
 
 pub next_addends-more-preserved : goal.next_addends-more-preserved
 unfolding addends addend adding
-next_addends-more-preserved t c = gathering (operand_node true view) c.more.invariant refl (sym c.at_adding.ensures ∙ c.more-test.true) c.addend-next.ensures.given c.push.ensures
+next_addends-more-preserved t c = gathering (operand_node view) c.more.invariant refl (sym c.at_adding.ensures ∙ c.more-test.true) c.addend-next.ensures.given c.push.ensures
 
 pub next_addends-returns : goal.next_addends-returns
 unfolding addends addend adding
@@ -254,7 +255,7 @@ next_multiplicands-more-smaller t c = smaller refl (sym c.at_multiplying.ensures
 
 pub next_multiplicands-more-preserved : goal.next_multiplicands-more-preserved
 unfolding multiplicands multiplicand multiplying
-next_multiplicands-more-preserved t c = gathering (operand_node false view) c.more.invariant refl (sym c.at_multiplying.ensures ∙ c.more-test.true) c.multiplicand-next.ensures.given c.push.ensures
+next_multiplicands-more-preserved t c = gathering (operand_node view) c.more.invariant refl (sym c.at_multiplying.ensures ∙ c.more-test.true) c.multiplicand-next.ensures.given c.push.ensures
 
 pub next_multiplicands-returns : goal.next_multiplicands-returns
 unfolding multiplicands multiplicand multiplying

@@ -1,4 +1,4 @@
-use Rattle.std.proofs.Common.{◌+◌, ◌*◌, true, false, map}
+use Rattle.std.proofs.Common.{◌+◌, ◌*◌, map}
 use Rattle.ctl_grammar.specs.Form.{none, many}
 use Rattle.ctl_grammar.specs.Grammar.{addend, addends, multiplicand, multiplicands, next_expression, next_relation, suffix, suffixes}
 use Rattle.ctl_parse.specs.Reads.{Gathers, pending}
@@ -12,13 +12,13 @@ abbrev pub decreases-next_relations-more : goal.decreases-next_relations-more
 decreases-next_relations-more l = pending l.self
 
 abbrev pub invariant-next_addends-more : goal.invariant-next_addends-more
-invariant-next_addends-more l = Gathers (addends) (addend) none l.fn.self (map (operand_node true view) l.all) l.self
+invariant-next_addends-more l = Gathers (addends) (addend) none l.fn.self (map (operand_node view) l.all) l.self
 
 abbrev pub decreases-next_addends-more : goal.decreases-next_addends-more
 decreases-next_addends-more l = pending l.self
 
 abbrev pub invariant-next_multiplicands-more : goal.invariant-next_multiplicands-more
-invariant-next_multiplicands-more l = Gathers (multiplicands) (multiplicand) none l.fn.self (map (operand_node false view) l.all) l.self
+invariant-next_multiplicands-more l = Gathers (multiplicands) (multiplicand) none l.fn.self (map (operand_node view) l.all) l.self
 
 abbrev pub decreases-next_multiplicands-more : goal.decreases-next_multiplicands-more
 decreases-next_multiplicands-more l = pending l.self

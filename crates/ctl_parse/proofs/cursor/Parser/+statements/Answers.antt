@@ -1,6 +1,7 @@
 use Rattle.ctl_grammar.proofs.Late.{function_here, function_past, procedure_here, procedure_past, specification_here, specification_past}
 use Rattle.ctl_grammar.specs.Form.{at, leaf, none, pair, tag, written}
 use Rattle.ctl_grammar.specs.Grammar.{behind, behind_is, behind_name, body, branch, branches, clause, completed, completed_function, completed_procedure, completed_specification, completion, declared, end_name, exit_statement, function, function_item, handled, handler, handler_list, handlers, identifier, identifiers, instance, item, name, named_item, named_statement, next_branch, null_statement, otherwise, overriding_item, part, procedure_item, raise_statement, return_statement, statement, statements, type_item}
+use Rattle.ctl_grammar.specs.Label as labels
 use Rattle.ctl_grammar.specs.Nodes.{behind_2, behind_3, first, identifier_of, no, or_else, part_2, part_2_letters, part_3, part_5, procedure_of, row_of, second, yes}
 use Rattle.ctl_grammar.specs.Reading.{read}
 use Rattle.ctl_parse.proofs.Forms.{bounding, elsewhere, inside, setting}
@@ -71,7 +72,7 @@ conditional-returns-else-open t c = barring c.next_is-is_next.ensures (c.open.en
 
 pub in_conditional-returns : goal.in_conditional-returns
 unfolding body branches
-in_conditional-returns t c = being (view_if _ _ _ _) (making (λ v. pair (first v) (tag 64 (pair (part_2 v) (part_3 v)))) (λ v. paired (kept_first v) (ap (tag 64) (paired (kept_part_2 v) (kept_part_3 v)))) (then c.mark-span.ensures (then (then c.branch-first.ensures c.next_branches-more.ensures) (then c.otherwise-others.ensures c.end_if.ensures))))
+in_conditional-returns t c = being (view_if _ _ _ _) (making (λ v. pair (first v) (tag labels.If (pair (part_2 v) (part_3 v)))) (λ v. paired (kept_first v) (ap (tag labels.If) (paired (kept_part_2 v) (kept_part_3 v)))) (then c.mark-span.ensures (then (then c.branch-first.ensures c.next_branches-more.ensures) (then c.otherwise-others.ensures c.end_if.ensures))))
 
 pub branch-returns : goal.branch-returns
 unfolding branch
@@ -113,7 +114,7 @@ repetition-returns-else-open t c = barring c.at_repetition-is_next.ensures (c.op
 
 pub in_repetition-returns : goal.in_repetition-returns
 unfolding body
-in_repetition-returns t c = being (c.looped.ensures ∙ ap (λ p. pair p (tag 65 (pair (scheme_node c.scheme-start.result.1) (row_of (map view_statement c.statements-statements.result))))) c.earlier-span.ensures) (making (λ v. pair (or_else (first (first v)) (part_2 v)) (tag 65 (pair (second (first v)) (part_3 v)))) kept_looped (then c.scheme-start.ensures (then c.mark-word.ensures (then c.statements-statements.ensures c.end_loop.ensures))))
+in_repetition-returns t c = being (c.looped.ensures ∙ ap (λ p. pair p (tag labels.Loop (pair (scheme_node c.scheme-start.result.1) (row_of (map view_statement c.statements-statements.result))))) c.earlier-span.ensures) (making (λ v. pair (or_else (first (first v)) (part_2 v)) (tag labels.Loop (pair (second (first v)) (part_3 v)))) kept_looped (then c.scheme-start.ensures (then c.mark-word.ensures (then c.statements-statements.ensures c.end_loop.ensures))))
 
 pub block-returns-then-open : goal.block-returns-then-open
 block-returns-then-open t c = nesting c.at_block-is_next.ensures (c.open.ensures.opened c.if-open.true) c.in_block-inside.ensures c.close.ensures.left (ap (λ r. r.now) c.close.ensures.rest) c.close.ensures.fault
@@ -123,7 +124,7 @@ block-returns-else-open t c = barring c.at_block-is_next.ensures (c.open.ensures
 
 pub in_block-returns : goal.in_block-returns
 unfolding body
-in_block-returns t c = building (making (λ v. pair (or_else (first (first v)) (part_2 v)) (tag 66 (pair (second (first v)) (part_3 v)))) kept_blocked (then c.declared-start.ensures (then c.mark-word.ensures (then c.handled-statements.ensures (then c.skip.ensures c.skip-2.ensures))))) (building_as (λ z. paired (sym c.earlier-span.ensures) (ap (tag 66) (sym (view_of_body _ _ _)))) c.blocked.ensures)
+in_block-returns t c = building (making (λ v. pair (or_else (first (first v)) (part_2 v)) (tag labels.Block (pair (second (first v)) (part_3 v)))) kept_blocked (then c.declared-start.ensures (then c.mark-word.ensures (then c.handled-statements.ensures (then c.skip.ensures c.skip-2.ensures))))) (building_as (λ z. paired (sym c.earlier-span.ensures) (ap (tag labels.Block) (sym (view_of_body _ _ _)))) c.blocked.ensures)
 
 pub declared-returns-then-next_is : goal.declared-returns-then-next_is
 unfolding declared
@@ -207,11 +208,11 @@ item-returns-else-next_is-5 t c = passing (sym c.next_is.ensures ∙ c.if-next_i
 
 pub overriding_item-returns : goal.overriding_item-returns
 unfolding overriding_item
-overriding_item-returns t c = let e = c.completed_specification-specification.ensures in being (view_of_item _ _ ∙ ap (λ k. pair (at c.mark-span.result) k) (c.subprogram-kind.ensures ∙ ap (λ n. tag 53 (pair yes (pair (specification_node c.completed_specification-specification.result.0) n))) (sym (completed_kept c.completed_specification-specification.result.1 e.0)))) (keeping (λ v. pair (first v) (tag 53 (pair yes (second v)))) (λ v. pair (first v) (tag 53 (subprogram_part (pair yes (second v))))) (λ v. paired (kept_first v) (ap (λ n. tag 53 (subprogram_part (pair yes n))) (kept_second v))) (then c.mark-span.ensures e.1))
+overriding_item-returns t c = let e = c.completed_specification-specification.ensures in being (view_of_item _ _ ∙ ap (λ k. pair (at c.mark-span.result) k) (c.subprogram-kind.ensures ∙ ap (λ n. tag labels.Subprogram (pair yes (pair (specification_node c.completed_specification-specification.result.0) n))) (sym (completed_kept c.completed_specification-specification.result.1 e.0)))) (keeping (λ v. pair (first v) (tag labels.Subprogram (pair yes (second v)))) (λ v. pair (first v) (tag labels.Subprogram (subprogram_part (pair yes (second v))))) (λ v. paired (kept_first v) (ap (λ n. tag labels.Subprogram (subprogram_part (pair yes n))) (kept_second v))) (then c.mark-span.ensures e.1))
 
 pub function_item-returns : goal.function_item-returns
 unfolding function_item
-function_item-returns t c = let e = c.completed_function-specification.ensures in being (view_of_item _ _ ∙ ap (λ k. pair (at c.completed_function-specification.result.0.span) k) (c.subprogram-kind.ensures ∙ ap (λ n. tag 53 (pair no (pair (specification_node c.completed_function-specification.result.0) n))) (sym (completed_kept c.completed_function-specification.result.1 e.0)))) (keeping (λ v. pair (first (first v)) (tag 53 (pair no v))) (λ v. pair (first (first v)) (tag 53 (subprogram_part (pair no v)))) (λ v. paired (kept_first_first v) refl) e.1)
+function_item-returns t c = let e = c.completed_function-specification.ensures in being (view_of_item _ _ ∙ ap (λ k. pair (at c.completed_function-specification.result.0.span) k) (c.subprogram-kind.ensures ∙ ap (λ n. tag labels.Subprogram (pair no (pair (specification_node c.completed_function-specification.result.0) n))) (sym (completed_kept c.completed_function-specification.result.1 e.0)))) (keeping (λ v. pair (first (first v)) (tag labels.Subprogram (pair no v))) (λ v. pair (first (first v)) (tag labels.Subprogram (subprogram_part (pair no v)))) (λ v. paired (kept_first_first v) refl) e.1)
 
 pub completed_specification-returns : goal.completed_specification-returns
 unfolding completed_specification

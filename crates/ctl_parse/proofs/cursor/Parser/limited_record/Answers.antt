@@ -1,5 +1,6 @@
 use Rattle.ctl_grammar.specs.Form.{pair, tag}
 use Rattle.ctl_grammar.specs.Grammar.{limited_record}
+use Rattle.ctl_grammar.specs.Label as labels
 use Rattle.ctl_grammar.specs.Nodes.{second, yes}
 use Rattle.ctl_parse.proofs.Steps.{kept_second, making, then}
 use Rattle.std.proofs.Common.{ap}
@@ -7,4 +8,4 @@ use Rattle.ctl_parse.proofs.cursor.Parser.limited_record.Goals as goal
 
 pub returns : goal.returns
 unfolding limited_record
-returns c = making (λ v. tag 40 (pair yes (second v))) (λ v. ap (λ n. tag 40 (pair yes n)) (kept_second v)) (then c.skip.ensures c.recorded-components.ensures)
+returns c = making (λ v. tag labels.Record (pair yes (second v))) (λ v. ap (λ n. tag labels.Record (pair yes n)) (kept_second v)) (then c.skip.ensures c.recorded-components.ensures)

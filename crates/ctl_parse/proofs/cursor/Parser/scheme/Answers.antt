@@ -1,5 +1,6 @@
 use Rattle.ctl_grammar.specs.Form.{none, pair, tag}
 use Rattle.ctl_grammar.specs.Grammar.{for_scheme, scheme, while_scheme}
+use Rattle.ctl_grammar.specs.Label as labels
 use Rattle.ctl_parse.proofs.Steps.{choosing, making, passing, staying}
 use Rattle.std.proofs.Common.{refl, sym, ◌∙◌}
 use Rattle.ctl_parse.proofs.cursor.Parser.scheme.Goals as goal
@@ -14,4 +15,4 @@ returns-then-next_is-2 c = passing (sym c.next_is.ensures ∙ c.if-next_is.false
 
 pub returns-else-next_is-2 : goal.returns-else-next_is-2
 unfolding scheme while_scheme for_scheme
-returns-else-next_is-2 c = passing (sym c.next_is.ensures ∙ c.if-next_is.false) (passing (sym c.next_is-else-next_is.ensures ∙ c.if-next_is-2.false) (making (λ v. pair none (tag 72 none)) (λ v. refl) (staying _)))
+returns-else-next_is-2 c = passing (sym c.next_is.ensures ∙ c.if-next_is.false) (passing (sym c.next_is-else-next_is.ensures ∙ c.if-next_is-2.false) (making (λ v. pair none (tag labels.Endless none)) (λ v. refl) (staying _)))

@@ -1,5 +1,6 @@
 use Rattle.ctl_grammar.specs.Form.{pair, tag}
 use Rattle.ctl_grammar.specs.Grammar.{while_scheme}
+use Rattle.ctl_grammar.specs.Label as labels
 use Rattle.ctl_grammar.specs.Nodes.{first, second}
 use Rattle.ctl_parse.proofs.Keeping.{paired}
 use Rattle.ctl_parse.proofs.Steps.{kept_first, kept_second, making, then}
@@ -8,4 +9,4 @@ use Rattle.ctl_parse.proofs.cursor.Parser.while_scheme.Goals as goal
 
 pub returns : goal.returns
 unfolding while_scheme
-returns c = making (λ v. pair (first v) (tag 70 (second v))) (λ v. paired (kept_first v) (ap (tag 70) (kept_second v))) (then c.mark-span.ensures c.expression-condition.ensures)
+returns c = making (λ v. pair (first v) (tag labels.While (second v))) (λ v. paired (kept_first v) (ap (tag labels.While) (kept_second v))) (then c.mark-span.ensures c.expression-condition.ensures)
