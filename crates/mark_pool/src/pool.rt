@@ -54,11 +54,12 @@ pub struct MarkPool<A: Allocator = Global> {
     top: StandingMark,
     // From the oldest on.
     older: ArrayVec<StandingMark, 9>,
-    issued: u64,
+    // The number that was issued last, as each below it was.
+    last: u64,
 }
 
 impl<A: Allocator> Model for MarkPool<A> {
-    ghost use Rattle.std.specs.Prelude.{map};
+    ghost use Rattle.std.specs.Prelude.{◌+◌, map};
     ghost use Rattle.mark_pool.specs.Marks.{Marks, marks_code, seen_mark, Stands, Counts};
 
     ghost Value = { Marks };
@@ -71,7 +72,7 @@ impl<A: Allocator> Model for MarkPool<A> {
       used = p.used;
       top = seen_mark p.top;
       older = map seen_mark p.older.items;
-      issued = p.issued;
+      issued = p.last + 1;
     } };
 
     ghost invariant = { λ p. Stands p.region p.size p.used p.top p.older.items
@@ -103,7 +104,7 @@ impl<A: Allocator> MarkPool<A> {
                 out_below: 0,
             },
             older: ArrayVec::new(),
-            issued: 1,
+            last: 0,
         })
     }
 
@@ -153,28 +154,28 @@ impl<A: Allocator> MarkPool<A> {
 
     /// Returns whether there is a number left for another mark.
     pub fn has_mark_numbers(&self) -> bool
-        ensures { IsTrue result ↔ self.now.issued + 1 < 2 ^ 64 }
+        ensures { IsTrue result ↔ self.now.issued < 2 ^ 64 }
     {
-        self.issued < u64::MAX
+        self.last < u64::MAX
     }
 
     /// Makes a mark at the words used so far, under a new number, or returns `None` if ten marks stand.
     pub fn mark(&mut self) -> Option<MarkNo>
-        requires { self.old.issued + 1 < 2 ^ 64 }
+        requires { self.old.issued < 2 ^ 64 }
         ensures { MatchOption result (IsFull self.old × (self.new ≡ self.old))
             (λ n. (¬ IsFull self.old) × (n.0 ≡ self.old.issued) × (self.new ≡ with_mark self.old)) }
     {
         if self.older.len() == 9 {
             return None;
         }
-        let number = self.issued;
+        let number = self.last + 1;
         self.older.push(self.top);
         self.top = StandingMark {
             number,
             start: self.used,
             out_below: self.out,
         };
-        self.issued += 1;
+        self.last = number;
         Some(MarkNo(number))
     }
 
@@ -212,7 +213,7 @@ impl<A: Allocator> MarkPool<A> {
     /// mark is dropped. The first mark stays, under a new number.
     pub fn release(&mut self)
         requires back { IsTopBack self.old }
-        requires numbers { self.old.issued + 1 < 2 ^ 64 }
+        requires numbers { self.old.issued < 2 ^ 64 }
         ensures used { self.new.used ≡ self.old.top.start }
         ensures places { (self.new.home ≡ self.old.home) × (self.new.places ≡ self.old.places) }
         ensures first { self.old.older ≡ [] → IsEmptied self.old self.new }
@@ -222,8 +223,8 @@ impl<A: Allocator> MarkPool<A> {
         match self.older.pop() {
             Some(mark) => self.top = mark,
             None => {
-                self.top.number = self.issued;
-                self.issued += 1;
+                self.last += 1;
+                self.top.number = self.last;
             }
         }
     }
@@ -239,7 +240,7 @@ impl<A: Allocator> MarkPool<A> {
             out: _,
             top: _,
             older: _,
-            issued: _,
+            last: _,
         } = self;
         region.close();
     }

@@ -178,6 +178,6 @@ pub record Stands {A : Type 0} (pool : Marks) (units given capacity : ℕ) (rows
   pub fits : pool.used ≤ length pool.places
   pub size : length pool.places ≡ units / 8
   pub marks : map (λ (r : Subpool A). r.start) rows ≡ map (λ (m : Mark). m.start) (pool.older ++ pool.top ∷ [])
-  pub issued : pool.issued ≤ given
+  pub issued : pool.issued ≤ given + 1
   pub few : length rows ≤ 10
   pub room : 10 ≤ capacity

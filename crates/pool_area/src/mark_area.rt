@@ -49,8 +49,7 @@ impl<A: Allocator + Copy> MarkArea<A> {
     ///
     /// Returns `AllocError` if the allocator refuses the memory.
     pub fn new(alloc: A, units: u64, number: u64) -> Result<MarkArea<A>, AllocError>
-        requires size { IsMarkSize units }
-        requires positive { 0 < number }
+        requires { IsMarkSize units }
         ensures { IfOk result (λ a. a ≡ new_area units number) }
     {
         let mut subpools = Vec::with_capacity(alloc, 10)?;
