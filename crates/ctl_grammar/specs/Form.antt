@@ -11,10 +11,12 @@ use Rattle.ctl_grammar.specs.Label.{Label}
 pub data Node : Type 0 where
   none : Node
   leaf : Token → Node
+  -- the value of a number
   num : ℕ → Node
   written : List ℕ → Node
   at : Span → Node
   pair : Node → Node → Node
+  -- a construct or a word, by its label
   tag : Label → Node → Node
 
 -- the constructs that may stand in themselves: each counts for the depth
