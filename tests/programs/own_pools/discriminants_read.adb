@@ -1,6 +1,6 @@
 --  The discriminants of pools are read (RM 3.7, 13.11): by the Initialize and the Allocate of their type, where they are those of the pool
 --  that the formal stands for; by the program, by a procedure with the pool as a formal; and for the discriminants of another pool. A
---  Storage_Count is told as the Integer that is counted up with it: that takes two objects, so that the second pool is object 6.
+--  Storage_Count is told as the Integer that is counted up with it: each time that takes two objects, so the second pool is object 6.
 with Ada.Text_IO;             use Ada.Text_IO;
 with System;                  use System;
 with System.Storage_Elements; use System.Storage_Elements;
