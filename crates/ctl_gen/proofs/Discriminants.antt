@@ -1,17 +1,16 @@
 -- Discriminants of block pools: the code of one finds the pool, and puts the discriminant where it is wanted (3.7, 13.11).
 use Rattle.std.proofs.Common.{◌≡◌, ℕ, ◌+◌, ◌≤◌, List, [], ◌∷◌, ◌++◌, length, Option, Some, None, Bool, true, false, refl, sym, ap, ◌∙◌, subst, arith, length-append}
 use Rattle.std.specs.Prelude.{if◌then◌else◌, nat_eq, slice_get}
-use Rattle.ctl_program.specs.declared.types.Ty.{Ty}
 use Rattle.ctl_program.specs.declared.types.Ty.TheVariants.{Record}
 use Rattle.ctl_program.specs.declared.expression.Actual.TheOpen.{Expr-F}
 use Rattle.ctl_tree.specs.declared.ending.Stop.TheVariants.{UseAfterFree}
-use Rattle.ctl_meaning.specs.World.{BlockPool, MarkPool, Log, Pools, World}
+use Rattle.ctl_meaning.specs.World.{BlockPool, MarkPool, Log, World}
 use Rattle.ctl_meaning.specs.Lists.{first_with}
 use Rattle.ctl_meaning.specs.Choice.{Ask}
 use Rattle.ctl_meaning.specs.Outcome.{ByRaise, Result, Goes, Leaves, Act, add, bind, on_goes, on_some, done, opened_outcome}
 use Rattle.ctl_meaning.specs.Types.{Tables}
 use Rattle.ctl_meaning.specs.Names.{Found, Call, Default, Tools, gone, object_of}
-use Rattle.ctl_meaning.specs.Pools.{block_pool_at, mark_pool_at, opened_pools}
+use Rattle.ctl_meaning.specs.Pools.{block_pool_at, opened_pools}
 use Rattle.ctl_meaning.specs.Marks.{discriminant as discriminant_of}
 use Rattle.ctl_meaning.specs.Expressions.{Naming, eval_step}
 use Rattle.ctl_meaning.specs.Finalization.{Spot}

@@ -1,6 +1,6 @@
 --  The discriminants of pools are read (RM 3.7, 13.11): by the Initialize and the Allocate of their type, where they are those of the pool
---  that the formal stands for; by the program, by procedures with the pool as a formal; and for the discriminants of another pool. A
---  Storage_Count is told as the Integer that is counted up with it.
+--  that the formal stands for; by the program, by a procedure with the pool as a formal; and for the discriminants of another pool. A
+--  Storage_Count is told as the Integer that is counted up with it: each time that takes two objects, so the second pool is object 6.
 with Ada.Text_IO;             use Ada.Text_IO;
 with System;                  use System;
 with System.Storage_Elements; use System.Storage_Elements;
@@ -8,11 +8,11 @@ with Block_Pools;             use Block_Pools;
 
 procedure Discriminants_Read is
    type Pair is record
-      A, B : Integer := 0;
+      A, B : Integer;
    end record;
 
    type Triple is record
-      A, B, C : Integer := 0;
+      A, B, C : Integer;
    end record;
 
    type Pool is new Block_Pool with record
