@@ -34,7 +34,7 @@ use Rattle.ctl_gen.proofs.FormedParts.{IsFound, steps_found}
 use Rattle.ctl_gen.proofs.Walked.{IsWalked, copied_walked, copy_reaches, value_dereferenced, variable_first, variable_walked}
 use Rattle.ctl_gen.proofs.FormedCalls.{GoodActual, GoodActuals, MayCall, MayNew, copy_good, function_own, good_as, kind_by, reference_good, value_good}
 use Rattle.ctl_gen.proofs.FormedTypes.{IsAccessType, joins_plain, joins_scalar, number_of, number_scalar, run_scalar, takes_unary}
-use Rattle.ctl_gen.proofs.FormedValues.{Conditions, Fine, Operating, access_usable, applied_own, chain_own, constant_fine, copied_own, designating_fine, fine_like, first_joins, new_own, next_condition, next_joins, next_operating, none_operating, read_own, short_own, usable_as, value_number, value_usable, discriminant_own, unary_own}
+use Rattle.ctl_gen.proofs.FormedValues.{Conditions, Fine, Operating, access_usable, applied_own, chain_own, constant_fine, copied_own, designating_fine, fine_like, first_joins, new_own, next_condition, next_joins, next_operating, none_operating, read_own, short_own, usable_as, value_number, value_usable, discriminant_own}
 
 -- as many actuals as formals
 as_many : {k : W.Setting} {env : W.Frames} {fs : List W.Formal} {actuals : List Actual} → FitEach k env fs actuals → length fs ≡ length (map actual_code actuals)

@@ -23,7 +23,7 @@ use Rattle.ctl_meaning.specs.Changes.{home_of, in_pools, is_vacant, object_at, f
 use Rattle.ctl_meaning.specs.Pools.{block_at, block_pool_at, give_block}
 use Rattle.ctl_meaning.specs.Choice.{Ask, picked}
 use Rattle.ctl_meaning.specs.Members.{member_of, is_due}
-use Rattle.ctl_meaning.specs.Outcome.{program_error, ByRaise, Result, Goes, Leaves, Out, Gives, Stops, Act, Done, Fine, add, bind, on_goes, ◌>>=◌, ◌>>◌, done, nothing, stop, counted, ticked, look, change, show, tell, either, on_some, opened_outcome}
+use Rattle.ctl_meaning.specs.Outcome.{program_error, ByRaise, Result, Goes, Leaves, Out, Gives, Stops, Act, Done, add, bind, on_goes, ◌>>=◌, ◌>>◌, done, nothing, stop, counted, ticked, look, change, show, tell, either, on_some, opened_outcome}
 use Rattle.ctl_meaning.specs.Types.{Tables, has_controlled, of_record, offset_in, operation, placed, record_of, size_of}
 use Rattle.ctl_meaning.specs.Names.{Found, Call, Default, Tools, existing, gone, moved as found_behind, read_found, read_part, scalar_of, write_found, write_part, OfSubprogram, opened_names}
 use Rattle.ctl_meaning.specs.Names as Names
@@ -34,7 +34,7 @@ use Rattle.ctl_code.specs.declared.code.Code.{Code}
 use Rattle.ctl_code.specs.declared.code.Instr.TheVariants as InstrOf
 use Rattle.ctl_code.specs.declared.code.Way.TheVariants as WayOf
 use Rattle.ctl_code.specs.declared.kinds.Kind.TheVariants.{Operand}
-use Rattle.ctl_code.specs.States.{AfterProcedure, Word, Located, Complete, Point, Nulled, NullVariable, NullPart, Frame, Freeing, State}
+use Rattle.ctl_code.specs.States.{AfterProcedure, Word, Located, Point, Nulled, NullVariable, NullPart, Frame, Freeing, State}
 use Rattle.ctl_code.specs.Table as Table
 use Rattle.ctl_code.specs.Table.{GivenBack, Returned, NotReturned, behind_free, by_free, by_free_part, component_of, enter_body, finalize_freed, finalize_typed, free_member, freed_by, freed_in, freed_part, has_part_in, object_return, operation_for, out_of, own_return, pool_return, return_to, storage_of, units_for}
 use Rattle.ctl_code.specs.Steps.{moved, step}
