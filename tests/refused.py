@@ -176,6 +176,8 @@ TEXTS = [
     (ITEM + "type N; type L is access N; type N is record X : L := null; end record; V : L; begin V := new N; V.X := V; end Main;", ACCEPTED, 1, 1),
     (ITEM + "type R is record N : Integer; end record; type P is access R; X : R; V : P; begin V := new R'(X); end Main;", ACCEPTED, 1, 1),
     (ITEM + "type R is record N : Integer; end record; type P is access R; X : R; V : P := new R'(X); begin null; end Main;", ACCEPTED, 1, 1),
+    (ITEM + "type R is record N : Integer; end record; type P is access R; V : P; function F (K : Integer) return P is begin return V; end F; begin V := new R'(F (1).all); end Main;", ACCEPTED, 1, 1),
+    (ITEM + "type R is record N : Integer; end record; type P is access R; type Q is access all R; V : P; begin V := new R'(Q (V).all); end Main;", ACCEPTED, 1, 1),
     (ITEM + "type R is record N : Integer; end record; type P is access all R; X : aliased R; V : P; begin V := X'Access; end Main;", ACCEPTED, 1, 1),
     ("with Ada.Unchecked_Deallocation; " + ITEM + "type R is record N : Integer; end record; type P is access R; procedure Free is new Ada.Unchecked_Deallocation (R, P); V : P; begin Free (V); end Main;", ACCEPTED, 1, 1),
     (ITEM + "type R is record N : Integer; end record; type P is access R; type Q is access P; V : Q; begin V := new P'(null); end Main;", 12, 1, 114),

@@ -48,7 +48,7 @@ use Rattle.ctl_code.specs.Steps.{moved, step}
 use Rattle.ctl_code.specs.Valid.{IsAllocable, IsDeclarable, storage_formals}
 use Rattle.ctl_code.specs.Windows.{depth, height}
 use Rattle.ctl_layout.specs.Around.{Line}
-use Rattle.ctl_layout.specs.Parts.{OfVariable, Reached, part_code, part_runs}
+use Rattle.ctl_layout.specs.Parts.{Reached, part_code, part_runs}
 use Rattle.ctl_layout.specs.Records.{none_allocates}
 use Rattle.ctl_layout.specs.Values.{moved_to, new, new_copy}
 use Rattle.ctl_layout.specs.Layout.{home_of}
@@ -67,9 +67,6 @@ use Rattle.ctl_gen.proofs.Calls.{point_at}
 use Rattle.ctl_gen.proofs.Expressions.{Value, moved_by}
 use Rattle.ctl_gen.proofs.Sources.{Reads}
 use Rattle.ctl_gen.proofs.PartValues.{taken_from, value_then}
-use Rattle.ctl_gen.proofs.Parts.{given_by}
-use Rattle.ctl_gen.proofs.Begun.{OnTime, Starts}
-use Rattle.ctl_gen.proofs.Walked.{start_of}
 use Rattle.ctl_gen.proofs.TakenValues as T
 use Rattle.ctl_gen.proofs.Follow.{RunsTo, add_none, at, bind_add, bind_bind, both_to, by_raise, gives, last_step_to, no_step_to, one_step_to, stop_step_to, transferred, way_of, within_to, added_to}
 
@@ -726,7 +723,7 @@ module _ (ask : Ask) (k : Tables) (code : Code) (setting : Setting k code) (call
 
   -- With the value of a part --------------------------------------------------------------------------
 
-  module _ (m : Valued) (x : Reached) (known : Reads V t x m) (none : none_allocates k.records ≡ true) (walks : part_runs x k.records ≡ true) (v : Var) (first : start_of x ≡ OfVariable v) where
+  module _ (m : Valued) (x : Reached) (known : Reads ask k code call default bound w0 t x m) (none : none_allocates k.records ≡ true) (walks : part_runs x k.records ≡ true) where
     -- the value, and then the allocator
     abbrev copied : List ℕ → Act (List ℕ)
     copied d = m V d >>= (λ v. allocated d (Some v))
@@ -769,15 +766,20 @@ module _ (ask : Ask) (k : Tables) (code : Code) (setting : Setting k code) (call
         let front = part_code x t s in
         let last : List Line = (InstrOf.NewCopy access t ty (height s), Operand (Record t) ∷ s) ∷ [] in
         let whole = (front ++ last) ++ moved_to to ty s in
-        let next = landed to.named d (place + length whole) ks ops in
-        let here = laid_back code place front (last ++ moved_to to ty s) (subst (Laid code place) (append_assoc front last (moved_to to ty s)) has) in
-        let end : place + length front + 1 + length (moved_to to ty s) ≡ place + length whole = omega (arith, length-append (front ++ last) (moved_to to ty s), length-append front last) in
-        within_to ask code Ends 0 0 8 8 (at d place ks ops l w) (suc c) next (copied d c l w) (omega arith) (omega arith)
-        (value_then ask k code setting call default t plain (λ v. allocated d (Some v)) bound w0 Ends next m x known (subst (λ b. Starts ask k code bound w0 b (given_by known.name V)) (sym first) tt) walks 8 8 (omega arith) (omega arith) s d place ks ops (suc c) c l w (subst (λ b. OnTime b (suc c) c) (sym first) (omega arith, omega arith)) (omega (arith, le)) fits long (laid_front code place front last (laid_front code place (front ++ last) (moved_to to ty s) has))
+        let p = place + 1 in
+        let next = landed to.named d (p + length whole) ks ops in
+        let here = laid_back code p front (last ++ moved_to to ty s) (subst (Laid code p) (append_assoc front last (moved_to to ty s)) has.2) in
+        let end : p + length front + 1 + length (moved_to to ty s) ≡ p + length whole = omega (arith, length-append (front ++ last) (moved_to to ty s), length-append front last) in
+        let behind : p + length whole ≡ place + length ((new_copy access t (Some x)).code to ty s) = omega arith in
+        let skipped : p + 0 ≡ p = omega arith in
+        subst (λ n. RunsTo ask code Ends 8 8 (at d place ks ops l w) (suc c) (landed to.named d n ks ops) (copied d c l w)) behind
+        (one_step_to ask code Ends 0 0 8 8 (at d place ks ops l w) (at d p ks ops l w) (suc c) c next (copied d c l w) (omega arith) (omega arith) (omega arith) (omega arith)
+        (by_code ask code d place ks ops l w (InstrOf.Skip 0) has.0 ∙ ap (λ q. at d q ks ops l w) skipped)
+        (value_then ask k code setting call default t plain (λ v. allocated d (Some v)) bound w0 Ends next m x known walks 8 8 (omega arith) (omega arith) s d p ks ops c l w (omega (arith, le)) fits long (laid_front code p front last (laid_front code p (front ++ last) (moved_to to ty s) has.2))
         (λ q c1 l1 w1 lo fits1.
-        subst (λ n. RunsTo ask code Ends 8 8 (at d (place + length front) ks (Located q ∷ ops) l1 w1) c1 (landed to.named d n ks ops) (taken_from ask k code setting call default t plain (λ v. allocated d (Some v)) q.offset (object_at q.object w1) c1 l1 w1)) end
-        (over_part q to ty s d (place + length front) ks ops c1 l1 w1 (omega (arith, lo, le)) fits1 long here))
-        (λ y c1 l1 w1 lo fits1. no_step_to ask code Ends 8 8 _ c1 0 next (Leaves (ByRaise y)) l1 w1 (fits1, tt) (landed_leaves to.named d (place + length whole) ks ops (ByRaise y) l1 w1)))
+        subst (λ n. RunsTo ask code Ends 8 8 (at d (p + length front) ks (Located q ∷ ops) l1 w1) c1 (landed to.named d n ks ops) (taken_from ask k code setting call default t plain (λ v. allocated d (Some v)) q.offset (object_at q.object w1) c1 l1 w1)) end
+        (over_part q to ty s d (p + length front) ks ops c1 l1 w1 (omega (arith, lo, le)) fits1 long here))
+        (λ y c1 l1 w1 lo fits1. no_step_to ask code Ends 8 8 _ c1 0 next (Leaves (ByRaise y)) l1 w1 (fits1, tt) (landed_leaves to.named d (p + length whole) ks ops (ByRaise y) l1 w1))))
 
     pub copied_value : Value ask k code bound w0 (new_copy access t (Some x)) (eval_step (Expr-F.New access (Record t) None (Some m)) V)
     copied_value = record {

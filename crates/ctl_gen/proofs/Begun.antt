@@ -1,6 +1,6 @@
 -- From what a name begins with to a part (4.1): a variable, or an access value that is evaluated first. What follows is said of each world that
 -- the value may leave.
-use Rattle.std.proofs.Common.{◌≡◌, ℕ, ◌+◌, ◌≤◌, List, [], ◌∷◌, ◌++◌, length, Bool, true, refl, sym, ap, ◌∙◌, subst, arith, length-append}
+use Rattle.std.proofs.Common.{◌≡◌, ℕ, ◌+◌, ◌≤◌, List, [], ◌∷◌, ◌++◌, length, Bool, true, sym, ap, ◌∙◌, subst, arith, length-append}
 use Rattle.ctl_program.specs.declared.types.Ty.TheVariants.{Record}
 use Rattle.ctl_program.specs.declared.types.RecordType.{RecordType}
 use Rattle.ctl_program.specs.declared.expression.Step.{Step}
@@ -31,15 +31,6 @@ use Rattle.ctl_gen.proofs.Worth.{both_cell}
 use Rattle.ctl_gen.proofs.Expressions.{Begins, Value}
 use Rattle.ctl_gen.proofs.Parts.{Agree, AgreePart, Puts, component_found, dereferences_value, designates, find_by, found_at, on_top, selects, stepping, variable_from}
 use Rattle.ctl_gen.proofs.Follow.{RunsTo, added_to, at, bind_add, bind_bind, one_step_to, transferred}
-
--- what was taken from the clock before: at most one before a variable, whose first step pays for it, and nothing before a value
-abbrev pub OnTime : Start → ℕ → ℕ → Type 0
-OnTime (OfVariable v) c0 c = (c ≤ c0) × (c0 ≤ c + 1)
-OnTime (OfValue runs lines) c0 c = c0 ≡ c
-
-pub on_time : (b : Start) (c : ℕ) → OnTime b c c
-on_time (OfVariable v) c = (omega arith, omega arith)
-on_time (OfValue runs lines) c = refl
 
 -- a value that is dereferenced, of which the tick of the dereference is left
 paid_once : {A : Type 0} (o : Out Found) (f : Result Found → Act Found) (g : Result Found → Act A) → bind (add 0 (bind (add 1 (add 0 o)) f)) g ≡ add 0 (add 1 (add 0 (bind (bind o f) g)))
@@ -114,39 +105,33 @@ module _ (ask : Ask) (k : Tables) (code : Code) (bound : ℕ) (w0 : World) where
           (λ y c1 l1 w1 lo fits1. added_to ask code Ends 0 b h b h _ c1 next (g (Leaves (ByRaise y)) c1 l1 w1) (omega arith) (omega arith) (left y c1 l1 w1 lo fits1))))
 
       -- what a name begins with, and the steps behind it
-      pub located_from : (b h : ℕ) (first : Start) (act : List ℕ → Act (List ℕ)) → Starts first act → (steps : List Step) (t : ℕ) (s : List Kind) (place c0 c : ℕ) (l : Log) (w : World) → OnTime first c0 c → are_followed first steps ≡ true → Agree k code steps → c ≤ bound → Since k code w0 w → IsSeen w0 d s → Laid code place (located_code first steps t s) → Follows c b h (place + length (located_code first steps t s)) → Left c b h → RunsTo ask code Ends b h (at d place ks ops l w) c0 next (bind (find_by K act steps first d c l w) g)
+      pub located_then : (b h : ℕ) (first : Start) (act : List ℕ → Act (List ℕ)) → Starts first act → (steps : List Step) (t : ℕ) (s : List Kind) (place c : ℕ) (l : Log) (w : World) → are_followed first steps ≡ true → Agree k code steps → c ≤ bound → Since k code w0 w → IsSeen w0 d s → Laid code place (located_code first steps t s) → Follows c b h (place + length (located_code first steps t s)) → Left c b h → RunsTo ask code Ends b h (at d place ks ops l w) c next (bind (find_by K act steps first d c l w) g)
       unfolding opened_outcome
-      located_from b h (OfVariable v) act begun steps t s place c0 c l w time followed agree le fits long has then left = variable_from ask code K Ends next g d ks ops c l w c0 b h v steps t s place time.0 time.1 followed agree (no_copy_at k code (master_of d v) v.slot w fits.0) long.2 has (then c l w (omega arith) fits) (left constraint_error c l w (omega arith) fits)
-      located_from b h (OfValue runs lines) act begun (Dereference ∷ steps) t s place c0 c l w time followed agree le fits long has then left =
+      located_then b h (OfVariable v) act begun steps t s place c l w followed agree le fits long has then left = variable_from ask code K Ends next g d ks ops c l w b h v steps t s place followed agree (no_copy_at k code (master_of d v) v.slot w fits.0) long.2 has (then c l w (omega arith) fits) (left constraint_error c l w (omega arith) fits)
+      located_then b h (OfValue runs lines) act begun (Dereference ∷ steps) t s place c l w followed agree le fits long has then left =
           let s0 = at d place ks ops l w in
-          let find = find_by K act (Dereference ∷ steps) (OfValue runs lines) d c l w in
           let alone : Result (List ℕ) → Act Found = on_goes (λ v. done (Alone v)) in
           let walks : Result Found → Act Found = on_goes (walk K (Dereference ∷ steps)) in
-          subst (λ n. RunsTo ask code Ends b h s0 n next (bind find g)) (sym time)
-          (subst (RunsTo ask code Ends b h s0 c next) (sym (ap (λ z. bind z g) (bind_bind (act d c l w) alone walks) ∙ bind_bind (act d c l w) (λ r c1 l1 w1. bind (alone r c1 l1 w1) walks) g))
-          (value_from b h runs lines act begun steps t s place c l w followed agree le fits long has then left))
-      located_from b h (OfValue runs lines) act begun [] t s place c0 c l w time followed agree le fits long has then left = absurd (cc followed)
-      located_from b h (OfValue runs lines) act begun (Component u i ∷ steps) t s place c0 c l w time followed agree le fits long has then left = absurd (cc followed)
-      located_from b h (OfValue runs lines) act begun (Narrow u ∷ steps) t s place c0 c l w time followed agree le fits long has then left = absurd (cc followed)
-
-      -- where nothing was taken from the clock before
-      pub located_then : (b h : ℕ) (first : Start) (act : List ℕ → Act (List ℕ)) → Starts first act → (steps : List Step) (t : ℕ) (s : List Kind) (place c : ℕ) (l : Log) (w : World) → are_followed first steps ≡ true → Agree k code steps → c ≤ bound → Since k code w0 w → IsSeen w0 d s → Laid code place (located_code first steps t s) → Follows c b h (place + length (located_code first steps t s)) → Left c b h → RunsTo ask code Ends b h (at d place ks ops l w) c next (bind (find_by K act steps first d c l w) g)
-      located_then b h first act begun steps t s place c l w = located_from b h first act begun steps t s place c c l w (on_time first c)
+          subst (RunsTo ask code Ends b h s0 c next) (sym (ap (λ z. bind z g) (bind_bind (act d c l w) alone walks) ∙ bind_bind (act d c l w) (λ r c1 l1 w1. bind (alone r c1 l1 w1) walks) g))
+          (value_from b h runs lines act begun steps t s place c l w followed agree le fits long has then left)
+      located_then b h (OfValue runs lines) act begun [] t s place c l w followed agree le fits long has then left = absurd (cc followed)
+      located_then b h (OfValue runs lines) act begun (Component u i ∷ steps) t s place c l w followed agree le fits long has then left = absurd (cc followed)
+      located_then b h (OfValue runs lines) act begun (Narrow u ∷ steps) t s place c l w followed agree le fits long has then left = absurd (cc followed)
 
     -- the same of the part that a name denotes
     module _ (g : Result Found → Act A) (d : List ℕ) (ks : List Frame) (ops : List Word) where
-      pub part_from : (b h : ℕ) (x : Reached) (act : List ℕ → Act (List ℕ)) → Starts (start_of x) act → (t : ℕ) (s : List Kind) (place c0 c : ℕ) (l : Log) (w : World) → OnTime (start_of x) c0 c → are_followed (start_of x) (steps_before x) ≡ true → AgreePart k code x → c ≤ bound → Since k code w0 w → IsSeen w0 d s → Laid code place (part_code x t s) → Follows g d ks ops c b h (place + length (part_code x t s)) → Left g d ks ops c b h → RunsTo ask code Ends b h (at d place ks ops l w) c0 next (bind (find_by K act (steps_of x) (start_of x) d c l w) g)
+      pub part_then : (b h : ℕ) (x : Reached) (act : List ℕ → Act (List ℕ)) → Starts (start_of x) act → (t : ℕ) (s : List Kind) (place c : ℕ) (l : Log) (w : World) → are_followed (start_of x) (steps_before x) ≡ true → AgreePart k code x → c ≤ bound → Since k code w0 w → IsSeen w0 d s → Laid code place (part_code x t s) → Follows g d ks ops c b h (place + length (part_code x t s)) → Left g d ks ops c b h → RunsTo ask code Ends b h (at d place ks ops l w) c next (bind (find_by K act (steps_of x) (start_of x) d c l w) g)
       unfolding opened_outcome found_behind
-      part_from b h (Variable v) act begun t s place c0 c l w time followed agree le fits long has then left = located_from g d ks ops b h (OfVariable v) act begun [] t s place c0 c l w time followed tt le fits long has then left
-      part_from b h (Object first steps) act begun t s place c0 c l w time followed agree le fits long has then left = located_from g d ks ops b h first act begun steps t s place c0 c l w time followed agree le fits long has then left
-      part_from b h (Part first steps u position) act begun t s place c0 c l w time followed agree le fits long has then left =
+      part_then b h (Variable v) act begun t s place c l w followed agree le fits long has then left = located_then g d ks ops b h (OfVariable v) act begun [] t s place c l w followed tt le fits long has then left
+      part_then b h (Object first steps) act begun t s place c l w followed agree le fits long has then left = located_then g d ks ops b h first act begun steps t s place c l w followed agree le fits long has then left
+      part_then b h (Part first steps u position) act begun t s place c l w followed agree le fits long has then left =
           let front = located_code first steps u s in
           let last : List Line = (InstrOf.Select u position t, Operand (Record u) ∷ s) ∷ [] in
           let end : place + length (part_code (Part first steps u position) t s) ≡ place + length front + 1 = omega (arith, length-append front last) in
           let offset = offset_in position (placed k u) in
           let selected : Result Found → Act A = λ r c1 l1 w1. bind (on_goes (stepping k u position) r c1 l1 w1) g in
-          subst (RunsTo ask code Ends b h (at d place ks ops l w) c0 next) (sym (ap (λ o. bind o g) (component_found K act first steps u position d c l w) ∙ bind_bind (find_by K act steps first d c l w) (on_goes (stepping k u position)) g))
-          (located_from selected d ks ops b h first act begun steps u s place c0 c l w time followed agree.0 le fits long (laid_front code place front last has)
+          subst (RunsTo ask code Ends b h (at d place ks ops l w) c next) (sym (ap (λ o. bind o g) (component_found K act first steps u position d c l w) ∙ bind_bind (find_by K act steps first d c l w) (on_goes (stepping k u position)) g))
+          (located_then selected d ks ops b h first act begun steps u s place c l w followed agree.0 le fits long (laid_front code place front last has)
           (λ c1 l1 w1 lo fits1 p.
           let q = component_of p offset position in
           let s0 = at d (place + length front) ks (Located p ∷ ops) l1 w1 in
@@ -155,7 +140,3 @@ module _ (ask : Ask) (k : Tables) (code : Code) (bound : ℕ) (w0 : World) where
           (by_code ask code d (place + length front) ks (Located p ∷ ops) l1 w1 (InstrOf.Select u position t) (laid_back code place front last has).0 ∙ ap (λ j. at d (place + length front + 1) ks (Located (component_of p j position) ∷ ops) l1 w1) agree.1)
           (subst (λ z. RunsTo ask code Ends b h (at d z ks (Located q ∷ ops) l1 w1) c1 next (g (Goes (found_at q)) c1 l1 w1)) end (then c1 l1 w1 lo fits1 q))))
           (λ y c1 l1 w1 lo fits1. added_to ask code Ends 0 b h b h _ c1 next (g (Leaves (ByRaise y)) c1 l1 w1) (omega arith) (omega arith) (left y c1 l1 w1 lo fits1)))
-
-      -- where nothing was taken from the clock before
-      pub part_then : (b h : ℕ) (x : Reached) (act : List ℕ → Act (List ℕ)) → Starts (start_of x) act → (t : ℕ) (s : List Kind) (place c : ℕ) (l : Log) (w : World) → are_followed (start_of x) (steps_before x) ≡ true → AgreePart k code x → c ≤ bound → Since k code w0 w → IsSeen w0 d s → Laid code place (part_code x t s) → Follows g d ks ops c b h (place + length (part_code x t s)) → Left g d ks ops c b h → RunsTo ask code Ends b h (at d place ks ops l w) c next (bind (find_by K act (steps_of x) (start_of x) d c l w) g)
-      part_then b h x act begun t s place c l w = part_from b h x act begun t s place c c l w (on_time (start_of x) c)

@@ -30,14 +30,10 @@ use Rattle.ctl_code.specs.Table.{size_of, with_object}
 use Rattle.ctl_code.specs.Steps.{moved, step}
 use Rattle.ctl_layout.specs.Around.{Line}
 use Rattle.ctl_layout.specs.Parts.{Reached, part_code, part_runs}
-use Rattle.ctl_layout.specs.Values.{copied, value_code}
 use Rattle.ctl_layout.specs.Layout.{copy_of}
 use Rattle.ctl_gen.proofs.Known.{IsPlain, IsPlainType}
-use Rattle.ctl_gen.proofs.Sources.{copied_means}
+use Rattle.ctl_gen.proofs.Sources.{Reads}
 use Rattle.ctl_gen.proofs.PartValues.{given_is, taken_from, value_then}
-use Rattle.ctl_gen.proofs.Parts.{given_by}
-use Rattle.ctl_gen.proofs.Begun.{Starts, on_time}
-use Rattle.ctl_gen.proofs.Walked.{start_of}
 use Rattle.ctl_gen.proofs.Worlds.{Since, Kept, since_on}
 use Rattle.ctl_gen.proofs.Parted.{GivesDefaults}
 use Rattle.ctl_gen.proofs.Setting.{Setting, Calls, Sees, seen, tools_with}
@@ -108,9 +104,9 @@ module _ (ask : Ask) (k : Tables) (code : Code) (setting : Setting k code) (call
             (λ x c1 l1 w2 told. D.stands_runs ask k code setting call default constants t r record_is plain bound calls w0 w1 n e p ks fits1 x c1 l1 w2 told)
             v s0 c c l le (omega arith) (omega arith) go)
 
-    pub copy_does : (slot : ℕ) (x : Reached) (e : Expr) (is : copied t (value_code e) ≡ Some x) → part_runs x k.records ≡ true → ((w0 : World) → Starts ask k code bound w0 (start_of x) (given_by (copied_means K e t x is).name K)) → Does ask k code bound (λ a. copy_of slot t x a.stack) (λ d caught. object slot (Record t) (Some (eval e)) K d (last_of d))
+    pub copy_does : (slot : ℕ) (x : Reached) (e : Expr) → part_runs x k.records ≡ true → ((w0 : World) → Reads ask k code call default bound w0 t x (eval e)) → Does ask k code bound (λ a. copy_of slot t x a.stack) (λ d caught. object slot (Record t) (Some (eval e)) K d (last_of d))
     unfolding object if_given category_of opened_outcome
-    copy_does slot x e is runs begun a w0 d place ks ops c l w le fits sees has =
+    copy_does slot x e runs reads a w0 d place ks ops c l w le fits sees has =
         let s = a.stack in
         let front = part_code x t s in
         let last : List Line = (InstrOf.DeclareCopy slot t, Operand (Record t) ∷ s) ∷ [] in
@@ -121,7 +117,7 @@ module _ (ask : Ask) (k : Tables) (code : Code) (setting : Setting k code) (call
         subst (Runs ask code (Kept k code w0) 0 0 (at d place ks ops l w) c next)
         (sym (ap (add 1) (given_is (eval e K d c l w) (declare Composite K (last_of d) slot (Record t)))))
         (added ask code (Kept k code w0) 1 0 0 0 0 _ c next (bind (eval e K d c l w) (on_goes (declaring slot d))) (omega arith) (omega arith)
-        (value_then ask k code setting call default t plain_type (declaring slot d) bound w0 (λ y u. Kept k code w0 (way_of y) u) next (eval e) x (copied_means K e t x is) (begun w0) runs 6 8 (omega arith) (omega arith) s d place ks ops c c l w (on_time (start_of x) c) le fits (seen sees) (laid_front code place front last has)
+        (value_then ask k code setting call default t plain_type (declaring slot d) bound w0 (λ y u. Kept k code w0 (way_of y) u) next (eval e) x (reads w0) runs 6 8 (omega arith) (omega arith) s d place ks ops c l w le fits (seen sees) (laid_front code place front last has)
         (λ p c1 l1 w1 lo fits1.
         subst (λ q. Runs ask code (Kept k code w0) 6 8 (at d (place + length front) ks (Located p ∷ ops) l1 w1) c1 (arrives (lands a place) d q ks ops) (taken_from ask k code setting call default t plain_type (declaring slot d) p.offset (object_at p.object w1) c1 l1 w1)) end
         (given_runs slot p (lands a place) s w0 d (place + length front) ks ops c1 l1 w1 (omega (arith, lo, le)) fits1 sees declarable there.0))

@@ -20,19 +20,20 @@ use Rattle.ctl_meaning.specs.Expressions.{Applied, Naming, Supplied, Valued, act
 use Rattle.ctl_meaning.proofs.Trees.{actual_roll as supply_roll, eval_roll, operand_roll}
 use Rattle.ctl_code.specs.declared.code.Code.{Code}
 use Rattle.ctl_program.specs.declared.expression.Step.TheVariants.{Component}
-use Rattle.ctl_layout.specs.Parts.{Start, OfVariable, Reached, Variable, Part, Object, are_followed, behind_steps, in_variable, is_begun}
+use Rattle.ctl_layout.specs.Parts.{Start, OfVariable, Reached, Variable, Part, Object, are_followed, behind_steps, is_begun}
 use Rattle.ctl_layout.specs.Values.{ActualCode, ValueCode, OperatorCode, actual_code, actuals_run, copied, discriminant, given, missing_value, new, new_copy, operator_of, operators_run, read, value_code, values_run, reached_by}
 use Rattle.ctl_gen.proofs.Known.{IsScalar, both_true, plain_if, scalar_elementary, scalar_if}
 use Rattle.ctl_gen.proofs.Worlds.{Since}
-use Rattle.ctl_gen.proofs.Walked.{behind_is, part_begun, start_of, variable_first}
+use Rattle.ctl_gen.proofs.Walked.{behind_is, part_begun, start_of}
 use Rattle.ctl_gen.proofs.Parts.{Leads, find_as, find_by, given_by, given_layer, name_leads, part_leads}
 use Rattle.ctl_gen.proofs.Begun.{Starts, value_starts}
 use Rattle.ctl_gen.proofs.Components.{component_value}
 use Rattle.ctl_layout.proofs.TreeLayers.{value_roll, operator_roll, actual_roll, reached_roll}
+use Rattle.ctl_layout.proofs.Layers.{copied_layer, copied_rolled}
 use Rattle.ctl_gen.proofs.Setting.{Setting, Calls, tools_with}
 use Rattle.ctl_gen.proofs.Actuals as A
 use Rattle.ctl_gen.proofs.FunctionCalls.{function_value}
-use Rattle.ctl_gen.proofs.Sources.{copied_means}
+use Rattle.ctl_gen.proofs.Sources.{Reads, name_reads}
 use Rattle.ctl_gen.proofs.Allocators.{copied_value, new_value}
 use Rattle.ctl_gen.proofs.Designated.{designating_value}
 use Rattle.ctl_gen.proofs.Discriminants.{discriminant_value}
@@ -79,6 +80,10 @@ module _ (ask : Ask) (k : Tables) (code : Code) (setting : Setting k code) (call
   abbrev pub IsValue : Expr → Type 0
   IsValue e = (value_code e).runs k.records ≡ true → X.Value ask k code bound w0 (value_code e) (eval e K)
 
+  -- what is copied of it is read from a part, if the code of what its name begins with is run
+  abbrev IsCopied : Expr → Type 0
+  IsCopied e = (t : ℕ) (x : Reached) → copied t (value_code e) ≡ Some x → is_begun (start_of x) k.records ≡ true → Reads ask k code call default bound w0 t x (eval e)
+
   abbrev IsOperator : Operand → Type 0
   IsOperator o = (operator_of o).right.runs k.records ≡ true → X.Further ask k code bound w0 (operator_of o) (apply o K)
 
@@ -92,8 +97,12 @@ module _ (ask : Ask) (k : Tables) (code : Code) (setting : Setting k code) (call
   abbrev ActualToo : Type 0
   ActualToo = (a : Actual) × IsActual a
 
+  -- an expression, whose value may be copied
+  abbrev IsExpr : Expr → Type 0
+  IsExpr e = IsValue e × IsCopied e
+
   abbrev ExprToo : Type 0
-  ExprToo = (e : Expr) × IsValue e
+  ExprToo = (e : Expr) × IsExpr e
 
   abbrev NameToo : Type 0
   NameToo = (n : Name) × IsName n
@@ -121,7 +130,7 @@ module _ (ask : Ask) (k : Tables) (code : Code) (setting : Setting k code) (call
 
   values_too : (xs : List ExprToo) → values_run k.records (map value_code (map (λ x. x.0) xs)) ≡ true → X.EachValue ask k code bound w0 K (map value_code (map (λ x. x.0) xs)) (map eval (map (λ x. x.0) xs))
   values_too [] h = tt
-  values_too (x ∷ xs) h = let g = both_true _ _ h in (x.1 g.0, values_too xs g.1)
+  values_too (x ∷ xs) h = let g = both_true _ _ h in (x.1.0 g.0, values_too xs g.1)
 
   actuals_too : (xs : List ActualToo) → actuals_run (map actual_code (map (λ x. x.0) xs)) k.records ≡ true → A.EachPasses ask k code setting call default bound w0 (map actual_code (map (λ x. x.0) xs)) (map supply (map (λ x. x.0) xs))
   actuals_too [] h = tt
@@ -150,17 +159,16 @@ module _ (ask : Ask) (k : Tables) (code : Code) (setting : Setting k code) (call
   allocates access Handle runs = absurd (cc)
   allocates access (Access a) runs = absurd (cc)
 
-  -- with the value of a part, whose name begins with a variable
-  copies : (access t : ℕ) (v : Expr) (o : Option Reached) → in_variable (copied t (value_code v)) ≡ o → Meets (new_copy access t o) (eval_step (Expr-F.New access (Record t) None (Some (eval v))))
+  -- with the value of a part
+  copies : (access t : ℕ) (v : ExprToo) (o : Option Reached) → copied t (value_code v.0) ≡ o → Meets (new_copy access t o) (eval_step (Expr-F.New access (Record t) None (Some (eval v.0))))
   copies access t v None is runs = absurd (cc)
   copies access t v (Some x) is runs =
       let e = both_true _ _ runs in
       let g = both_true _ _ e.0 in
-      let first = variable_first (copied t (value_code v)) x is in
-      copied_value ask k code setting call default bound calls w0 access t (plain_if k t g.0) (eval v) x (copied_means K v t x first.0) g.1 e.1 first.1.0 first.1.1
+      copied_value ask k code setting call default bound calls w0 access t (plain_if k t g.0) (eval v.0) x (v.1.1 t x is (part_begun k.records x e.1)) g.1 e.1
 
-  allocates_with : (access : ℕ) (ty : Ty) (v : Expr) → Meets (new access ty None (Some (value_code v))) (eval_step (Expr-F.New access ty None (Some (eval v))))
-  allocates_with access (Record t) v runs = copies access t v (in_variable (copied t (value_code v))) refl runs
+  allocates_with : (access : ℕ) (ty : Ty) (v : ExprToo) → Meets (new access ty None (Some (value_code v.0))) (eval_step (Expr-F.New access ty None (Some (eval v.0))))
+  allocates_with access (Record t) v runs = copies access t v (copied t (value_code v.0)) refl runs
   allocates_with access Integer v runs = absurd (cc)
   allocates_with access Boolean v runs = absurd (cc)
   allocates_with access Count v runs = absurd (cc)
@@ -205,21 +213,21 @@ module _ (ask : Ask) (k : Tables) (code : Code) (setting : Setting k code) (call
   unfolding eval_step
   expr_rolled (Expr-F.Constant n) = meets (Expr-F.Constant n) _ _ (value_roll (Expr-F.Constant n)) (eval_roll (Expr-F.Constant n)) (λ h. X.constant_value ask k code bound w0 n)
   expr_rolled (Expr-F.Read n ty) = meets (Expr-F.Read n.0 ty) _ _ (value_roll (Expr-F.Read n.0 ty)) (eval_roll (Expr-F.Read n.0 ty)) (reads (reached_by n.0) ty (given_by n.0 K) (eval_name n.0) (name_finds K n.0) n.1)
-  expr_rolled (Expr-F.Unary op ty e) = meets (Expr-F.Unary op ty e.0) _ _ (value_roll (Expr-F.Unary op ty e.0)) (eval_roll (Expr-F.Unary op ty e.0)) (λ h. X.applied_value ask k code bound w0 (value_code e.0).runs op ty ty (value_code e.0) (eval e.0 K) (e.1 h))
+  expr_rolled (Expr-F.Unary op ty e) = meets (Expr-F.Unary op ty e.0) _ _ (value_roll (Expr-F.Unary op ty e.0)) (eval_roll (Expr-F.Unary op ty e.0)) (λ h. X.applied_value ask k code bound w0 (value_code e.0).runs op ty ty (value_code e.0) (eval e.0 K) (e.1.0 h))
   expr_rolled (Expr-F.Chain e o os) =
       let y = Expr-F.Chain e.0 o.0 (map (λ z. z.0) os) in
       meets y _ _ (value_roll y) (eval_roll y)
       (λ h.
       let g = both_true _ _ h in
       let i = operators_too (o ∷ os) g.1 in
-      X.chain_value ask k code bound w0 K (value_code e.0) (eval e.0 K) (e.1 g.0) (operator_of o.0) (map operator_of (map (λ z. z.0) os)) (apply o.0) (map apply (map (λ z. z.0) os)) i)
+      X.chain_value ask k code bound w0 K (value_code e.0) (eval e.0 K) (e.1.0 g.0) (operator_of o.0) (map operator_of (map (λ z. z.0) os)) (apply o.0) (map apply (map (λ z. z.0) os)) i)
   expr_rolled (Expr-F.Short form e f es) =
       let y = Expr-F.Short form e.0 f.0 (map (λ z. z.0) es) in
       meets y _ _ (value_roll y) (eval_roll y)
       (λ h.
       let g = both_true _ _ h in
       let i = values_too (f ∷ es) g.1 in
-      X.short_value ask k code bound w0 K form (value_code e.0) (eval e.0 K) (e.1 g.0) (value_code f.0) (map value_code (map (λ z. z.0) es)) (eval f.0) (map eval (map (λ z. z.0) es)) i)
+      X.short_value ask k code bound w0 K form (value_code e.0) (eval e.0 K) (e.1.0 g.0) (value_code f.0) (map value_code (map (λ z. z.0) es)) (eval f.0) (map eval (map (λ z. z.0) es)) i)
   expr_rolled (Expr-F.Call f xs ty) =
       let y = Expr-F.Call f (map (λ z. z.0) xs) ty in
       meets y _ _ (value_roll y) (eval_roll y)
@@ -227,14 +235,31 @@ module _ (ask : Ask) (k : Tables) (code : Code) (setting : Setting k code) (call
       let g = both_true _ _ h in
       let i = both_true _ _ g.1 in
       function_value ask k code setting call default bound calls w0 f (map actual_code (map (λ z. z.0) xs)) (map supply (map (λ z. z.0) xs)) ty (scalar_if ty g.0) (not-true _ i.0) (actuals_too xs i.1))
-  expr_rolled (Expr-F.Convert ty e) = meets (Expr-F.Convert ty e.0) _ _ (value_roll (Expr-F.Convert ty e.0)) (eval_roll (Expr-F.Convert ty e.0)) (λ h. let g = both_true _ _ h in X.convert_value ask k code bound w0 ty (value_code e.0) (eval e.0 K) g.0 (e.1 g.1))
+  expr_rolled (Expr-F.Convert ty e) = meets (Expr-F.Convert ty e.0) _ _ (value_roll (Expr-F.Convert ty e.0)) (eval_roll (Expr-F.Convert ty e.0)) (λ h. let g = both_true _ _ h in X.convert_value ask k code bound w0 ty (value_code e.0) (eval e.0 K) g.0 (e.1.0 g.1))
   expr_rolled (Expr-F.Access v) = meets (Expr-F.Access v) _ _ (value_roll (Expr-F.Access v)) (eval_roll (Expr-F.Access v)) (λ h. designating_value ask k code call default bound w0 v)
   expr_rolled (Expr-F.New access ty None None) = let y = Expr-F.New access ty None None in meets y _ _ (value_roll y) (eval_roll y) (allocates access ty)
-  expr_rolled (Expr-F.New access ty None (Some v)) = let y = Expr-F.New access ty None (Some v.0) in meets y _ _ (value_roll y) (eval_roll y) (allocates_with access ty v.0)
+  expr_rolled (Expr-F.New access ty None (Some v)) = let y = Expr-F.New access ty None (Some v.0) in meets y _ _ (value_roll y) (eval_roll y) (allocates_with access ty v)
   expr_rolled (Expr-F.New access ty (Some h) None) = let y = Expr-F.New access ty (Some h.0) None in new_rolled y access ty (value_code h.0) None (value_roll y)
   expr_rolled (Expr-F.New access ty (Some h) (Some v)) = let y = Expr-F.New access ty (Some h.0) (Some v.0) in new_rolled y access ty (value_code h.0) (Some (value_code v.0)) (value_roll y)
   expr_rolled (Expr-F.Subpool which n) = missing_rolled (Expr-F.Subpool which n.0) (value_roll (Expr-F.Subpool which n.0))
   expr_rolled (Expr-F.Discriminant n i) = meets (Expr-F.Discriminant n.0 i) _ _ (value_roll (Expr-F.Discriminant n.0 i)) (eval_roll (Expr-F.Discriminant n.0 i)) (discriminates (reached_by n.0) i (given_by n.0 K) (eval_name n.0) (name_leads K n.0) n.1)
+
+  -- the part of the name that it reads
+  copy_rolled : (y : Expr-F ActualToo ExprToo NameToo OperandToo) (t : ℕ) (x : Reached) → copied_layer t (bare_expr y) ≡ Some x → is_begun (start_of x) k.records ≡ true → Reads ask k code call default bound w0 t x (eval (roll-Expr (bare_expr y)))
+  copy_rolled (Expr-F.Read n ty) t x is begun = subst (Reads ask k code call default bound w0 t x) (sym (eval_roll (Expr-F.Read n.0 ty))) (name_reads ask k code call default bound w0 n.0 ty t x is (λ reaches. n.1 x reaches begun))
+  copy_rolled (Expr-F.Constant n) t x is begun = absurd (cc is)
+  copy_rolled (Expr-F.Call f xs ty) t x is begun = absurd (cc is)
+  copy_rolled (Expr-F.Unary op ty e) t x is begun = absurd (cc is)
+  copy_rolled (Expr-F.Chain e o os) t x is begun = absurd (cc is)
+  copy_rolled (Expr-F.Short form e f es) t x is begun = absurd (cc is)
+  copy_rolled (Expr-F.Convert ty e) t x is begun = absurd (cc is)
+  copy_rolled (Expr-F.Access v) t x is begun = absurd (cc is)
+  copy_rolled (Expr-F.New access ty handle v) t x is begun = absurd (cc is)
+  copy_rolled (Expr-F.Subpool which n) t x is begun = absurd (cc is)
+  copy_rolled (Expr-F.Discriminant n i) t x is begun = absurd (cc is)
+
+  expr_too : (y : Expr-F ActualToo ExprToo NameToo OperandToo) → IsExpr (roll-Expr (bare_expr y))
+  expr_too y = (expr_rolled y, λ t x is. copy_rolled y t x (sym (copied_rolled t (bare_expr y)) ∙ is))
 
   operand_rolled : (y : Operand-F ActualToo ExprToo NameToo OperandToo) → IsOperator (roll-Operand (bare_operand y))
   unfolding operand_step
@@ -243,7 +268,7 @@ module _ (ask : Ask) (k : Tables) (code : Code) (setting : Setting k code) (call
       let means = operand_roll (bare_operand y) in
       subst (λ (o : OperatorCode). X.Further ask k code bound w0 o (apply (roll-Operand (bare_operand y)) K)) (sym is)
       (subst (λ (m : Applied). X.Further ask k code bound w0 (record { op = y.op; ty = y.ty; right = value_code y.right.0 }) (m K)) (sym means)
-      (X.operator_further ask k code bound w0 (record { op = y.op; ty = y.ty; right = value_code y.right.0 }) (eval y.right.0 K) (y.right.1 (sym (ap (λ (o : OperatorCode). o.right.runs k.records) is) ∙ h))))
+      (X.operator_further ask k code bound w0 (record { op = y.op; ty = y.ty; right = value_code y.right.0 }) (eval y.right.0 K) (y.right.1.0 (sym (ap (λ (o : OperatorCode). o.right.runs k.records) is) ∙ h))))
 
   -- what an actual has, and what it means
   abbrev Passing : ActualCode → Supplied → Type 0
@@ -258,7 +283,7 @@ module _ (ask : Ask) (k : Tables) (code : Code) (setting : Setting k code) (call
       passing (Actual-F.ByValue e.0 ty) _ _ (actual_roll (Actual-F.ByValue e.0 ty)) (supply_roll (Actual-F.ByValue e.0 ty))
       (λ h.
       let g = both_true _ _ h in
-      A.value_passes ask k code setting call default bound w0 (value_code e.0) (eval e.0 K) ty (scalar_if ty g.0) (e.1 g.1))
+      A.value_passes ask k code setting call default bound w0 (value_code e.0) (eval e.0 K) ty (scalar_if ty g.0) (e.1.0 g.1))
   actual_rolled (Actual-F.Part n ty) = passing (Actual-F.Part n.0 ty) _ _ (actual_roll (Actual-F.Part n.0 ty)) (supply_roll (Actual-F.Part n.0 ty)) (A.reference_passes ask k code setting call default bound w0 (reached_by n.0) ty (given_by n.0 K) (eval_name n.0) (name_leads K n.0) n.1)
   actual_rolled (Actual-F.Copied n ty begins) = passing (Actual-F.Copied n.0 ty begins) _ _ (actual_roll (Actual-F.Copied n.0 ty begins)) (supply_roll (Actual-F.Copied n.0 ty begins)) (A.copy_passes ask k code setting call default bound w0 (reached_by n.0) ty begins (eval_name n.0) (λ v is. name_finds K n.0 (Variable v) is))
 
@@ -268,31 +293,37 @@ module _ (ask : Ask) (k : Tables) (code : Code) (setting : Setting k code) (call
 
   name_rolled : (y : Name-F ActualToo ExprToo NameToo OperandToo) (x : Reached) → reached_by (roll-Name (bare_name y)) ≡ Some x → is_begun (start_of x) k.records ≡ true → Starts ask k code bound w0 (start_of x) (given_layer (bare_name y) K)
   name_rolled (Name-F.Variable v ss) x is = starts_with (OfVariable v) ss x _ (sym (reached_roll (Name-F.Variable v ss)) ∙ is) (λ h. tt)
-  name_rolled (Name-F.Given e ss) x is = starts_with (given (value_code e.0)) ss x _ (sym (reached_roll (Name-F.Given e.0 ss)) ∙ is) (λ h. value_starts ask k code bound w0 (value_code e.0) (eval e.0 K) (e.1 h))
+  name_rolled (Name-F.Given e ss) x is = starts_with (given (value_code e.0)) ss x _ (sym (reached_roll (Name-F.Given e.0 ss)) ∙ is) (λ h. value_starts ask k code bound w0 (value_code e.0) (eval e.0 K) (e.1.0 h))
 
   name_too : (y : Name-F ActualToo ExprToo NameToo OperandToo) → IsName (roll-Name (bare_name y))
   name_too y x is h = subst (λ z. Starts ask k code bound w0 (start_of x) (given_layer z K)) (sym (layer_is (bare_name y))) (name_rolled y x is h)
 
   -- Whole trees ---------------------------------------------------------------------------------------
 
-  pub value_means : (e : Expr) → IsValue e
-  value_means = ind-Expr IsActual IsValue IsName IsOperator
+  expr_means : (e : Expr) → IsExpr e
+  expr_means = ind-Expr IsActual IsExpr IsName IsOperator
       (λ x y is. subst (λ z. IsActual (roll-Actual z)) is (actual_rolled y))
-      (λ x y is. subst (λ z. IsValue (roll-Expr z)) is (expr_rolled y))
+      (λ x y is. subst (λ z. IsExpr (roll-Expr z)) is (expr_too y))
       (λ x y is. subst (λ z. IsName (roll-Name z)) is (name_too y))
       (λ x y is. subst (λ z. IsOperator (roll-Operand z)) is (operand_rolled y))
+
+  pub value_means : (e : Expr) → IsValue e
+  value_means e = (expr_means e).0
+
+  pub copied_means : (e : Expr) → IsCopied e
+  copied_means e = (expr_means e).1
 
   -- a name, whose part is a whole tree
   name_means : (y : Name-F Actual Expr Name Operand) (x : Reached) → reached_by (roll-Name y) ≡ Some x → is_begun (start_of x) k.records ≡ true → Starts ask k code bound w0 (start_of x) (given_layer y K)
   name_means (Name-F.Variable v ss) = name_rolled (Name-F.Variable v ss)
-  name_means (Name-F.Given e ss) = name_rolled (Name-F.Given (e, value_means e) ss)
+  name_means (Name-F.Given e ss) = name_rolled (Name-F.Given (e, expr_means e) ss)
 
   pub name_starts : (n : Name) → IsName n
   name_starts n x = subst (λ m. reached_by m ≡ Some x → is_begun (start_of x) k.records ≡ true → Starts ask k code bound w0 (start_of x) (given_by n K)) (roll-out-Name n) (name_means (out-Name n) x)
 
   -- an actual, whose parts are whole trees
   actual_means : (y : Actual-F Actual Expr Name Operand) → IsActual (roll-Actual y)
-  actual_means (Actual-F.ByValue e ty) = actual_rolled (Actual-F.ByValue (e, value_means e) ty)
+  actual_means (Actual-F.ByValue e ty) = actual_rolled (Actual-F.ByValue (e, expr_means e) ty)
   actual_means (Actual-F.Part n ty) = actual_rolled (Actual-F.Part (n, name_starts n) ty)
   actual_means (Actual-F.Copied n ty begins) = actual_rolled (Actual-F.Copied (n, name_starts n) ty begins)
 

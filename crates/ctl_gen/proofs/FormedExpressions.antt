@@ -23,7 +23,7 @@ use Rattle.ctl_code.specs.Valid as Valid
 use Rattle.ctl_code.specs.Valid.{HasFormals, IsAllocable, IsRecord}
 use Rattle.ctl_layout.specs.Records.{is_number, is_run_type}
 use Rattle.ctl_layout.specs.Around.{new_operand}
-use Rattle.ctl_layout.specs.Parts.{OfVariable, Reached, access_value, behind_steps, in_variable, is_begun, is_dereferenced}
+use Rattle.ctl_layout.specs.Parts.{OfVariable, Reached, access_value, behind_steps, is_dereferenced}
 use Rattle.ctl_layout.specs.Values.{ActualCode, OperatorCode, ValueCode, actual_code, actuals_run, chain, copied, given, goes_back, is_of, missing_value, new, new_copy, operator_of, operators_run, reached_by, reached_if, sourced, value_code, value_type, values_run}
 use Rattle.ctl_layout.proofs.Extensions.{both_true}
 use Rattle.ctl_layout.proofs.Layers.{actual_copied, actual_part, actual_value, new_reached, part_source, reached_given, reached_variable, read_reached, value_access, value_call, value_chain, value_constant, value_convert, value_discriminant, value_new, value_read, value_short, value_subpool, value_unary}
@@ -31,7 +31,7 @@ use Rattle.ctl_layout.proofs.TreeLayers.{operator_roll}
 use Rattle.ctl_gen.proofs.Formed.{none}
 use Rattle.ctl_gen.proofs.FormedAround.{IsHoused}
 use Rattle.ctl_gen.proofs.FormedParts.{IsFound, steps_found}
-use Rattle.ctl_gen.proofs.Walked.{IsWalked, copied_walked, copy_reaches, value_dereferenced, variable_first, variable_walked}
+use Rattle.ctl_gen.proofs.Walked.{copy_reaches, part_begun, value_dereferenced}
 use Rattle.ctl_gen.proofs.FormedCalls.{GoodActual, GoodActuals, MayCall, MayNew, copy_good, function_own, good_as, kind_by, reference_good, value_good}
 use Rattle.ctl_gen.proofs.FormedTypes.{IsAccessType, joins_plain, joins_scalar, number_of, number_scalar, run_scalar, takes_unary}
 use Rattle.ctl_gen.proofs.FormedValues.{Conditions, Fine, Operating, access_usable, applied_own, chain_own, constant_fine, copied_own, designating_fine, fine_like, first_joins, new_own, next_condition, next_joins, next_operating, none_operating, read_own, short_own, usable_as, value_number, value_usable, discriminant_own}
@@ -59,16 +59,10 @@ module _ (code : Code) (records : List RecordType) where
   not_missing : (x : ValueCode) → x ≡ missing_value None → x.runs records ≡ true → ⊥
   not_missing x same h = absurd (let e = sym (ap (λ (z : ValueCode). z.runs records) same) ∙ h in cc)
 
-  -- an allocator with the value of a part, whose name begins with a variable
-  copied_fine : (env : W.Frames) (a u : ℕ) (o : Option Reached) → IsWalked o → IsAllocable code (length env) a u → IsHoused code env a → IsFound code env records o → (new_copy a u (in_variable o)).runs records ≡ true → Fine code env (new_copy a u (in_variable o)) (TyOf.Access a)
-  copied_fine env a u o walked allocable housed found = by (in_variable o) refl (variable_walked o walked)
-    where
-      by : (q : Option Reached) → in_variable o ≡ q → IsWalked q → (new_copy a u q).runs records ≡ true → Fine code env (new_copy a u q) (TyOf.Access a)
-      by None is led runs = absurd (cc)
-      by (Some x) is led runs =
-          let first = variable_first o x is in
-          let begun = (subst (IsFound code env records) first.0 found).1 (subst (λ b. is_begun b records ≡ true) (sym first.1.1) refl) in
-          inl (copied_own code env a u x led begun allocable housed)
+  -- an allocator with the value of a part
+  copied_fine : (env : W.Frames) (a u : ℕ) (o : Option Reached) → IsAllocable code (length env) a u → IsHoused code env a → IsFound code env records o → (new_copy a u o).runs records ≡ true → Fine code env (new_copy a u o) (TyOf.Access a)
+  copied_fine env a u None allocable housed found runs = absurd (cc)
+  copied_fine env a u (Some x) allocable housed found runs = inl (copied_own code env a u x found.0 (found.1 (part_begun records x (both_true _ _ runs).1)) allocable housed)
 
   -- what is copied of an expression, if there is one, is found
   abbrev IsCopyFound : W.Frames → Option Expr → Type 0
@@ -78,7 +72,7 @@ module _ (code : Code) (records : List RecordType) where
   -- an allocator, which is run where it has no handle, and no value but that of a part
   allocated_fine : (env : W.Frames) (a : ℕ) (t : Ty) (handle : Option ValueCode) (x : Option Expr) → ((u : ℕ) → t ≡ TyOf.Record u → IsAllocable code (length env) a u × IsHoused code env a × IsRecord code u) → IsCopyFound env x → (new a t handle (option_map value_code x)).runs records ≡ true → Fine code env (new a t handle (option_map value_code x)) (TyOf.Access a)
   allocated_fine env a (TyOf.Record u) None None may found runs = inl (new_own code env a u (may u refl).0 (may u refl).1 (may u refl).2)
-  allocated_fine env a (TyOf.Record u) None (Some x) may found runs = copied_fine env a u (copied u (value_code x)) (copied_walked u x) (may u refl).0 (may u refl).1 (found u) runs
+  allocated_fine env a (TyOf.Record u) None (Some x) may found runs = copied_fine env a u (copied u (value_code x)) (may u refl).0 (may u refl).1 (found u) runs
   allocated_fine env a (TyOf.Record u) (Some h) x may found runs = absurd (cc)
   allocated_fine env a TyOf.Integer h x may found runs = absurd (cc)
   allocated_fine env a TyOf.Count h x may found runs = absurd (cc)
@@ -106,9 +100,8 @@ module _ (code : Code) (records : List RecordType) where
   unreached env x y same none = subst (IsFound code env records) (sym (ap (λ (z : ValueCode). z.reached) same ∙ none)) tt
 
   found_if : (env : W.Frames) (o : Option Reached) (b : Bool) → IsFound code env records o → IsFound code env records (reached_if o b)
-  found_if env None b h = tt
-  found_if env (Some x) true h = h
-  found_if env (Some x) false h = tt
+  found_if env o true h = h
+  found_if env o false h = tt
 
   -- Well-typed expressions ---------------------------------------------------------------------------
 

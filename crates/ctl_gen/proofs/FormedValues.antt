@@ -366,19 +366,28 @@ module _ (code : Code) (env : W.Frames) where
         constant = λ n is. absurd (cc);
       })
 
-  -- and so is that of an allocator with the value of a part, which is found before
+  -- one with the value of a part, which is found before
+  copy_formed : (access t : ℕ) (x : Reached) (ty : Ty) (s : List Kind) → Valid.IsScalar ty → Agrees env s → are_followed (start_of x) (steps_before x) ≡ true → IsBegun code env (start_of x) → IsAllocable code (length env) access t → IsHoused code env access → Formed code (new_copy_code access t x ty s) s (Some (KindOf.Operand ty ∷ s))
+  copy_formed access t x ty s scalar agrees followed begun allocable housed =
+      let part = KindOf.Operand (TyOf.Record t) ∷ s in
+      let top = KindOf.Operand ty ∷ s in
+      let last : List Line = (InstrOf.NewCopy access t ty (height s), part) ∷ [] in
+      both code ((InstrOf.Skip 0, s) ∷ []) (part_code x t s ++ last) s s (Some top)
+      (one code (InstrOf.Skip 0) s (Some s) (λ p next. let e : p + 1 ≡ p + 1 + 0 = omega arith in leads_at code (p + 1) (p + 1 + 0) s e next))
+      (both code (part_code x t s) last s part (Some top)
+      (part_formed code env x t s agrees followed begun)
+      (one code (InstrOf.NewCopy access t ty (height s)) part (Some top) (λ p next. (scalar, subst (λ n. IsAllocable code n access t) (sym agrees.0) allocable, (s, refl, (refl, next)), housed s agrees))))
+
+  -- and its value goes where it is wanted, too
   pub copied_own : (access t : ℕ) (x : Reached) → are_followed (start_of x) (steps_before x) ≡ true → IsBegun code env (start_of x) → IsAllocable code (length env) access t → IsHoused code env access → Own (new_copy access t (Some x)) (TyOf.Access access)
   copied_own access t x followed begun allocable housed =
       own_as (new_copy access t (Some x)) (TyOf.Access access) refl tt
       (λ ty scalar. record {
         scalar = scalar;
         formed = λ to s agrees at.
-            let part = KindOf.Operand (TyOf.Record t) ∷ s in
             let top = KindOf.Operand ty ∷ s in
             both code (new_copy_code access t x ty s) (moved_to to ty s) s top (Some (with_put to.named ty s))
-            (both code (part_code x t s) ((InstrOf.NewCopy access t ty (height s), part) ∷ []) s part (Some top)
-            (part_formed code env x t s agrees followed begun)
-            (one code (InstrOf.NewCopy access t ty (height s)) part (Some top) (λ p next. (scalar, subst (λ n. IsAllocable code n access t) (sym agrees.0) allocable, (s, refl, (refl, next)), housed s agrees))))
+            (copy_formed access t x ty s scalar agrees followed begun allocable housed)
             (moved_formed code to ty s scalar at);
         constant = λ n is. absurd (cc);
       })

@@ -19,8 +19,8 @@ use Rattle.ctl_code.specs.Table.{size_of}
 use Rattle.ctl_layout.specs.Parts.{Reached, part_code, part_runs}
 use Rattle.ctl_gen.proofs.Known.{IsPlainType}
 use Rattle.ctl_gen.proofs.Sources.{Reads}
-use Rattle.ctl_gen.proofs.Parts.{agree_part, find_by, found_at, given_by}
-use Rattle.ctl_gen.proofs.Begun.{OnTime, Starts, part_from}
+use Rattle.ctl_gen.proofs.Parts.{agree_part, find_by, found_at}
+use Rattle.ctl_gen.proofs.Begun.{part_then}
 use Rattle.ctl_gen.proofs.Walked.{start_of, steps_of}
 use Rattle.ctl_gen.proofs.Worlds.{Since}
 use Rattle.ctl_gen.proofs.Setting.{IsSeen, Setting, tools_with}
@@ -63,18 +63,17 @@ module _ (ask : Ask) (k : Tables) (code : Code) (setting : Setting k code) (call
   unfolding read_found read_part existing opened_outcome
   object_is q c l w = read_at q.offset c l w (object_at q.object w)
 
-  -- from the first instruction of what finds the part, where one may be taken from the clock, to what takes its value
-  pub value_then : (bound : ℕ) (w0 : World) (Ends : Result B → World → Type 0) (next : Result B → Log → World → State) (m : Valued) (x : Reached) (known : Reads K t x m) → Starts ask k code bound w0 (start_of x) (given_by known.name K) → part_runs x k.records ≡ true → (b h : ℕ) → b ≤ 64 → h ≤ 64 → (s : List Kind) (d : List ℕ) (place : ℕ) (ks : List Frame) (ops : List Word) (c0 c : ℕ) (l : Log) (w : World) → OnTime (start_of x) c0 c → c ≤ bound → Since k code w0 w → IsSeen w0 d s → Laid code place (part_code x t s)
+  -- from the first instruction of what finds the part to what takes its value
+  pub value_then : (bound : ℕ) (w0 : World) (Ends : Result B → World → Type 0) (next : Result B → Log → World → State) (m : Valued) (x : Reached) → Reads ask k code call default bound w0 t x m → part_runs x k.records ≡ true → (b h : ℕ) → b ≤ 64 → h ≤ 64 → (s : List Kind) (d : List ℕ) (place : ℕ) (ks : List Frame) (ops : List Word) (c : ℕ) (l : Log) (w : World) → c ≤ bound → Since k code w0 w → IsSeen w0 d s → Laid code place (part_code x t s)
       → ((q : Spot) (c1 : ℕ) (l1 : Log) (w1 : World) → c1 ≤ c → Since k code w0 w1 → RunsTo ask code Ends b h (at d (place + length (part_code x t s)) ks (Located q ∷ ops) l1 w1) c1 next (taken_from q.offset (object_at q.object w1) c1 l1 w1))
       → ((y c1 : ℕ) (l1 : Log) (w1 : World) → c1 ≤ c → Since k code w0 w1 → RunsTo ask code Ends b h (transferred (ByRaise y) ks l1 w1) c1 next (Gives (Leaves (ByRaise y)) 0 c1 l1 w1))
-      → RunsTo ask code Ends 0 0 (at d place ks ops l w) c0 next (bind (m K d c l w) (on_goes takes))
+      → RunsTo ask code Ends 0 0 (at d place ks ops l w) c next (bind (m K d c l w) (on_goes takes))
   unfolding opened_outcome
-  value_then bound w0 Ends next m x known begun runs b h lb lh s d place ks ops c0 c l w time le fits long has then left =
-      let given = given_by known.name K in
-      let o = find_by K given (steps_of x) (start_of x) d c l w in
+  value_then bound w0 Ends next m x known runs b h lb lh s d place ks ops c l w le fits long has then left =
+      let o = find_by K known.given (steps_of x) (start_of x) d c l w in
       let s0 = at d place ks ops l w in
-      subst (RunsTo ask code Ends 0 0 s0 c0 next) (sym (ap (λ (f : List ℕ → Act (List ℕ)). bind (f d c l w) (on_goes takes)) known.reads ∙ found_is o))
-      (added_to ask code Ends 1 b h 0 0 s0 c0 next (bind o found_then) (omega (arith, lb)) (omega (arith, lh))
-      (part_from ask k code bound w0 call default Ends next found_then d ks ops b h x given begun t s place c0 c l w time known.walked (agree_part k code setting.places x runs) le fits long has
+      subst (RunsTo ask code Ends 0 0 s0 c next) (sym (ap (λ (f : List ℕ → Act (List ℕ)). bind (f d c l w) (on_goes takes)) known.reads ∙ found_is o))
+      (added_to ask code Ends 1 b h 0 0 s0 c next (bind o found_then) (omega (arith, lb)) (omega (arith, lh))
+      (part_then ask k code bound w0 call default Ends next found_then d ks ops b h x known.given known.begun t s place c l w known.walked (agree_part k code setting.places x runs) le fits long has
       (λ c1 l1 w1 lo fits1 q. subst (RunsTo ask code Ends b h _ c1 next) (sym (object_is q c1 l1 w1)) (added_to ask code Ends 0 b h b h _ c1 next (taken_from q.offset (object_at q.object w1) c1 l1 w1) (omega arith) (omega arith) (then q c1 l1 w1 lo fits1)))
       left))

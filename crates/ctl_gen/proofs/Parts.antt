@@ -245,12 +245,8 @@ module _ (ask : Ask) (code : Code) (K : Tools) where
     abbrev pub Raises : ℕ → ℕ → Type 0
     Raises b h = RunsTo ask code Ends b h (transferred (ByRaise constraint_error) ks l w) c next (g (Leaves (ByRaise constraint_error)) c l w)
 
-    -- from a state with so much on the clock
-    abbrev pub From : ℕ → ℕ → ℕ → State → Out Found → Type 0
-    From c0 b h s o = RunsTo ask code Ends b h s c0 next (bind o g)
-
     abbrev pub Meets : ℕ → ℕ → State → Out Found → Type 0
-    Meets b h s o = From c b h s o
+    Meets b h s o = RunsTo ask code Ends b h s c next (bind o g)
 
     -- an access value on top, and what follows the object that it designates
     pub designates : (b h n t cell place : ℕ) (f : Found → Act Found) → slice_get code.instructions.items place ≡ Some (InstrOf.Dereference t cell) → ((m : ℕ) → Meets b h (at d (place + 1) ks (Located (whole_spot m) ∷ ops) l w) (f (found_at (whole_spot m)) c l w)) → Raises b h → Meets (b + 3) (h + 3) (at d place ks (Scalar n ∷ ops) l w) (bind (dereferenced n c l w) (on_goes f))
@@ -271,14 +267,14 @@ module _ (ask : Ask) (code : Code) (K : Tools) where
             (added_to ask code Ends 0 (b + 3) (h + 3) (b + 3) (h + 3) s0 c next (bind (f m c l w) g) (omega arith) (omega arith)
             (one_step_to ask code Ends b h (b + 3) (h + 3) s0 (at d (place + 1) ks (Located (whole_spot (suc n)) ∷ ops) l w) c c next _ (omega arith) (omega arith) (omega arith) (omega arith) first (then (suc n))))
 
-    -- the step that reads an access value, and takes at most one from the clock, and what follows
-    reads_access : (c0 b h n t cell place : ℕ) (s0 : State) (f : Found → Act Found) → c ≤ c0 → c0 ≤ c + 1 → step ask code s0 ≡ at d place ks (Scalar n ∷ ops) l w → slice_get code.instructions.items place ≡ Some (InstrOf.Dereference t cell) → ((m : ℕ) → Meets b h (at d (place + 1) ks (Located (whole_spot m) ∷ ops) l w) (f (found_at (whole_spot m)) c l w)) → Raises b h → From c0 b h s0 (add 1 (bind (add 1 (add 0 (dereferenced n c l w))) (on_goes f)))
-    reads_access c0 b h n t cell place s0 f lo hi first has then raises =
-        subst (RunsTo ask code Ends b h s0 c0 next) (sym (paid_twice (dereferenced n c l w) (on_goes f) g))
-        (added_to ask code Ends 1 b h b h s0 c0 next _ (omega arith) (omega arith)
-        (added_to ask code Ends 1 (b + 4) (h + 4) b h s0 c0 next _ (omega arith) (omega arith)
-        (added_to ask code Ends 0 (b + 4) (h + 4) (b + 4) (h + 4) s0 c0 next _ (omega arith) (omega arith)
-        (one_step_to ask code Ends (b + 3) (h + 3) (b + 4) (h + 4) s0 (at d place ks (Scalar n ∷ ops) l w) c0 c next _ (omega arith) (omega arith) lo hi first (designates b h n t cell place f has then raises)))))
+    -- the step that reads an access value, and what follows
+    reads_access : (b h n t cell place : ℕ) (s0 : State) (f : Found → Act Found) → step ask code s0 ≡ at d place ks (Scalar n ∷ ops) l w → slice_get code.instructions.items place ≡ Some (InstrOf.Dereference t cell) → ((m : ℕ) → Meets b h (at d (place + 1) ks (Located (whole_spot m) ∷ ops) l w) (f (found_at (whole_spot m)) c l w)) → Raises b h → Meets b h s0 (add 1 (bind (add 1 (add 0 (dereferenced n c l w))) (on_goes f)))
+    reads_access b h n t cell place s0 f first has then raises =
+        subst (RunsTo ask code Ends b h s0 c next) (sym (paid_twice (dereferenced n c l w) (on_goes f) g))
+        (added_to ask code Ends 1 b h b h s0 c next _ (omega arith) (omega arith)
+        (added_to ask code Ends 1 (b + 4) (h + 4) b h s0 c next _ (omega arith) (omega arith)
+        (added_to ask code Ends 0 (b + 4) (h + 4) (b + 4) (h + 4) s0 c next _ (omega arith) (omega arith)
+        (one_step_to ask code Ends (b + 3) (h + 3) (b + 4) (h + 4) s0 (at d place ks (Scalar n ∷ ops) l w) c c next _ (omega arith) (omega arith) (omega arith) (omega arith) first (designates b h n t cell place f has then raises)))))
 
     -- a component in place of the part that has it
     puts_part : (b h u i part place : ℕ) (p : Spot) (f : Found → Act Found) → offset_of code u i ≡ offset_in i (placed K.tables u) → slice_get code.instructions.items place ≡ Some (InstrOf.Select u i part) → ((q : Spot) → Meets b h (at d (place + 1) ks (Located q ∷ ops) l w) (f (found_at q) c l w)) → Meets b h (at d place ks (Located p ∷ ops) l w) (add 1 (f (found_behind (offset_in i (placed K.tables u)) i (found_at p)) c l w))
@@ -308,7 +304,7 @@ module _ (ask : Ask) (code : Code) (K : Tools) where
 
         by : (x : Option ObjectOf) → step ask code (at d place ks (Located p ∷ ops) l w) ≡ moved l (fetched (p.offset + offset_in i (placed K.tables u)) x NamedOf.Operand ops (here d place ks w)) → Meets b h (at d place ks (Located p ∷ ops) l w) (add 1 (bind (add 1 (bind (on_some x (stop UseAfterFree) (λ o. done (cells_at (p.offset + offset_in i (placed K.tables u)) 1 o)) c l w) (on_goes (λ v. dereferenced (scalar_of v))))) (on_goes (walk K more))))
         by None first = stop_step_to ask code Ends b h s0 _ c 2 next UseAfterFree l (omega arith) first refl refl
-        by (Some o) first = reads_access c b h (scalar_of (cells_at offset 1 o)) t cell (place + 1) s0 (walk K more) (omega arith) (omega arith) first has1 then raises
+        by (Some o) first = reads_access b h (scalar_of (cells_at offset 1 o)) t cell (place + 1) s0 (walk K more) first has1 then raises
 
     -- from a part on top to the one behind these steps, the first of which is no dereference; there are at most n of them
     selects_in : (n b h : ℕ) (steps : List Step) (t : ℕ) (s : List Kind) (p : Spot) (place : ℕ) → length steps ≤ n → are_walked true steps ≡ true → Agree K.tables code steps → Laid code place (selects_code steps t s) → Puts b h (place + length (selects_code steps t s)) → Raises b h → Meets b h (at d place ks (Located p ∷ ops) l w) (walk K steps (found_at p) c l w)
@@ -334,37 +330,36 @@ module _ (ask : Ask) (code : Code) (K : Tools) where
     pub selects : (b h : ℕ) (steps : List Step) (t : ℕ) (s : List Kind) (p : Spot) (place : ℕ) → are_walked true steps ≡ true → Agree K.tables code steps → Laid code place (selects_code steps t s) → Puts b h (place + length (selects_code steps t s)) → Raises b h → Meets b h (at d place ks (Located p ∷ ops) l w) (walk K steps (found_at p) c l w)
     selects b h steps t s p place = selects_in (length steps) b h steps t s p place (omega arith)
 
-    -- from a variable of a record type, where the first step takes at most one from the clock
-    object_from : (c0 b h : ℕ) (v : Var) (steps : List Step) (first t : ℕ) (s : List Kind) (place : ℕ) → c ≤ c0 → c0 ≤ c + 1 → are_walked true steps ≡ true → Agree K.tables code steps → IsNoCopy (content_of d v w) → length d ≡ depth s → slice_get code.instructions.items place ≡ Some (InstrOf.Locate (out_to s v) v.slot first (height s)) → Laid code (place + 1) (selects_code steps t s) → Puts b h (place + 1 + length (selects_code steps t s)) → Raises b h → From c0 b h (at d place ks ops l w) (variable_as K Composite steps v d c l w)
+    -- from a variable of a record type
+    object_from : (b h : ℕ) (v : Var) (steps : List Step) (first t : ℕ) (s : List Kind) (place : ℕ) → are_walked true steps ≡ true → Agree K.tables code steps → IsNoCopy (content_of d v w) → length d ≡ depth s → slice_get code.instructions.items place ≡ Some (InstrOf.Locate (out_to s v) v.slot first (height s)) → Laid code (place + 1) (selects_code steps t s) → Puts b h (place + 1 + length (selects_code steps t s)) → Raises b h → Meets b h (at d place ks ops l w) (variable_as K Composite steps v d c l w)
     unfolding opened_outcome
-    object_from c0 b h v steps first t s place lo hi walked agree uncopied long has rest then raises =
-        subst (From c0 b h (at d place ks ops l w)) (sym (finds_composite K v steps d c l w uncopied))
+    object_from b h v steps first t s place walked agree uncopied long has rest then raises =
+        subst (Meets b h (at d place ks ops l w)) (sym (finds_composite K v steps d c l w uncopied))
         (by (spot_of (content_of d v w)) (by_code ask code d place ks ops l w (InstrOf.Locate (out_to s v) v.slot first (height s)) has ∙ ap (λ m. moved l (by_locate (spot_of (slot_at m v.slot w).content) ops (here d place ks w))) (out_is d s v long)))
       where
-        by : (o : Option Spot) → step ask code (at d place ks ops l w) ≡ moved l (by_locate o ops (here d place ks w)) → From c0 b h (at d place ks ops l w) (bind (object_found o c l w) (on_goes (walk K steps)))
-        by None go = stop_step_to ask code Ends b h _ _ c0 1 next UseAfterFree l (omega arith) go refl refl
+        by : (o : Option Spot) → step ask code (at d place ks ops l w) ≡ moved l (by_locate o ops (here d place ks w)) → Meets b h (at d place ks ops l w) (bind (object_found o c l w) (on_goes (walk K steps)))
+        by None go = stop_step_to ask code Ends b h _ _ c 1 next UseAfterFree l (omega arith) go refl refl
         by (Some p) go =
             let s0 = at d place ks ops l w in
-            subst (RunsTo ask code Ends b h s0 c0 next) (sym (bind_add 1 (walk K steps (found_at p) c l w) g))
-            (added_to ask code Ends 1 (b + 1) (h + 1) b h s0 c0 next _ (omega arith) (omega arith)
-            (one_step_to ask code Ends b h (b + 1) (h + 1) s0 (at d (place + 1) ks (Located p ∷ ops) l w) c0 c next _ (omega arith) (omega arith) lo hi go
+            subst (RunsTo ask code Ends b h s0 c next) (sym (bind_add 1 (walk K steps (found_at p) c l w) g))
+            (added_to ask code Ends 1 (b + 1) (h + 1) b h s0 c next _ (omega arith) (omega arith)
+            (one_step_to ask code Ends b h (b + 1) (h + 1) s0 (at d (place + 1) ks (Located p ∷ ops) l w) c c next _ (omega arith) (omega arith) (omega arith) (omega arith) go
             (selects b h steps t s p (place + 1) walked agree rest then raises)))
 
-    -- what finds a part behind a variable, and what follows it: each instruction is paid by the tick of its step of the name, and the first one
-    -- takes at most one from the clock
-    pub variable_from : (c0 b h : ℕ) (v : Var) (steps : List Step) (t : ℕ) (s : List Kind) (place : ℕ) → c ≤ c0 → c0 ≤ c + 1 → are_walked false steps ≡ true → Agree K.tables code steps → IsNoCopy (content_of d v w) → length d ≡ depth s → Laid code place (located_code (OfVariable v) steps t s) → Puts b h (place + length (located_code (OfVariable v) steps t s)) → Raises b h → From c0 b h (at d place ks ops l w) (variable_by K steps v d c l w)
+    -- what finds a part behind a variable, and what follows it: each instruction is paid by the tick of its step of the name
+    pub variable_from : (b h : ℕ) (v : Var) (steps : List Step) (t : ℕ) (s : List Kind) (place : ℕ) → are_walked false steps ≡ true → Agree K.tables code steps → IsNoCopy (content_of d v w) → length d ≡ depth s → Laid code place (located_code (OfVariable v) steps t s) → Puts b h (place + length (located_code (OfVariable v) steps t s)) → Raises b h → Meets b h (at d place ks ops l w) (variable_by K steps v d c l w)
     unfolding begins_as
-    variable_from c0 b h v [] t s place lo hi walked agree uncopied long has then raises =
+    variable_from b h v [] t s place walked agree uncopied long has then raises =
         let e : place + 1 ≡ place + 1 + 0 = omega arith in
-        object_from c0 b h v [] t t s place lo hi refl tt uncopied long has.0 has.2 (subst (Puts b h) e then) raises
-    variable_from c0 b h v (Component u i ∷ steps) t s place lo hi walked agree uncopied long has then raises =
+        object_from b h v [] t t s place refl tt uncopied long has.0 has.2 (subst (Puts b h) e then) raises
+    variable_from b h v (Component u i ∷ steps) t s place walked agree uncopied long has then raises =
         let all = Component u i ∷ steps in
         let e : place + length (located_code (OfVariable v) all t s) ≡ place + 1 + length (selects_code all t s) = omega arith in
-        object_from c0 b h v all u t s place lo hi walked agree uncopied long has.0 has.2 (subst (Puts b h) e then) raises
-    variable_from c0 b h v (Dereference ∷ steps) t s place lo hi walked agree uncopied long has then raises =
+        object_from b h v all u t s place walked agree uncopied long has.0 has.2 (subst (Puts b h) e then) raises
+    variable_from b h v (Dereference ∷ steps) t s place walked agree uncopied long has then raises =
         let s0 = at d place ks ops l w in
         let e : place + length (located_code (OfVariable v) (Dereference ∷ steps) t s) ≡ place + 1 + 1 + length (selects_code steps t s) = omega arith in
-        subst (From c0 b h s0) (sym (reads_variable K v steps d c l w))
-        (reads_access c0 b h (value_of d v w) (first_type steps t) (height s) (place + 1) s0 (walk K steps) lo hi (read_step ask K.tables code 0 w (local_at s v) v access_value (new_operand s) s d place ks ops l w long has.0 ∙ on_top (value_of d v w) d (place + 1) ks ops l w) has.2.0
+        subst (Meets b h s0) (sym (reads_variable K v steps d c l w))
+        (reads_access b h (value_of d v w) (first_type steps t) (height s) (place + 1) s0 (walk K steps) (read_step ask K.tables code 0 w (local_at s v) v access_value (new_operand s) s d place ks ops l w long has.0 ∙ on_top (value_of d v w) d (place + 1) ks ops l w) has.2.0
         (λ m. selects b h steps t s (whole_spot m) (place + 1 + 1) walked agree has.2.2 (subst (Puts b h) e then) raises) raises)
-    variable_from c0 b h v (Narrow u ∷ steps) t s place lo hi walked agree uncopied long has then raises = absurd (cc walked)
+    variable_from b h v (Narrow u ∷ steps) t s place walked agree uncopied long has then raises = absurd (cc walked)

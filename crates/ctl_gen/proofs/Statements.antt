@@ -47,9 +47,8 @@ use Rattle.ctl_gen.proofs.PoolDeclared.{pool_does, root_is}
 use Rattle.ctl_gen.proofs.Copies.{copy_does}
 use Rattle.ctl_gen.proofs.Assign.{scalar_runs, valued_runs}
 use Rattle.ctl_gen.proofs.Expressions.{Value}
-use Rattle.ctl_gen.proofs.Sources.{copied_means}
 use Rattle.ctl_gen.proofs.Walked.{part_begun}
-use Rattle.ctl_gen.proofs.Evaluated.{name_starts, value_means}
+use Rattle.ctl_gen.proofs.Evaluated.{copied_means, value_means}
 use Rattle.ctl_gen.proofs.Branches.{Ends, arm_runs}
 use Rattle.ctl_gen.proofs.Loops.{leave_step}
 use Rattle.ctl_gen.proofs.Gathers.{collections_do}
@@ -136,8 +135,7 @@ module _ (ask : Ask) (k : Tables) (code : Code) (setting : Setting k code) (call
   copied_object slot t e (Some x) is runs =
       let h = both_true _ _ runs in
       let known = plain_if k t h.0 in
-      let reads = copied_means K e t x is in
-      copy_does ask k code setting call default constants t known.0 known.1 known.2 bound calls slot x e is h.1 (λ w0. name_starts ask k code setting call default bound calls w0 reads.name x reads.reaches (part_begun k.records x h.1))
+      copy_does ask k code setting call default constants t known.0 known.1 known.2 bound calls slot x e h.1 (λ w0. copied_means ask k code setting call default bound calls w0 e t x is (part_begun k.records x h.1))
 
   given_object : (slot : ℕ) (ty : Ty) (e : Expr) → (with_value slot ty (value_code e)).runs k.records ≡ true → Does ask k code bound (λ a. (with_value slot ty (value_code e)).code a.stack) (λ d caught. object slot ty (Some (eval e)) K d (last_of d))
   given_object slot (Record t) e runs = copied_object slot t e (copied t (value_code e)) refl runs

@@ -7,7 +7,7 @@ ghost use Rattle.ctl_code.specs.Windows.{height};
 ghost use Rattle.ctl_layout.specs.Parts as spec;
 ghost use Rattle.ctl_layout.specs.Parts.{OfVariable, seen};
 ghost use Rattle.ctl_layout.specs.Values.{begun_by, by_reference};
-ghost use Rattle.ctl_gen.specs.Emitted.{lined, rest_of};
+ghost use Rattle.ctl_gen.specs.Emitted.{lined};
 
 use crate::emit::Emitter;
 use ctl_code::code::{Cell, Instr};
@@ -160,21 +160,6 @@ impl Emitter {
                 part: record,
             },
         )
-    }
-
-    /// Emits what finds the part that a name denotes, of this record type; an access value that it begins with stands there.
-    pub fn rest_of(&mut self, of: &Name, part: Reached<'_>, record: usize) -> Result<(), AllocError>
-        ensures { OnOk result (self.new ≡ lined (rest_of (seen (begun_by of.now) (Some part.entry)) «record») self.old) }
-    {
-        match part {
-            Reached::Variable(variable) => self.locate(variable, record),
-            Reached::Part {
-                steps,
-                record: whole,
-                position,
-            } => self.select(of, steps, whole, position, record),
-            Reached::Object { steps } => self.behind_start(of, steps, record),
-        }
     }
 
     /// Emits what finds the part that a name denotes, of this record type.

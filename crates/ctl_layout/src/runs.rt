@@ -17,8 +17,8 @@ ghost use Rattle.ctl_layout.specs.Values.{denoted};
 
 use crate::copies::goes_back;
 use crate::forms::{Table, is_number, is_run_type};
-use crate::right::{Denoted, Reached, begins_with_variable, reached_by, sourced};
-use crate::typing::{copied, value_type};
+use crate::right::{Denoted, Reached, reached_by, sourced};
+use crate::typing::{copied_from, value_type};
 use ctl_program::expression::{Actual, Expr, Name, Operand, Step};
 use ctl_program::program::{Checked, Subprogram};
 use ctl_program::statement::{Arm, Association, Choices, Handler, Item, Master, Piece, Stmt};
@@ -116,23 +116,15 @@ fn may_be_part(part: Option<Denoted<'_>>, table: &Table) -> bool
     }
 }
 
-/// Tells the same of it, if it begins with a variable; any other one is not run.
-#[tactic(auto, using(crate::proofs::Layers::variable_part, crate::proofs::Layers::variable_object))]
-fn is_variable_part(part: Option<Denoted<'_>>, table: &Table) -> bool
-    ensures { result ≡ parts.may_be_part (parts.in_variable (denoted part.entry)) table.now.records.now }
+/// Tells whether a value is that of a part of a record type, which is run (RM 3.3.1).
+#[cycle(values)]
+#[tactic(auto, using(crate::proofs::Layers::copied_is))]
+fn is_part_value(expression: &Expr, number: usize, table: &Table) -> bool
+    ensures { result ≡ parts.may_be_part (values.copied number (values.value_code expression.now)) table.now.records.now }
 {
-    match part {
-        Some(found) => match found.reached {
-            Reached::Variable(_) => true,
-            Reached::Part { steps, record, .. } => {
-                begins_with_variable(found.name)
-                    && (do_selectors_run(table, steps) && table.is_laid(record))
-            }
-            Reached::Object { steps } => {
-                begins_with_variable(found.name) && do_selectors_run(table, steps)
-            }
-        },
-        None => false,
+    match expression {
+        Expr::Read(name, ty) => is_part(name, copied_from(number, name, *ty), table),
+        _ => false,
     }
 }
 
@@ -140,33 +132,32 @@ fn is_variable_part(part: Option<Denoted<'_>>, table: &Table) -> bool
 fn is_copied(table: &Table, number: usize, expression: &Expr) -> bool
     ensures { (slot : ℕ) → result ≡ (spec.copy slot number (values.copied number (values.value_code expression.now))).runs table.now.records.now }
 {
-    table.is_plain(number) && may_be_part(copied(number, expression), table)
+    table.is_plain(number) && is_part_value(expression, number, table)
 }
 
-/// Tells whether one that is allocated may take this value: that of a part of the type, whose name begins with a variable (RM 4.8); no pool
-/// has an Allocate of its own (RM 13.11).
-fn is_copied_anew(table: &Table, number: usize, expression: &Expr) -> bool
-    ensures { (access : ℕ) → result ≡ (values.new_copy access number (parts.in_variable (values.copied number (values.value_code expression.now)))).runs table.now.records.now }
+/// Tells whether one that is allocated may take this value: that of a part of the type (RM 4.8); no pool has an Allocate of its own (RM 13.11).
+#[cycle(values)]
+fn is_copied_anew(expression: &Expr, number: usize, table: &Table) -> bool
+    ensures { (access : ℕ) → result ≡ (values.new_copy access number (values.copied number (values.value_code expression.now))).runs table.now.records.now }
 {
-    table.is_plain(number)
-        && table.none_allocates()
-        && is_variable_part(copied(number, expression), table)
+    table.is_plain(number) && table.none_allocates() && is_part_value(expression, number, table)
 }
 
 /// Tells whether an allocator is run: of an object of a record type, without a handle; its value, if it has one, is that of a part of the type
 /// (RM 4.8).
+#[cycle(values)]
 fn is_allocated(
-    table: &Table,
     ty: Ty,
-    handle: &Option<Boxed<Expr>>,
     value: &Option<Boxed<Expr>>,
+    handle: &Option<Boxed<Expr>>,
+    table: &Table,
 ) -> bool
     ensures { (access : ℕ) → result ≡ (values.new access ty (option_map values.value_code handle.now) (option_map values.value_code value.now)).runs table.now.records.now }
 {
     match ty {
         Ty::Record(number) => match (handle, value) {
             (None, None) => table.is_plain(number),
-            (None, Some(value)) => is_copied_anew(table, number, value.get()),
+            (None, Some(value)) => is_copied_anew(value.get(), number, table),
             (Some(_), _) => false,
         },
         _ => false,
@@ -198,7 +189,7 @@ fn value(expression: &Expr, table: &Table) -> bool
                 && !goes_back(actuals.as_slice())
                 && are_actuals(actuals.as_slice(), table)
         }
-        Expr::New(_, ty, handle, value) => is_allocated(table, *ty, handle, value),
+        Expr::New(_, ty, handle, value) => is_allocated(*ty, value, handle, table),
         Expr::Convert(ty, operand) => is_number(*ty) && value(operand.get(), table),
         Expr::Discriminant(name, _) => is_part(name, reached_by(name), table),
         Expr::Subpool(..) => false,

@@ -1,12 +1,12 @@
 //! The types of expressions (RM 4.4, 4.5).
 
-ghost use Rattle.std.specs.Prelude.{◌≡◌, map};
-ghost use Rattle.ctl_layout.specs.Parts as parts;
+ghost use Rattle.std.specs.Prelude.{◌≡◌, map, Some};
+ghost use Rattle.ctl_layout.specs.Parts.{seen};
 ghost use Rattle.ctl_layout.specs.Values as spec;
 ghost use Rattle.ctl_layout.specs.Values.{denoted};
 
-use crate::right::{Denoted, in_variable, reached_of};
-use ctl_program::expression::{Expr, Operand};
+use crate::right::{Denoted, Reached, reached_by, reached_of};
+use ctl_program::expression::{Expr, Name, Operand};
 use ctl_program::operators::BinaryOp;
 use ctl_program::types::Ty;
 
@@ -58,18 +58,22 @@ fn is_of(record: usize, ty: Option<Ty>) -> bool
 pub fn copied(record: usize, value: &Expr) -> Option<Denoted<'_>>
     ensures { denoted result ≡ spec.copied «record» (spec.value_code value.now) }
 {
-    let same = is_of(record, type_of(value));
-    match reached_of(value) {
-        Some(part) if same => Some(part),
-        Some(_) | None => None,
+    if is_of(record, type_of(value)) {
+        reached_of(value)
+    } else {
+        None
     }
 }
 
-/// Gives that of an object which is allocated: its name begins with a variable (RM 4.8).
-pub fn allocated(record: usize, value: &Expr) -> Option<Denoted<'_>>
-    ensures { denoted result ≡ parts.in_variable (spec.copied «record» (spec.value_code value.now)) }
+/// Gives the part of a record type that a name denotes, from which a value of this type is read, if it is of that type (RM 3.3.1).
+pub fn copied_from(record: usize, name: &Name, ty: Ty) -> Option<Reached<'_>>
+    ensures { seen (spec.begun_by name.now) result ≡ spec.reached_if (spec.reached_by name.now) (spec.is_of «record» (Some ty)) }
 {
-    in_variable(copied(record, value))
+    if is_of(record, Some(ty)) {
+        reached_by(name)
+    } else {
+        None
+    }
 }
 
 /// Gives the type of the first operand of a chain.
