@@ -20,7 +20,7 @@ use crate::code::{Cell, Code, Instr, Named, Operator, Way};
 use crate::images::count_images;
 use crate::kinds::{Kind, is_same_kind};
 use crate::layouts::{is_declarable, is_in_scope};
-use crate::pools::{is_giving_fine, is_pool_fine, is_taking_fine};
+use crate::pools::{is_giving_fine, is_pool_fine, is_taking_fine, is_taking_into_fine};
 use crate::types::{is_binary_of, is_cell_of, is_scalar, is_unary_of};
 use ctl_program::operators::SubprogramKind;
 use ctl_program::types::Ty;
@@ -763,6 +763,7 @@ pub fn is_fine(code: &Code, place: usize, instr: &Instr) -> bool
         } => is_new_copy_fine(code, place, access, record, ty, at),
         Instr::NewIn { record, ty, at } => is_new_in_fine(code, place, record, ty, at),
         Instr::TakeBlock { record, out, slot } => is_taking_fine(code, place, record, out, slot),
+        Instr::TakeBlockInto { record, of, .. } => is_taking_into_fine(code, place, record, of),
         Instr::GiveBlock { record } => is_giving_fine(code, place, record),
         Instr::Free { access, out, slot } => is_free_fine(code, place, access, out, slot),
         Instr::FreePart { access, record, .. } => is_free_part_fine(code, place, access, record),

@@ -9,7 +9,7 @@ ghost use Rattle.ctl_code.specs.Valid.{DropsPart, IsDeclarable, IsFine, Leads, U
 ghost use Rattle.ctl_code.specs.Windows.{HasSlot, depth, height};
 
 use crate::code::Code;
-use crate::fine::{drops_part, has, is_operand, leads_on};
+use crate::fine::{drops_part, has, is_operand, is_part, leads_on};
 use crate::kinds::Kind;
 use crate::layouts::is_declarable;
 use ctl_program::types::Ty;
@@ -50,6 +50,15 @@ pub(crate) fn is_taking_fine(
     ensures { IsTrue result ↔ IsFine code.now place (I.TakeBlock «record» out slot) (stack_at code.now.kinds place) }
 {
     takes_request(code, place, record) && code.kinds.has_slot(place, out, slot)
+}
+
+/// Checks a call of the library's Allocate whose address a component takes: the part that has it stands below a size and an alignment, over
+/// the part that is the pool (RM 13.11).
+pub(crate) fn is_taking_into_fine(code: &Code, place: usize, record: usize, of: usize) -> bool
+    requires { place + 1 < 2 ^ 64 }
+    ensures { (position : ℕ) → IsTrue result ↔ IsFine code.now place (I.TakeBlockInto «record» of position) (stack_at code.now.kinds place) }
+{
+    has_request(code, place) && is_part(code, place, 2, of) && drops_part(code, place, 3, record)
 }
 
 /// Checks a call of the library's Deallocate: the part that is the pool stands below an address, a size and an alignment (RM 13.11).

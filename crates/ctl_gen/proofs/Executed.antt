@@ -41,7 +41,7 @@ use Rattle.ctl_gen.proofs.Walked.{part_begun, start_of, steps_of}
 use Rattle.ctl_gen.proofs.Sources.{IsSource, source_means}
 use Rattle.ctl_gen.proofs.RecordAssign.{record_does}
 use Rattle.ctl_gen.proofs.Freeing.{part_freed_does, variable_freed_does}
-use Rattle.ctl_gen.proofs.LibraryCalls.{library_allocate_does, library_deallocate_does}
+use Rattle.ctl_gen.proofs.LibraryCalls.{library_allocate_does, library_deallocate_does, part_allocated_does}
 use Rattle.ctl_gen.proofs.Calls.{call_does}
 use Rattle.ctl_gen.proofs.Returns.{return_runs}
 use Rattle.ctl_gen.proofs.Assign.{assign_runs}
@@ -168,15 +168,20 @@ module _ (ask : Ask) (k : Tables) (code : Code) (setting : Setting k code) (call
       let g = reaches x refl in
       part_freed_does ask k code setting call default constants bound calls access b act (begun x refl (both_true _ _ runs.1).0) steps t position runs.1 g.0 (find Elementary K) g.1
 
-  -- the library's Allocate of a pool that a variable is, whose address a variable takes (13.11)
-  block_taken : (o q : Option Reached) (act held : List ℕ → Act (List ℕ)) (pool address : Naming) (size alignment : Expr) → ((x : Reached) → o ≡ Some x → Leads K x act pool) → ((x : Reached) → q ≡ Some x → Reaches K x held (address Elementary K)) → Performs (library_allocate o q (value_code size) (value_code alignment)) (call_allocate pool address (eval size) (eval alignment))
-  block_taken None q act held pool address size alignment leads reaches runs n texts = absurd (cc)
-  block_taken (Some (Part b steps t position)) q act held pool address size alignment leads reaches runs n texts = absurd (cc)
-  block_taken (Some (Object b steps)) q act held pool address size alignment leads reaches runs n texts = absurd (cc)
-  block_taken (Some (Variable p)) None act held pool address size alignment leads reaches runs n texts = absurd (cc)
-  block_taken (Some (Variable p)) (Some (Part b steps t position)) act held pool address size alignment leads reaches runs n texts = absurd (cc)
-  block_taken (Some (Variable p)) (Some (Object b steps)) act held pool address size alignment leads reaches runs n texts = absurd (cc)
-  block_taken (Some (Variable p)) (Some (Variable v)) act held pool address size alignment leads reaches runs n texts =
+  -- the library's Allocate of a pool that a variable is, whose address a variable takes, or a component (13.11)
+  block_taken : (o q : Option Reached) (act held : List ℕ → Act (List ℕ)) (pool address : Naming) (size alignment : Expr) → ((x : Reached) → o ≡ Some x → Leads K x act pool) → ((x : Reached) → q ≡ Some x → Reaches K x held (address Elementary K)) → Begins q held → Performs (library_allocate o q (value_code size) (value_code alignment)) (call_allocate pool address (eval size) (eval alignment))
+  block_taken None q act held pool address size alignment leads reaches begun runs n texts = absurd (cc)
+  block_taken (Some (Part b steps t position)) q act held pool address size alignment leads reaches begun runs n texts = absurd (cc)
+  block_taken (Some (Object b steps)) q act held pool address size alignment leads reaches begun runs n texts = absurd (cc)
+  block_taken (Some (Variable p)) None act held pool address size alignment leads reaches begun runs n texts = absurd (cc)
+  block_taken (Some (Variable p)) (Some (Part b steps t position)) act held pool address size alignment leads reaches begun runs n texts =
+      let x = Part b steps t position in
+      let g = reaches x refl in
+      let h = both_true _ _ runs.1 in
+      let f = both_true _ _ h.1 in
+      part_allocated_does ask k code call default bound p act pool (leads (Variable p) refl) setting.places b held (begun x refl (both_true _ _ h.0).0) steps t position h.0 g.0 address g.1 (value_code size) (value_code alignment) (eval size) (eval alignment) (means size f.0) (means alignment (both_true _ _ f.1).0)
+  block_taken (Some (Variable p)) (Some (Object b steps)) act held pool address size alignment leads reaches begun runs n texts = absurd (cc)
+  block_taken (Some (Variable p)) (Some (Variable v)) act held pool address size alignment leads reaches begun runs n texts =
       let h = both_true _ _ runs.1 in
       library_allocate_does ask k code call default bound p act pool (leads (Variable p) refl) v address (reaches (Variable v) refl) (value_code size) (value_code alignment) (eval size) (eval alignment) (means size h.0) (means alignment (both_true _ _ h.1).0)
 
@@ -243,7 +248,7 @@ module _ (ask : Ask) (k : Tables) (code : Code) (setting : Setting k code) (call
   stmt_rolled (Stmt-F.Call f xs) = does (Stmt-F.Call f xs) _ _ (statement_roll (Stmt-F.Call f xs)) (exec_roll (Stmt-F.Call f xs)) (called_does f xs)
   stmt_rolled (Stmt-F.Nothing x) = missing_does (Stmt-F.Nothing x) (statement_roll (Stmt-F.Nothing x))
   stmt_rolled (Stmt-F.Dispatch op x) = missing_does (Stmt-F.Dispatch op x) (statement_roll (Stmt-F.Dispatch op x))
-  stmt_rolled (Stmt-F.LibraryAllocate p x size al) = does (Stmt-F.LibraryAllocate p x size al) _ _ (statement_roll (Stmt-F.LibraryAllocate p x size al)) (exec_roll (Stmt-F.LibraryAllocate p x size al)) (block_taken (reached_by p) (reached_by x) (given_by p K) (given_by x K) (eval_name p) (eval_name x) size al (name_leads K p) (name_finds K x))
+  stmt_rolled (Stmt-F.LibraryAllocate p x size al) = does (Stmt-F.LibraryAllocate p x size al) _ _ (statement_roll (Stmt-F.LibraryAllocate p x size al)) (exec_roll (Stmt-F.LibraryAllocate p x size al)) (block_taken (reached_by p) (reached_by x) (given_by p K) (given_by x K) (eval_name p) (eval_name x) size al (name_leads K p) (name_finds K x) (begins x))
   stmt_rolled (Stmt-F.LibraryDeallocate p x size al) = does (Stmt-F.LibraryDeallocate p x size al) _ _ (statement_roll (Stmt-F.LibraryDeallocate p x size al)) (exec_roll (Stmt-F.LibraryDeallocate p x size al)) (block_given (reached_by p) (given_by p K) (eval_name p) x size al (name_leads K p))
   stmt_rolled (Stmt-F.Free a x) = does (Stmt-F.Free a x) _ _ (statement_roll (Stmt-F.Free a x)) (exec_roll (Stmt-F.Free a x)) (free_does a (reached_by x) (given_by x K) (eval_name x) (name_finds K x) (begins x))
   stmt_rolled (Stmt-F.Release x) = missing_does (Stmt-F.Release x) (statement_roll (Stmt-F.Release x))

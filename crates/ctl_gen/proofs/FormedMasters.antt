@@ -50,7 +50,7 @@ use Rattle.ctl_gen.proofs.FormedExpressions.{copied_found, name_found, source_fo
 use Rattle.ctl_gen.proofs.FormedLines.{block_formed}
 use Rattle.ctl_gen.proofs.FormedParts.{IsFound, record_formed}
 use Rattle.ctl_gen.proofs.Walked.{part_begun}
-use Rattle.ctl_gen.proofs.FormedStatements.{MayDeclare, Stays, all_stay, allocate_formed, assign_formed, assign_part_formed, copy_formed, deallocate_formed, declaration_formed, for_stays, free_formed, free_part_formed, leaves_stay, leaves_when_stay, loop_stays, pool_formed, returned_formed, tested_turns, valued_formed}
+use Rattle.ctl_gen.proofs.FormedStatements.{MayDeclare, Stays, all_stay, allocate_formed, allocate_into_formed, assign_formed, assign_part_formed, copy_formed, deallocate_formed, declaration_formed, for_stays, free_formed, free_part_formed, leaves_stay, leaves_when_stay, loop_stays, pool_formed, returned_formed, tested_turns, valued_formed}
 use Rattle.ctl_gen.proofs.FormedTexts.{print_formed}
 use Rattle.ctl_gen.proofs.FormedTypes.{run_scalar}
 use Rattle.ctl_gen.proofs.FormedValues.{Fine, Usable, usable_as, value_usable}
@@ -202,7 +202,11 @@ module _ (code : Code) (records : List RecordType) (k : W.Setting) (declarable :
   allocate_good env (Some (Part b steps t position)) o size alignment pool target h g runs a n q agrees texts can = absurd (cc)
   allocate_good env (Some (Object b steps)) o size alignment pool target h g runs a n q agrees texts can = absurd (cc)
   allocate_good env (Some (Variable p)) None size alignment pool target h g runs a n q agrees texts can = absurd (cc)
-  allocate_good env (Some (Variable p)) (Some (Part b steps t position)) size alignment pool target h g runs a n q agrees texts can = absurd (cc)
+  allocate_good env (Some (Variable p)) (Some (Part b steps t position)) size alignment pool target h g runs a n q agrees texts can =
+      let d = both_true (parts_run records b steps t) ((value_code size).runs records && ((value_code alignment).runs records && true)) runs in
+      let e = both_true ((value_code size).runs records) ((value_code alignment).runs records && true) d.1 in
+      let f = both_true ((value_code alignment).runs records) true e.1 in
+      allocate_into_formed code env p b steps t position (value_code size) (value_code alignment) a.stack agrees (pool.1 refl) target.0 (target.1 (both_true _ _ d.0).0) (usable_typed env size Count h tt e.0) (usable_typed env alignment Count g tt f.0) q
   allocate_good env (Some (Variable p)) (Some (Object b steps)) size alignment pool target h g runs a n q agrees texts can = absurd (cc)
   allocate_good env (Some (Variable p)) (Some (Variable v)) size alignment pool target h g runs a n q agrees texts can =
       let e = both_true ((value_code size).runs records) ((value_code alignment).runs records && true) runs in

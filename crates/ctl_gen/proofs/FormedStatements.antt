@@ -20,7 +20,7 @@ use Rattle.ctl_code.specs.Valid.{IsCellOf, IsDeclarable, IsException, IsFine, Ha
 use Rattle.ctl_layout.specs.Parts.{Start, Reached, Variable, are_followed, located_code, part_code, part_runs}
 use Rattle.ctl_layout.specs.Around.{Line, Around, behind, local_at, local_cell, new_operand, newest_at, newest_cell, out_to}
 use Rattle.ctl_layout.specs.Values.{ValueCode, held, value_type}
-use Rattle.ctl_layout.specs.Layout.{StatementCode, all, assign_code, assign_part_code, bounds_code, copy, declaration, discriminants_code, failed_code, for, free_part_code, in_loop, leaves_code, loop, on_pool, pool_code, pool_operand, pool_type, return_held, scalar_code, store_part_code, test_code, test_held, test_length, tested_code, turns_code, valued_code, values_code, with_bounds, with_discriminants, with_pool, with_types}
+use Rattle.ctl_layout.specs.Layout.{StatementCode, all, assign_code, assign_part_code, bounds_code, copy, declaration, discriminants_code, failed_code, for, free_part_code, in_loop, leaves_code, loop, on_pool, on_pool_and_part, pool_code, pool_operand, pool_type, request, return_held, scalar_code, store_part_code, test_code, test_held, test_length, tested_code, turns_code, valued_code, values_code, values_then, with_bounds, with_discriminants, with_pool, with_pool_and_part, with_types}
 use Rattle.ctl_layout.specs.Defaults.{is_declared}
 use Rattle.ctl_layout.specs.Records.{is_plain}
 use Rattle.ctl_layout.proofs.Extensions.{both_true}
@@ -157,18 +157,31 @@ module _ (code : Code) where
       let top = Operand x.1 ∷ s in
       both code (x.0.code (new_operand s) x.1 s) (values_code xs top) s top (Some (with_types xs top)) (usable.0.formed (new_operand s) s agrees refl) (values_formed env xs top agrees usable.1)
 
-  -- an instruction on a pool and values, which it takes
+  -- an instruction on values and what is below them, which it takes
+  values_then_formed : (env : W.Frames) (xs : List (ValueCode × Ty)) (i : Instr) (over s : List Kind) → Agrees env over → AreUsable env xs → ((place : ℕ) → Leads code (place + 1) s → IsFine code place i (with_types xs over)) → Formed code (values_then xs i over) over (Some s)
+  values_then_formed env xs i over s agrees usable fine =
+      let top = with_types xs over in
+      both code (values_code xs over) ((i, top) ∷ []) over top (Some s) (values_formed env xs over agrees usable) (one code i top (Some s) fine)
+
+  -- an instruction on a pool and values
   on_pool_formed : (env : W.Frames) (p : Var) (xs : List (ValueCode × Ty)) (i : Instr) (s : List Kind) → Agrees env s → IsNamed env p → AreUsable env xs → ((place : ℕ) → Leads code (place + 1) s → IsFine code place i (with_types xs (with_pool s))) → Formed code (on_pool p xs i s) s (Some s)
   on_pool_formed env p xs i s agrees named usable fine =
       let pool = with_pool s in
-      let top = with_types xs pool in
-      both code (pool_operand p s) (values_code xs pool ++ (i, top) ∷ []) s pool (Some s) (part_formed code env (Variable p) pool_type s agrees refl named)
-      (both code (values_code xs pool) ((i, top) ∷ []) pool top (Some s) (values_formed env xs pool agrees usable)
-      (one code i top (Some s) fine))
+      both code (pool_operand p s) (values_then xs i pool) s pool (Some s) (part_formed code env (Variable p) pool_type s agrees refl named) (values_then_formed env xs i pool s agrees usable fine)
 
-  pub allocate_formed : (env : W.Frames) (p : Var) (out slot : ℕ) (size alignment : ValueCode) (s : List Kind) → Agrees env s → IsNamed env p → HasSlot s out slot → Usable code env size Count → Usable code env alignment Count → Formed code (on_pool p ((size, Count) ∷ (alignment, Count) ∷ []) (InstrOf.TakeBlock pool_type out slot) s) s (Some s)
+  pub allocate_formed : (env : W.Frames) (p : Var) (out slot : ℕ) (size alignment : ValueCode) (s : List Kind) → Agrees env s → IsNamed env p → HasSlot s out slot → Usable code env size Count → Usable code env alignment Count → Formed code (on_pool p (request size alignment) (InstrOf.TakeBlock pool_type out slot) s) s (Some s)
   allocate_formed env p out slot size alignment s agrees named there first second =
-      on_pool_formed env p ((size, Count) ∷ (alignment, Count) ∷ []) (InstrOf.TakeBlock pool_type out slot) s agrees named (first, (second, tt)) (λ place next. ((with_pool s, refl, (s, refl, next)), there))
+      on_pool_formed env p (request size alignment) (InstrOf.TakeBlock pool_type out slot) s agrees named (first, (second, tt)) (λ place next. ((with_pool s, refl, (s, refl, next)), there))
+
+  pub allocate_into_formed : (env : W.Frames) (p : Var) (b : Start) (steps : List Step) (t position : ℕ) (size alignment : ValueCode) (s : List Kind) → Agrees env s → IsNamed env p → are_followed b steps ≡ true → IsBegun code env b → Usable code env size Count → Usable code env alignment Count → Formed code (on_pool_and_part p b steps t (request size alignment) (InstrOf.TakeBlockInto pool_type t position) s) s (Some s)
+  allocate_into_formed env p b steps t position size alignment s agrees named followed begun first second =
+      let pool = with_pool s in
+      let over = with_pool_and_part t s in
+      let xs = request size alignment in
+      let i = InstrOf.TakeBlockInto pool_type t position in
+      both code (pool_operand p s) (located_code b steps t pool ++ values_then xs i over) s pool (Some s) (part_formed code env (Variable p) pool_type s agrees refl named)
+      (both code (located_code b steps t pool) (values_then xs i over) pool over (Some s) (located_formed code env b steps t pool agrees followed begun)
+      (values_then_formed env xs i over s agrees (first, (second, tt)) (λ place next. (pool, refl, (s, refl, next)))))
 
   pub deallocate_formed : (env : W.Frames) (p : Var) (address size alignment : ValueCode) (s : List Kind) → Agrees env s → IsNamed env p → Usable code env address Address → Usable code env size Count → Usable code env alignment Count → Formed code (on_pool p ((address, Address) ∷ (size, Count) ∷ (alignment, Count) ∷ []) (InstrOf.GiveBlock pool_type) s) s (Some s)
   deallocate_formed env p address size alignment s agrees named first second third =

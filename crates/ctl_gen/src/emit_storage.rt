@@ -1,8 +1,10 @@
 //! The instructions of calls of the library's Allocate and Deallocate, and those behind allocators and Unchecked_Deallocation (RM 13.11).
 
-ghost use Rattle.std.specs.Prelude.{◌≡◌, ◌∷◌, [], OnOk, None, Some};
+ghost use Rattle.std.specs.Prelude.{◌≡◌, ◌∷◌, ◌++◌, [], OnOk, None, Some, drop};
 ghost use Rattle.ctl_program.specs.declared.types.Ty.TheVariants.{Address, Count};
 ghost use Rattle.ctl_code.specs.Valid.{over_numbers};
+ghost use Rattle.ctl_code.specs.declared.code.Instr.TheVariants as InstrOf;
+ghost use Rattle.ctl_layout.specs.Parts as parts;
 ghost use Rattle.ctl_layout.specs.Parts.{Variable};
 ghost use Rattle.ctl_gen.specs.Emitted.{appended, lined, stated, with_values};
 ghost use Rattle.ctl_layout.specs.Values as values;
@@ -12,7 +14,7 @@ use crate::emit::Emitter;
 use ctl_code::code::{Instr, Way};
 use ctl_code::kinds::Kind;
 use ctl_layout::right::{Reached, reached_by};
-use ctl_program::expression::{Expr, Name};
+use ctl_program::expression::{Expr, Name, Step};
 use ctl_program::types::{Ty, Var};
 use std::alloc::AllocError;
 
@@ -97,6 +99,45 @@ impl Emitter {
         Ok(())
     }
 
+    /// Emits the pool of a call of the library's Allocate, and behind it what finds the part behind these steps whose component takes the
+    /// address: two new operands.
+    fn pool_and_part(
+        &mut self,
+        pool: Var,
+        of: &Name,
+        steps: &[Step],
+        record: usize,
+    ) -> Result<(), AllocError>
+        ensures { let s = self.old.notes.standing in
+            OnOk result (self.new ≡ appended (spec.pool_operand pool s ++ parts.located_code (values.begun_by of.now) steps.now «record» (spec.with_pool s)) [] (spec.with_pool_and_part «record» s) self.old) }
+    {
+        self.pool_operand(pool)?;
+        self.located(of, steps, record)?;
+        self.enter(Kind::Operand(Ty::Record(record)))
+    }
+
+    /// Emits the size and the alignment of such a call over its pool and a part of this record type; a component of the part takes the
+    /// address, by its position.
+    fn request_into(
+        &mut self,
+        record: usize,
+        position: usize,
+        size: &Expr,
+        alignment: &Expr,
+    ) -> Result<(), AllocError>
+        ensures { let s = self.old.notes.standing in
+            OnOk result (self.new ≡ appended (spec.values_then (spec.request (values.value_code size.now) (values.value_code alignment.now)) (InstrOf.TakeBlockInto spec.pool_type «record» position) s) [] (drop 2 s) self.old) }
+    {
+        self.request(size, alignment)?;
+        self.put(Instr::TakeBlockInto {
+            record: POOL_TYPE,
+            of: record,
+            position,
+        })?;
+        self.leave_operands(4);
+        Ok(())
+    }
+
     /// Emits a call of the library's Deallocate for the pool in a variable (RM 13.11).
     fn give_block(
         &mut self,
@@ -114,7 +155,7 @@ impl Emitter {
         Ok(())
     }
 
-    /// Emits a call of the library's Allocate: of a pool in a variable, whose address a variable takes (RM 13.11).
+    /// Emits a call of the library's Allocate: of a pool in a variable, whose address a variable takes, or a component (RM 13.11).
     pub fn library_allocate(
         &mut self,
         pool: &Name,
@@ -127,6 +168,19 @@ impl Emitter {
         match (reached_by(pool), reached_by(address)) {
             (Some(Reached::Variable(pool)), Some(Reached::Variable(address))) => {
                 self.take_block(pool, address, size, alignment)
+            }
+            (
+                Some(Reached::Variable(pool)),
+                Some(
+                    Reached::Part {
+                        steps,
+                        record,
+                        position,
+                    },
+                ),
+            ) => {
+                self.pool_and_part(pool, address, steps, record)?;
+                self.request_into(record, position, size, alignment)
             }
             _ => self.put(Instr::Missing),
         }

@@ -406,13 +406,19 @@ fn is_freed(name: &Name, table: &Table) -> bool
     }
 }
 
-/// Tells whether a call of the library's Allocate is run: of a pool in a variable, whose address a variable takes (RM 13.11).
+/// Tells whether a call of the library's Allocate is run: of a pool in a variable, whose address a variable takes, or a component of what the
+/// steps of the name lead to (RM 13.11).
 fn is_taken(pool: &Name, address: &Name, size: &Expr, alignment: &Expr, table: &Table) -> bool
     ensures { (masters : ℕ) → result ≡ (spec.library_allocate (values.reached_by pool.now) (values.reached_by address.now) (values.value_code size.now) (values.value_code alignment.now)).runs (among table.now.records.now masters) }
 {
     match (reached_by(pool), reached_by(address)) {
         (Some(Reached::Variable(_)), Some(Reached::Variable(_))) => {
             value(size, table) && value(alignment, table)
+        }
+        (Some(Reached::Variable(_)), Some(Reached::Part { steps, record, .. })) => {
+            are_laid_out(address, steps, record, table)
+                && value(size, table)
+                && value(alignment, table)
         }
         _ => false,
     }
