@@ -155,9 +155,8 @@ module _ (ask : Ask) (k : Tables) (code : Code) (setting : Setting k code) (call
   copies access t v None is runs = absurd (cc)
   copies access t v (Some x) is runs =
       let e = both_true _ _ runs in
-      let g = both_true _ _ e.0 in
       let first = variable_first (copied t (value_code v)) x is in
-      copied_value ask k code setting call default bound calls w0 access t (plain_if k t g.0) (eval v) x (copied_means K v t x first.0) g.1 e.1 first.1.0 first.1.1
+      copied_value ask k code setting call default bound calls w0 access t (plain_if k t e.0) (eval v) x (copied_means K v t x first.0) e.1 first.1.0 first.1.1
 
   allocates_with : (access : ℕ) (ty : Ty) (v : Expr) → Meets (new access ty None (Some (value_code v))) (eval_step (Expr-F.New access ty None (Some (eval v))))
   allocates_with access (Record t) v runs = copies access t v (in_variable (copied t (value_code v))) refl runs

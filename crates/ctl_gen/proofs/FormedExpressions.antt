@@ -60,15 +60,15 @@ module _ (code : Code) (records : List RecordType) where
   not_missing x same h = absurd (let e = sym (ap (λ (z : ValueCode). z.runs records) same) ∙ h in cc)
 
   -- an allocator with the value of a part, whose name begins with a variable
-  copied_fine : (env : W.Frames) (a u : ℕ) (o : Option Reached) → IsWalked o → IsAllocable code (length env) a u → IsHoused code env a → IsFound code env records o → (new_copy a u (in_variable o)).runs records ≡ true → Fine code env (new_copy a u (in_variable o)) (TyOf.Access a)
-  copied_fine env a u o walked allocable housed found = by (in_variable o) refl (variable_walked o walked)
+  copied_fine : (env : W.Frames) (a u : ℕ) (o : Option Reached) → IsWalked o → IsAllocable code (length env) a u → IsHoused code env a → IsRecord code u → IsFound code env records o → (new_copy a u (in_variable o)).runs records ≡ true → Fine code env (new_copy a u (in_variable o)) (TyOf.Access a)
+  copied_fine env a u o walked allocable housed known found = by (in_variable o) refl (variable_walked o walked)
     where
       by : (q : Option Reached) → in_variable o ≡ q → IsWalked q → (new_copy a u q).runs records ≡ true → Fine code env (new_copy a u q) (TyOf.Access a)
       by None is led runs = absurd (cc)
       by (Some x) is led runs =
           let first = variable_first o x is in
           let begun = (subst (IsFound code env records) first.0 found).1 (subst (λ b. is_begun b records ≡ true) (sym first.1.1) refl) in
-          inl (copied_own code env a u x led begun allocable housed)
+          inl (copied_own code env a u x led begun allocable housed known)
 
   -- what is copied of an expression, if there is one, is found
   abbrev IsCopyFound : W.Frames → Option Expr → Type 0
@@ -78,7 +78,7 @@ module _ (code : Code) (records : List RecordType) where
   -- an allocator, which is run where it has no handle, and no value but that of a part
   allocated_fine : (env : W.Frames) (a : ℕ) (t : Ty) (handle : Option ValueCode) (x : Option Expr) → ((u : ℕ) → t ≡ TyOf.Record u → IsAllocable code (length env) a u × IsHoused code env a × IsRecord code u) → IsCopyFound env x → (new a t handle (option_map value_code x)).runs records ≡ true → Fine code env (new a t handle (option_map value_code x)) (TyOf.Access a)
   allocated_fine env a (TyOf.Record u) None None may found runs = inl (new_own code env a u (may u refl).0 (may u refl).1 (may u refl).2)
-  allocated_fine env a (TyOf.Record u) None (Some x) may found runs = copied_fine env a u (copied u (value_code x)) (copied_walked u x) (may u refl).0 (may u refl).1 (found u) runs
+  allocated_fine env a (TyOf.Record u) None (Some x) may found runs = copied_fine env a u (copied u (value_code x)) (copied_walked u x) (may u refl).0 (may u refl).1 (may u refl).2 (found u) runs
   allocated_fine env a (TyOf.Record u) (Some h) x may found runs = absurd (cc)
   allocated_fine env a TyOf.Integer h x may found runs = absurd (cc)
   allocated_fine env a TyOf.Count h x may found runs = absurd (cc)

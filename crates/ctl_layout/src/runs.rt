@@ -143,14 +143,11 @@ fn is_copied(table: &Table, number: usize, expression: &Expr) -> bool
     table.is_plain(number) && may_be_part(copied(number, expression), table)
 }
 
-/// Tells whether one that is allocated may take this value: that of a part of the type, whose name begins with a variable (RM 4.8); no pool
-/// has an Allocate of its own (RM 13.11).
+/// Tells whether one that is allocated may take this value: that of a part of the type, whose name begins with a variable (RM 4.8).
 fn is_copied_anew(table: &Table, number: usize, expression: &Expr) -> bool
     ensures { (access : ℕ) → result ≡ (values.new_copy access number (parts.in_variable (values.copied number (values.value_code expression.now)))).runs table.now.records.now }
 {
-    table.is_plain(number)
-        && table.none_allocates()
-        && is_variable_part(copied(number, expression), table)
+    table.is_plain(number) && is_variable_part(copied(number, expression), table)
 }
 
 /// Tells whether an allocator is run: of an object of a record type, without a handle; its value, if it has one, is that of a part of the type

@@ -124,6 +124,7 @@ record IsOne (code : Code) (n : ℕ) (stack : List Kind) (k : List T.Frame) (ops
 is_one : (code : Code) (n : ℕ) (stack : List Kind) (k : List T.Frame) (ops : List Word) → HaveNumbers (suc n) stack → Stands code stack k ops → IsOne code n stack k ops
 is_one code n (Operand Integer ∷ below) k (Scalar x ∷ rest) have stands = record { below = below; number = x; rest = rest; kinds = refl; words = refl; more = have; stands = stands.1 }
 is_one code n (Operand Integer ∷ below) k (Located s ∷ rest) have stands = absurd stands.0
+is_one code n (Operand Integer ∷ below) k (Cells v ∷ rest) have stands = absurd stands.0
 is_one code n (Operand Integer ∷ below) k [] have stands = absurd stands
 is_one code n _ k ops have stands = elim have [ ]
 
