@@ -178,12 +178,7 @@ pub(crate) fn is_new_copy_in_fine(
         && code.kinds.has_numbers(place, ADDRESS_NUMBERS)
         && has(code, place, ADDRESS_NUMBERS, Kind::RecordValue)
         && code.kinds.height_at(place, ADDRESS_NUMBERS + 1) == at
-        && leads_on(
-            code,
-            place,
-            ADDRESS_NUMBERS + 1,
-            Some(Kind::Operand(ty)),
-        )
+        && leads_on(code, place, ADDRESS_NUMBERS + 1, Some(Kind::Operand(ty)))
 }
 
 /// Checks that an object is freed whose access value is in a variable (RM 13.11.2).

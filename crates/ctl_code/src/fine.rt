@@ -14,7 +14,8 @@ ghost use Rattle.ctl_code.specs.Valid.{HasFormals, HaveOperands, IsCalled, IsOpe
 ghost use Rattle.ctl_code.specs.Windows.{HasSlot, depth, height, variable_at};
 
 use crate::accesses::{
-    is_free_fine, is_free_part_fine, is_gather_fine, is_new_copy_fine, is_new_copy_in_fine, is_new_fine, is_new_in_fine,
+    is_free_fine, is_free_part_fine, is_gather_fine, is_new_copy_fine, is_new_copy_in_fine,
+    is_new_fine, is_new_in_fine,
 };
 use crate::code::{Cell, Code, Instr, Named, Operator, Way};
 use crate::images::count_images;

@@ -236,8 +236,7 @@ impl Stacks {
     ) -> bool
         ensures { IsTrue result ↔ (stack_in self.now stack ≡ over_numbers count (with_top kind (stack_in self.now below))) }
     {
-        self.has_numbers(stack, count)
-            && self.is_with_top(self.without(stack, count), kind, below)
+        self.has_numbers(stack, count) && self.is_with_top(self.without(stack, count), kind, below)
     }
 
     /// Tells whether the same stands on both.

@@ -25,7 +25,7 @@ use Rattle.ctl_code.specs.Valid.{HaveOperands}
 use Rattle.ctl_machine.specs.Holders.{binding, bound_in, formal_in}
 use Rattle.ctl_machine.specs.Moves.{cleared}
 use Rattle.ctl_machine.specs.Passing.{AreActuals, is_located, is_part, is_part_at, is_part_if, cell_passed, passed, bound, formal_if}
-use Rattle.ctl_machine.specs.Spots.{located}
+use Rattle.ctl_machine.specs.Spots.{located, value_spot}
 use Rattle.ctl_machine.specs.Under.{cell_in}
 use Rattle.ctl_machine.proofs.Cleared.{cleared_is, unset_cells}
 use Rattle.ctl_machine.proofs.Held.{content_in, unset_contents}

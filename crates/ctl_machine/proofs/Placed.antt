@@ -15,7 +15,7 @@ use Rattle.ctl_code.specs.declared.kinds.Kind.{Kind}
 use Rattle.ctl_code.specs.declared.kinds.Kind.TheVariants.{Operand}
 use Rattle.ctl_code.specs.declared.code.Code.{Code}
 use Rattle.ctl_code.specs.States as T
-use Rattle.ctl_code.specs.States.{Located, Scalar, Word, cells_of}
+use Rattle.ctl_code.specs.States.{Located, Scalar, Word, cells_of, Cells}
 use Rattle.ctl_code.specs.Table.{NotPassed, Passed, Test, address_test}
 use Rattle.ctl_code.specs.Valid.{HaveNumbers}
 use Rattle.ctl_code.specs.Windows.{height}

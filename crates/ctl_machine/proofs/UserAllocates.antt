@@ -39,7 +39,7 @@ use Rattle.ctl_machine.proofs.Homes.{home_shown}
 use Rattle.ctl_machine.proofs.Lists.{length_set, same_at}
 use Rattle.ctl_machine.proofs.Places.{place_is}
 use Rattle.ctl_machine.proofs.Plain.{transfers_makes}
-use Rattle.ctl_machine.proofs.Values.{operand_put, window_in}
+use Rattle.ctl_machine.proofs.Values.{operand_put, room_for, window_in}
 
 -- The body of the operation ------------------------------------------------------------------------------
 
@@ -77,6 +77,13 @@ asks_over code old ready place first stack s more mode leads i begins is = recor
   inside = subst (λ (z : Kept). Inside code z stack s.control s.operands s.world) (sym is) (record { stands = i.stands; sized = i.sized; holds = more_cells code (kept old) more s.control s.operands s.world i.holds; spots = i.spots });
   cell = begins ∙ ap (λ (z : Kept). first_window z.masters + height stack) (sym is);
 }
+
+-- there is room in the window for what stands before the next instruction
+pub next_within : (code : Code) (e : Engine) (place : ℕ) (stack over : List Kind) (k : List T.Frame) (ops : List Word) (w : World) → IsValid code → Inside code (kept e) stack k ops w → Leads code (place + 1) over → first_window (reverse e.masters.items) + height over ≤ length e.cells.items
+next_within code e place stack over k ops w valid i leads =
+    let room = room_for code.room (reverse e.masters.items) (length e.cells.items) i.holds.room in
+    let fits = valid.room (place + 1) over leads in
+    omega (arith, room, fits)
 
 -- behind the operands that stay
 pub begins_over : (code : Code) (e : Engine) (place first : ℕ) (s : State) → (a : AsksAllocate code e place first s) → first ≡ tall s.control (heads_of s.world.activations) + length s.operands

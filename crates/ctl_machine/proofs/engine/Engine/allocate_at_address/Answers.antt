@@ -1,3 +1,4 @@
+use Rattle.std.specs.Prelude.{◌<◌, ◌≤◌, OnOk, vec_capacity, vec_len}
 use Rattle.std.proofs.Common.{◌≡◌, ◌+◌, ◌∙◌, Err, Ok, Result, ap, refl, subst, sym, ℕ}
 use Rattle.ctl_code.specs.Table.{member_begins}
 use Rattle.ctl_machine.specs.declared.frame.Mode.{Mode}
@@ -21,9 +22,11 @@ begin_member-requires g c =
     let t = c.args.record in
     let b = c.requires.1.0 in
     let set = c.in-Ok.set in
-    let placed : PlacesThere code old added t s (Ok set) = subst (λ (z : Result ℕ Mode). PlacesThere code old added t s z) c.in-Ok.is c.in_ok-place_member.ensures.ok in
+    let placed : PlacesThere code old added t s (Ok set) = subst (λ (z : Result ℕ Mode). PlacesThere code old added t s z) c.in-Ok.is c.in_ok-set.ensures.ok in
     let is = placed_is code old added c.args.place t g.s.2 set g.s.1 s b placed.2 in
-    (c.requires.0, (subst (λ k. IsAdded code added set t (c.args.place + 1) (member_in s.operands k s)) (sym (ap place_in b.mode)) is, (refl, (c.in_ok-place_member.ensures.control, c.in_ok-place_member.ensures.spots))))
+    let room = subst (λ (z : Result ℕ Mode). OnOk z (vec_len added.control + 2 ≤ vec_capacity added.control)) c.in-Ok.is c.in_ok-set.ensures.control in
+    let free = subst (λ (z : Result ℕ Mode). OnOk z (vec_len added.spots < vec_capacity added.spots)) c.in-Ok.is c.in_ok-set.ensures.spots in
+    (c.requires.0, (subst (λ k. IsAdded code added set t (c.args.place + 1) (member_in s.operands k s)) (sym (ap place_in b.mode)) is, (refl, (room, free))))
 
 pub returns-in-Ok-clause-ok : goal.returns-in-Ok-clause-ok
 returns-in-Ok-clause-ok g c =
@@ -35,7 +38,7 @@ returns-in-Ok-clause-ok g c =
     let t = c.args.record in
     let b = c.requires.1.0 in
     let set = c.in-Ok.set in
-    let placed : PlacesThere code old added t s (Ok set) = subst (λ (z : Result ℕ Mode). PlacesThere code old added t s z) c.in-Ok.is c.in_ok-place_member.ensures.ok in
+    let placed : PlacesThere code old added t s (Ok set) = subst (λ (z : Result ℕ Mode). PlacesThere code old added t s z) c.in-Ok.is c.in_ok-set.ensures.ok in
     let made = subst (λ k. let m = member_in s.operands k s in Makes code added new (member_begins code t set m.place m.point m.control m.granted)) (ap place_in b.mode) c.begin_member.ensures.makes in
     makes_in_block code old new c.args.place t g.s.2 set g.s.1 s b placed.0 placed.1 (makes_later code old added new _ (ap (λ v. v.items) c.place_member.ensures.events) (ap (λ v. v.items) c.place_member.ensures.picks) made)
 
@@ -44,9 +47,9 @@ returns-in-Err-clause-ok g c =
     let code = c.args.code.now in
     let old = c.args.self.now in
     let added = c.place_member.new.self in
-    let new = c.go_on-in-Err.new.self in
+    let new = c.go_on.new.self in
     let s = g.s.0 in
     let t = c.args.record in
-    let refused : PlacesThere code old added t s (Err c.in-Err.refused) = subst (λ (z : Result ℕ Mode). PlacesThere code old added t s z) c.in-Err.is c.in_ok-place_member.ensures.ok in
-    let goes = goes_both old added new _ refused.3 c.go_on-in-Err.ensures in
+    let refused : PlacesThere code old added t s (Err c.in-Err.refused) = subst (λ (z : Result ℕ Mode). PlacesThere code old added t s z) c.in-Err.is c.in_ok-set.ensures.ok in
+    let goes = goes_both old added new _ refused.3 c.go_on.ensures in
     makes_stop code old new c.args.place t g.s.2 g.s.1 refused.0 s c.requires.1.0 refused.2 (subst (λ (m : Mode). GoesOn old new m old.cells.items) refused.1 goes)

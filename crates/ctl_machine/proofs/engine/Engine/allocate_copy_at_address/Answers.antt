@@ -1,4 +1,6 @@
-use Rattle.std.proofs.Common.{◌≡◌, ◌+◌, ◌∙◌, Err, List, Ok, Result, ap, arith, drop, refl, subst, sym, ℕ}
+use Rattle.std.specs.Prelude.{◌<◌, ◌≤◌, OnOk, vec_capacity, vec_len}
+use Rattle.std.proofs.Common.{◌≡◌, ◌+◌, ◌∙◌, ◌∷◌, [], length, Err, List, Ok, Result, ap, arith, drop, refl, subst, sym, ℕ}
+use Rattle.std.proofs.lemmas.List.{length-append}
 use Rattle.ctl_meaning.specs.Finalization.{Spot}
 use Rattle.ctl_meaning.specs.Objects.{change_in, with_cells}
 use Rattle.ctl_meaning.specs.World as W
@@ -20,6 +22,20 @@ use Rattle.ctl_machine.proofs.engine.Engine.allocate_copy_at_address.Goals as go
 pub place_member-requires : goal.place_member-requires
 place_member-requires g c = let b = c.requires.1.0 in (c.requires.0, ((b.stack, b.leads, b.fine.2, b.inside), c.requires.1.1.1))
 
+pub take_last-value-requires : goal.take_last-value-requires
+take_last-value-requires g c =
+    let code = c.args.code.now in
+    let old = c.args.self.now in
+    let added = c.place_member.new.self in
+    let s = g.s.0 in
+    let t = c.args.record in
+    let placed : PlacesThere code old added t s (Ok c.in-Ok.set) = subst (λ (z : Result ℕ Mode). PlacesThere code old added t s z) c.in-Ok.is c.in_ok-set.ensures.ok in
+    let x = value_below code old c.args.place t g.s.2 g.s.1 s c.requires.1.0 in
+    let spots : added.spots.items ≡ old.spots.items = ap (λ (e : Kept). e.spots) placed.2.kept in
+    let below = standing s.control (drop 1 (drop 4 s.operands)) in
+    let long : length added.spots.items ≡ length below + 1 = ap (λ (l : List Spot). length l) (spots ∙ x.spots) ∙ length-append below (value_spot (first_cells (drop 4 s.operands)) ∷ []) in
+    omega (arith, long)
+
 pub adjust_member-requires : goal.adjust_member-requires
 adjust_member-requires g c =
     let code = c.args.code.now in
@@ -29,7 +45,7 @@ adjust_member-requires g c =
     let t = c.args.record in
     let b = c.requires.1.0 in
     let set = c.in-Ok.set in
-    let placed : PlacesThere code old added t s (Ok set) = subst (λ (z : Result ℕ Mode). PlacesThere code old added t s z) c.in-Ok.is c.in_ok-place_member.ensures.ok in
+    let placed : PlacesThere code old added t s (Ok set) = subst (λ (z : Result ℕ Mode). PlacesThere code old added t s z) c.in-Ok.is c.in_ok-set.ensures.ok in
     let x = value_below code old c.args.place t g.s.2 g.s.1 s b in
     let below = standing s.control (drop 1 (drop 4 s.operands)) in
     let place = InBlock (number_at s.operands 2) (number_at s.operands 0) in
@@ -46,8 +62,9 @@ adjust_member-requires g c =
     let is = value_is code old added begun (c.args.place + 1) set t g.s.1 (drop 5 b.stack) place s.world (first_cells (drop 4 s.operands)) (drop 1 (drop 4 s.operands)) s b.fine.0 b.fine.5 x.left refl placed.2 are in
     let fewer = c.take_last-value.ensures.len in
     let wide = c.take_last-value.ensures.capacity in
-    let free = c.in_ok-place_member.ensures.spots in
-    (c.requires.0, (is, (c.in_ok-place_member.ensures.control, omega (arith, fewer, wide, free))))
+    let room = subst (λ (z : Result ℕ Mode). OnOk z (vec_len added.control + 2 ≤ vec_capacity added.control)) c.in-Ok.is c.in_ok-set.ensures.control in
+    let free = subst (λ (z : Result ℕ Mode). OnOk z (vec_len added.spots < vec_capacity added.spots)) c.in-Ok.is c.in_ok-set.ensures.spots in
+    (c.requires.0, (is, (room, omega (arith, fewer, wide, free))))
 
 pub returns-in-Ok-clause-ok : goal.returns-in-Ok-clause-ok
 returns-in-Ok-clause-ok g c =
@@ -59,7 +76,7 @@ returns-in-Ok-clause-ok g c =
     let t = c.args.record in
     let b = c.requires.1.0 in
     let set = c.in-Ok.set in
-    let placed : PlacesThere code old added t s (Ok set) = subst (λ (z : Result ℕ Mode). PlacesThere code old added t s z) c.in-Ok.is c.in_ok-place_member.ensures.ok in
+    let placed : PlacesThere code old added t s (Ok set) = subst (λ (z : Result ℕ Mode). PlacesThere code old added t s z) c.in-Ok.is c.in_ok-set.ensures.ok in
     let place = InBlock (number_at s.operands 2) (number_at s.operands 0) in
     let begun : Engine = record added { spots = c.take_last-value.new.self; stock = c.write_all.new.self } in
     copies_in_block code old new c.args.place t g.s.2 set g.s.1 s b placed.0 placed.1
@@ -70,9 +87,9 @@ returns-in-Err-clause-ok g c =
     let code = c.args.code.now in
     let old = c.args.self.now in
     let added = c.place_member.new.self in
-    let new = c.go_on-in-Err.new.self in
+    let new = c.go_on.new.self in
     let s = g.s.0 in
     let t = c.args.record in
-    let refused : PlacesThere code old added t s (Err c.in-Err.refused) = subst (λ (z : Result ℕ Mode). PlacesThere code old added t s z) c.in-Err.is c.in_ok-place_member.ensures.ok in
-    let goes = goes_both old added new _ refused.3 c.go_on-in-Err.ensures in
+    let refused : PlacesThere code old added t s (Err c.in-Err.refused) = subst (λ (z : Result ℕ Mode). PlacesThere code old added t s z) c.in-Err.is c.in_ok-set.ensures.ok in
+    let goes = goes_both old added new _ refused.3 c.go_on.ensures in
     copy_stops code old new c.args.place t g.s.2 g.s.1 refused.0 s c.requires.1.0 refused.2 (subst (λ (m : Mode). GoesOn old new m old.cells.items) refused.1 goes)

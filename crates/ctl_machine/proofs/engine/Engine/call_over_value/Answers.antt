@@ -4,6 +4,8 @@ use Rattle.std.specs.Option.{option_map_or}
 use Rattle.ctl_meaning.specs.Finalization.{Spot}
 use Rattle.ctl_meaning.specs.Objects.{cells_at, object_in}
 use Rattle.ctl_code.specs.declared.kinds.Kind.{Kind}
+use Rattle.ctl_code.specs.declared.kinds.Kind.TheVariants.{RecordValue}
+use Rattle.ctl_code.specs.Valid.{over_numbers}
 use Rattle.ctl_code.specs.States.{Cells}
 use Rattle.ctl_code.specs.Table.{size_of}
 use Rattle.ctl_code.specs.Windows.{height}
@@ -15,9 +17,38 @@ use Rattle.ctl_machine.proofs.CopyAllocated.{source_part}
 use Rattle.ctl_machine.proofs.Following.{makes_later}
 use Rattle.ctl_machine.proofs.Lists.{length_set}
 use Rattle.ctl_machine.proofs.Owned.{object_shown}
+use Rattle.ctl_machine.proofs.UserAllocates.{next_within}
 use Rattle.ctl_machine.proofs.ValueKept.{asks_over_value}
 use Rattle.ctl_machine.proofs.Words.{newest_read}
 use Rattle.ctl_machine.proofs.engine.Engine.call_over_value.Goals as goal
+
+pub overflow_add-cell : goal.overflow_add-cell
+overflow_add-cell g c =
+    let code = c.args.code.now in
+    let old = c.args.self.now in
+    let s = g.s.0 in
+    let b = c.requires.1.0.3 in
+    let window = c.window.ensures in
+    let under = c.height_at.ensures in
+    let same = ap (λ (l : List Kind). height (drop 1 l)) (stack_is code c.args.place b.stack b.leads ∙ b.fine.2.1) in
+    let within = next_within code old c.args.place b.stack (over_numbers 4 (RecordValue ∷ b.fine.2.0)) s.control s.operands s.world c.requires.0 b.inside b.fine.2.2.1 in
+    let bound = old.cells.ok.0 in
+    let most = old.cells.ok.1 in
+    omega (arith, window, under, same, within, bound, most)
+
+pub overflow_add-base : goal.overflow_add-base
+overflow_add-base g c =
+    let code = c.args.code.now in
+    let old = c.args.self.now in
+    let s = g.s.0 in
+    let b = c.requires.1.0.3 in
+    let window = c.window.ensures in
+    let under = c.height_at.ensures in
+    let same = ap (λ (l : List Kind). height (drop 1 l)) (stack_is code c.args.place b.stack b.leads ∙ b.fine.2.1) in
+    let within = next_within code old c.args.place b.stack (over_numbers 4 (RecordValue ∷ b.fine.2.0)) s.control s.operands s.world c.requires.0 b.inside b.fine.2.2.1 in
+    let bound = old.cells.ok.0 in
+    let most = old.cells.ok.1 in
+    omega (arith, window, under, same, within, bound, most)
 
 pub put_value-requires : goal.put_value-requires
 put_value-requires g c =
@@ -49,7 +80,7 @@ enter_allocate-requires g c =
     let there = sym (object_shown code (kept old) s.control s.operands s.world y.object b.inside.holds) ∙ c.requires.1.1.0 in
     let value : c.save.new.saved.items ≡ cells_at y.offset (size_of code t) g.s.1 =
     c.save.ensures.items
-    ∙ (ap (λ (l : List ℕ). l ++ option_map_or (cells_at c.offset.result c.size_of-size.result) (object_in c.object.result old.stock.objects) []) (c.in_ok-reserve.ensures.items)
+    ∙ (ap (λ (l : List ℕ). l ++ option_map_or (cells_at c.offset.result c.size_of-size.result) (object_in c.object.result old.stock.objects) []) (c.in_ok-reserve.ensures.items ∙ c.new-value.ensures.items)
     ∙ (ap (λ n. option_map_or (cells_at n c.size_of-size.result) (object_in c.object.result old.stock.objects) []) start
     ∙ (ap (λ n. option_map_or (cells_at y.offset c.size_of-size.result) (object_in n old.stock.objects) []) number
     ∙ (ap (λ o. option_map_or (cells_at y.offset c.size_of-size.result) o []) there
