@@ -187,12 +187,12 @@ TEXTS = [
     (POOLS + "type K is new Block_Pool with record N : Integer := 1; end record; procedure Finalize (X : in out K); procedure Finalize (X : in out K) is begin X.N := 2; end Finalize; P : K (8, 1); begin P.N := P.N + 1; end Main;", ACCEPTED, 1, 1),
     (POOLS + "P : Block_Pool (4 + 4, 1); begin null; end Main;", ACCEPTED, 1, 1),
     (POOLS + "P : Block_Pool (16, 1); procedure Q (X : in out Block_Pool) is begin null; end Q; begin Q (P); end Main;", ACCEPTED, 1, 1),
-    # pool types with an Allocate or a Deallocate of their own are run, and so are allocators that call it; but none with a value in such a program
+    # pool types with an Allocate or a Deallocate of their own are run, and so are allocators that call it, with a value and without
     (ADDRESSES + f"type K is new Block_Pool with null record; {ALLOCATE}; {ALLOCATE} is begin null; end Allocate; P : K (16, 1); begin null; end Main;", ACCEPTED, 1, 1),
     (ADDRESSES + f"type K is new Block_Pool with null record; {DEALLOCATE}; {DEALLOCATE} is begin null; end Deallocate; P : K (16, 1); begin null; end Main;", ACCEPTED, 1, 1),
     (OWN_POOL + "begin declare P : K (16, 1); type M is access R with Storage_Pool => P; V : M; begin V := new R; V.N := 1; end; end Main;", ACCEPTED, 1, 1),
-    (OWN_POOL + "begin declare P : K (16, 1); type M is access R with Storage_Pool => P; X : R; V : M; begin V := new R'(X); end; end Main;", 12, 1, 108),
-    (OWN_POOL + "X : R; V : L; begin V := new R'(X); end Main;", 12, 1, 108),
+    (OWN_POOL + "begin declare P : K (16, 1); type M is access R with Storage_Pool => P; X : R; V : M; begin V := new R'(X); end; end Main;", ACCEPTED, 1, 1),
+    (OWN_POOL + "X : R; V : L; begin V := new R'(X); end Main;", ACCEPTED, 1, 1),
     # calls of the library's Allocate and Deallocate are run where the address goes to a variable, but none of its Finalize
     (ADDRESSES + "P : Block_Pool (16, 1); A : System.Address; begin Allocate (P, A, 8, 8); Deallocate (P, A, 8, 8); end Main;", ACCEPTED, 1, 1),
     (ADDRESSES + "type R is record A : System.Address; end record; X : R; P : Block_Pool (16, 1); begin Allocate (P, X.A, 8, 8); end Main;", 12, 1, 108),

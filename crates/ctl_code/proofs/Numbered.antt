@@ -3,13 +3,14 @@ use Rattle.std.proofs.Common.{◌≡◌, ℕ, zero, suc, ◌+◌, ◌<◌, List,
 use Rattle.std.specs.Prelude.{drop}
 use Rattle.ctl_program.specs.declared.types.Ty.TheVariants.{Integer, Count, Boolean, Address, Handle, Access, Record}
 use Rattle.ctl_code.specs.declared.kinds.Kind.{Kind}
-use Rattle.ctl_code.specs.declared.kinds.Kind.TheVariants.{Operand, Block, Body}
+use Rattle.ctl_code.specs.declared.kinds.Kind.TheVariants.{Operand, RecordValue, Block, Body}
 use Rattle.ctl_code.specs.Valid.{HaveNumbers, over_numbers}
 
 -- where so many stand on top, each of them is one
 pub number_at : (n i : ℕ) (stack : List Kind) → i < n → HaveNumbers n stack → drop i stack ≡ Operand Integer ∷ drop (i + 1) stack
 number_at zero i stack lt h = absurd (omega (arith, lt))
 number_at (suc n) i [] lt h = absurd h
+number_at (suc n) i (RecordValue ∷ stack) lt h = absurd h
 number_at (suc n) i (Block slots ∷ stack) lt h = absurd h
 number_at (suc n) i (Body level slots ∷ stack) lt h = absurd h
 number_at (suc n) i (Operand Count ∷ stack) lt h = absurd h
@@ -25,6 +26,7 @@ number_at (suc n) (suc i) (Operand Integer ∷ stack) lt h = let same : suc i + 
 pub one_number : (n : ℕ) (stack rest : List Kind) → HaveNumbers n stack → drop n stack ≡ Operand Integer ∷ rest → HaveNumbers (n + 1) stack
 one_number zero stack rest h e = subst (HaveNumbers 1) (sym e) tt
 one_number (suc n) [] rest h e = absurd h
+one_number (suc n) (RecordValue ∷ stack) rest h e = absurd h
 one_number (suc n) (Block slots ∷ stack) rest h e = absurd h
 one_number (suc n) (Body level slots ∷ stack) rest h e = absurd h
 one_number (suc n) (Operand Count ∷ stack) rest h e = absurd h
@@ -51,6 +53,7 @@ below_over (suc n) stack = ap (drop (suc n)) (numbers_end n stack) ∙ below_ove
 pub over_below : (n : ℕ) (stack below : List Kind) → HaveNumbers n stack → drop n stack ≡ below → stack ≡ over_numbers n below
 over_below zero stack below h e = e
 over_below (suc n) [] below h e = absurd h
+over_below (suc n) (RecordValue ∷ stack) below h e = absurd h
 over_below (suc n) (Block slots ∷ stack) below h e = absurd h
 over_below (suc n) (Body level slots ∷ stack) below h e = absurd h
 over_below (suc n) (Operand Count ∷ stack) below h e = absurd h

@@ -7,7 +7,7 @@ ghost use Rattle.ctl_code.specs.Valid.{HasCollection, HasVariable, IsAllocable, 
 ghost use Rattle.ctl_code.specs.Windows.{depth};
 
 use crate::code::Code;
-use crate::fine::{is_operand, is_part, leads_on};
+use crate::fine::{has, is_operand, is_part, leads_on};
 use crate::kinds::Kind;
 use crate::layouts::is_declarable;
 use crate::types::is_scalar;
@@ -100,13 +100,14 @@ fn leads_behind_next(code: &Code, place: usize, taken: usize, new: Option<Kind>)
 /// (RM 13.11).
 const ADDRESS_NUMBERS: usize = 4;
 
-/// Tells whether these numbers lead to the next place.
-fn leads_to_address(code: &Code, place: usize) -> bool
+/// Tells whether these numbers stand before the next place, over what is made of the stack: so many of the newest are taken, and this is put
+/// on top, if any.
+fn leads_to_address(code: &Code, place: usize, taken: usize, new: Option<Kind>) -> bool
     requires { place + 1 < 2 ^ 64 }
-    ensures { IsTrue result ↔ Leads code.now (place + 1) (over_numbers 4 (stack_at code.now.kinds place)) }
+    ensures { IsTrue result ↔ Leads code.now (place + 1) (over_numbers 4 (changed taken new (stack_at code.now.kinds place))) }
 {
     code.kinds
-        .leads_over_numbers(place, 0, ADDRESS_NUMBERS, place + 1)
+        .leads_over_numbers(place, taken, new, ADDRESS_NUMBERS, place + 1)
 }
 
 /// Checks an allocator: the collection of its access type stands in a master that is seen (RM 4.8).
@@ -124,7 +125,7 @@ pub(crate) fn is_new_fine(
     is_scalar(ty)
         && is_allocable(code, code.kinds.depth_at(place), access, record)
         && code.kinds.height_at(place, 0) == at
-        && leads_to_address(code, place)
+        && leads_to_address(code, place, 0, None)
         && leads_behind_next(code, place, 0, Some(Kind::Operand(ty)))
         && has_collection(code, place, access)
 }
@@ -156,8 +157,28 @@ pub(crate) fn is_new_copy_fine(
     is_scalar(ty)
         && is_allocable(code, code.kinds.depth_at(place), access, record)
         && is_operand(code, place, 0, at, Ty::Record(record))
-        && leads_on(code, place, 1, Some(Kind::Operand(ty)))
+        && leads_to_address(code, place, 1, Some(Kind::RecordValue))
+        && leads_behind_next(code, place, 1, Some(Kind::Operand(ty)))
         && has_collection(code, place, access)
+}
+
+/// Checks an allocator with the value of a record at the address that an Allocate gave (RM 4.8, 13.11).
+pub(crate) fn is_new_copy_in_fine(
+    code: &Code,
+    place: usize,
+    record: usize,
+    ty: Ty,
+    at: usize,
+) -> bool
+    requires { place + 1 < 2 ^ 64 }
+    ensures { IsTrue result ↔ IsFine code.now place (I.NewCopyIn «record» ty at) (stack_at code.now.kinds place) }
+{
+    is_scalar(ty)
+        && code.records.get(record).is_some()
+        && code.kinds.has_numbers(place, ADDRESS_NUMBERS)
+        && has(code, place, ADDRESS_NUMBERS, Kind::RecordValue)
+        && code.kinds.height_at(place, ADDRESS_NUMBERS + 1) == at
+        && leads_on(code, place, ADDRESS_NUMBERS + 1, Some(Kind::Operand(ty)))
 }
 
 /// Checks that an object is freed whose access value is in a variable (RM 13.11.2).

@@ -14,7 +14,8 @@ ghost use Rattle.ctl_code.specs.Valid.{HasFormals, HaveOperands, IsCalled, IsOpe
 ghost use Rattle.ctl_code.specs.Windows.{HasSlot, depth, height, variable_at};
 
 use crate::accesses::{
-    is_free_fine, is_free_part_fine, is_gather_fine, is_new_copy_fine, is_new_fine, is_new_in_fine,
+    is_free_fine, is_free_part_fine, is_gather_fine, is_new_copy_fine, is_new_copy_in_fine,
+    is_new_fine, is_new_in_fine,
 };
 use crate::code::{Cell, Code, Instr, Named, Operator, Way};
 use crate::images::count_images;
@@ -492,7 +493,7 @@ fn is_call_fine(code: &Code, place: usize, number: usize, actuals: usize, copies
         && copies <= actuals
         && code
             .kinds
-            .leads_over_numbers(place, actuals, copies, place + 1)
+            .leads_over_numbers(place, actuals, None, copies, place + 1)
 }
 
 /// Checks that a copy goes back to a variable: it is the last of so many numbers, in this cell (RM 6.4.1).
@@ -762,6 +763,7 @@ pub fn is_fine(code: &Code, place: usize, instr: &Instr) -> bool
             at,
         } => is_new_copy_fine(code, place, access, record, ty, at),
         Instr::NewIn { record, ty, at } => is_new_in_fine(code, place, record, ty, at),
+        Instr::NewCopyIn { record, ty, at } => is_new_copy_in_fine(code, place, record, ty, at),
         Instr::TakeBlock { record, out, slot } => is_taking_fine(code, place, record, out, slot),
         Instr::TakeBlockInto { record, of, .. } => is_taking_into_fine(code, place, record, of),
         Instr::GiveBlock { record } => is_giving_fine(code, place, record),

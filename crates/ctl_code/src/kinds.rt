@@ -17,8 +17,10 @@ use std::marker::Model;
 /// What stands in a window: an operand in one cell, or the cells of the slots of a master that was entered and is not left.
 #[derive(Clone, Copy)]
 pub enum Kind {
-    /// an operand of this type
+    /// an operand of this type: of a record type, a part of an object
     Operand(Ty),
+    /// an operand that is the value of a record
+    RecordValue,
     /// a block with so many slots (RM 5.6)
     Block(usize),
     /// a body: how many masters stand around its declaration, and how many slots it has
@@ -31,6 +33,7 @@ pub fn is_same_kind(left: Kind, right: Kind) -> bool
 {
     match left {
         Kind::Operand(ty) => matches!(right, Kind::Operand(other) if is_same_type(ty, other)),
+        Kind::RecordValue => matches!(right, Kind::RecordValue),
         Kind::Block(slots) => matches!(right, Kind::Block(other) if other == slots),
         Kind::Body { level, slots } => {
             matches!(right, Kind::Body { level: other, slots: others } if other == level && others == slots)
@@ -173,14 +176,21 @@ impl Kinds {
         }
     }
 
-    /// Tells whether so many numbers stand before one place, over what is left of the stack before another where so many of the newest are
-    /// taken.
-    pub fn leads_over_numbers(&self, from: usize, taken: usize, count: usize, to: usize) -> bool
-        ensures { IsTrue result ↔ (slice_get self.now to ≡ Some (over_numbers count (drop taken (stack_at self.now from)))) }
+    /// Tells whether so many numbers stand before one place, over what is made of the stack before another: so many of the newest are taken,
+    /// and this is put on top, if any.
+    pub fn leads_over_numbers(
+        &self,
+        from: usize,
+        taken: usize,
+        new: Option<Kind>,
+        count: usize,
+        to: usize,
+    ) -> bool
+        ensures { IsTrue result ↔ (slice_get self.now to ≡ Some (over_numbers count (changed taken new (stack_at self.now from)))) }
     {
         let below = number_under(&self.stacks, self.before.as_slice(), from, taken);
         match self.before.get(to) {
-            Some(to) => self.stacks.is_over_numbers(*to, count, below),
+            Some(to) => self.stacks.is_over_numbers(*to, count, new, below),
             None => false,
         }
     }

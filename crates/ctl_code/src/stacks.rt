@@ -25,7 +25,7 @@ fn height_with(kind: Kind, below: usize) -> Option<usize>
     ensures { IfSome result (λ sum. (stack : List Kind) → below ≡ height stack → sum ≡ height (kind ∷ stack)) }
 {
     match kind {
-        Kind::Operand(_) => below.checked_add(1),
+        Kind::Operand(_) | Kind::RecordValue => below.checked_add(1),
         Kind::Block(slots) => below.checked_add(slots),
         Kind::Body { level: _, slots } => below.checked_add(slots),
     }
@@ -36,7 +36,7 @@ fn depth_with(kind: Kind, below: usize) -> Option<usize>
     ensures { IfSome result (λ sum. (stack : List Kind) → below ≡ depth stack → sum ≡ depth (kind ∷ stack)) }
 {
     match kind {
-        Kind::Operand(_) => Some(below),
+        Kind::Operand(_) | Kind::RecordValue => Some(below),
         Kind::Block(_) => below.checked_add(1),
         Kind::Body { level, slots: _ } => level.checked_add(1),
     }
@@ -165,7 +165,7 @@ impl Stacks {
                 Kind::Block(slots) | Kind::Body { level: _, slots } if out == 0 => {
                     return slot_below(link.height, slots, slot);
                 }
-                Kind::Operand(_) => {}
+                Kind::Operand(_) | Kind::RecordValue => {}
                 Kind::Block(_) => out -= 1,
                 Kind::Body { .. } => return None,
             }
@@ -184,7 +184,7 @@ impl Stacks {
                 Kind::Block(slots) | Kind::Body { level: _, slots } if out == 0 => {
                     return slot < slots;
                 }
-                Kind::Operand(_) => {}
+                Kind::Operand(_) | Kind::RecordValue => {}
                 Kind::Block(_) => out -= 1,
                 Kind::Body { level, slots: _ } => return out <= level,
             }
@@ -226,11 +226,17 @@ impl Stacks {
         true
     }
 
-    /// Tells whether a stack is another one with so many numbers on top.
-    pub fn is_over_numbers(&self, stack: usize, count: usize, below: usize) -> bool
-        ensures { IsTrue result ↔ (stack_in self.now stack ≡ over_numbers count (stack_in self.now below)) }
+    /// Tells whether a stack is another one with this on top, if any, and so many numbers over it.
+    pub fn is_over_numbers(
+        &self,
+        stack: usize,
+        count: usize,
+        kind: Option<Kind>,
+        below: usize,
+    ) -> bool
+        ensures { IsTrue result ↔ (stack_in self.now stack ≡ over_numbers count (with_top kind (stack_in self.now below))) }
     {
-        self.has_numbers(stack, count) && self.is_same(self.without(stack, count), below)
+        self.has_numbers(stack, count) && self.is_with_top(self.without(stack, count), kind, below)
     }
 
     /// Tells whether the same stands on both.

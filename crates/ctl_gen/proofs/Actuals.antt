@@ -21,7 +21,7 @@ use Rattle.ctl_code.specs.declared.code.Named.TheVariants as NamedOf
 use Rattle.ctl_code.specs.declared.code.Code.{Code}
 use Rattle.ctl_code.specs.declared.kinds.Kind.{Kind}
 use Rattle.ctl_code.specs.declared.kinds.Kind.TheVariants as KindOf
-use Rattle.ctl_code.specs.States.{Word, Scalar, Located, Frame, State}
+use Rattle.ctl_code.specs.States.{Word, Scalar, Located, Cells, Frame, State}
 use Rattle.ctl_code.specs.Table.{formal_of, formals_of}
 use Rattle.ctl_code.specs.Windows.{depth}
 use Rattle.ctl_layout.specs.Around.{Line, local_at, new_operand}
@@ -47,6 +47,7 @@ use Rattle.ctl_gen.proofs.Follow.{IsRaise, RunsTo, by_raise, at, transferred, ad
 formal_plain : (x : Word) → IsPlainSlot (formal_of x)
 formal_plain (Scalar n) = tt
 formal_plain (Located p) = tt
+formal_plain (Cells v) = tt
 
 -- where the copy of an actual goes back to, if it does, where a display is seen
 abbrev pub back_found : List ℕ → Option Var → Option Found
@@ -103,9 +104,11 @@ word_in _ v = Scalar v
 abbrev pub word_of : Slot → Word
 word_of x = word_in x.content x.value
 
-word_is : (x : Word) → word_of (formal_of x) ≡ x
-word_is (Scalar n) = refl
-word_is (Located p) = refl
+-- a formal that takes that operand begins alike
+formal_is : (x : Word) → formal_of (word_of (formal_of x)) ≡ formal_of x
+formal_is (Scalar n) = refl
+formal_is (Located p) = refl
+formal_is (Cells v) = refl
 
 -- the operands that these formals took, over those that stand there
 abbrev pub operands_of : List Slot → List Word → List Word
@@ -293,7 +296,8 @@ module _ (ask : Ask) (k : Tables) (code : Code) (setting : Setting k code) (call
         let count_is : suc n + length xs ≡ count = omega (arith, long_is) in
         let further : n + 1 ≡ suc n = omega arith in
         let put = operands_and p.slots (formal_of a) below in
-        let taken1 = subst (λ os. Taken (suc n) os below (so_far ++ going_back n back) (with_formal (formal a back) p)) (sym (put ∙ ap (λ u. u ∷ ops) (word_is a))) (one_taken n ops below so_far p a back taken) in
+        let taken1 = subst (λ os. Taken (suc n) os below (so_far ++ going_back n back) (with_formal (formal a back) p)) (sym put)
+        (subst (λ y. Taken (suc n) (word_of (formal_of a) ∷ ops) below (so_far ++ going_back n back) (with_formal (record { slot = y; back = back }) p)) (formal_is a) (one_taken n ops below so_far p (word_of (formal_of a)) back taken)) in
         let all1 : (so_far ++ going_back n back) ++ backs_of d (suc n) xs ≡ backs = append_assoc so_far (going_back n back) (backs_of d (suc n) xs) ∙ ap (λ i. so_far ++ (going_back n back ++ backs_of d i xs)) (sym further) ∙ all in
         subst (λ os. RunsTo ask code Ends (b + 1) (b + 1) (at d there ks os l1 w1) c1 next (bind (pass_each K d ms (with_formal (formal a back) p) c1 l1 w1) (on_goes f))) put
         (each_then xs ms each.1 (b + 1) (suc n) (with_formal (formal a back) p) (so_far ++ going_back n back) count_is all1 taken1 over there c1 l1 w1 (omega (arith, lo, le)) fits1 long (laid_back code place (x.code s) rest has)

@@ -12,6 +12,7 @@ use Rattle.ctl_program.specs.declared.types.Root.TheVariants as RootOf
 use Rattle.ctl_program.specs.declared.types.Var.{Var}
 use Rattle.ctl_program.specs.declared.expression.Actual.TheOpen.{Expr-F}
 use Rattle.ctl_program.specs.declared.operators.SubprogramKind.TheVariants.{Procedure}
+use Rattle.ctl_tree.specs.declared.ending.Stop.{Stop}
 use Rattle.ctl_tree.specs.declared.ending.Stop.TheVariants.{UseAfterFree, BadAddress}
 use Rattle.ctl_tree.specs.declared.event.Event.TheVariants.{Allocate}
 use Rattle.ctl_tree.specs.declared.event.Owner.TheVariants as OwnerOf
@@ -39,20 +40,19 @@ use Rattle.ctl_code.specs.declared.code.Code.{Code}
 use Rattle.ctl_code.specs.declared.code.Instr.{Instr}
 use Rattle.ctl_code.specs.declared.code.Instr.TheVariants as InstrOf
 use Rattle.ctl_code.specs.declared.kinds.Kind.{Kind}
-use Rattle.ctl_code.specs.declared.kinds.Kind.TheVariants.{Operand}
-use Rattle.ctl_code.specs.States.{Move, Word, Scalar, Located, Complete, Point, After, AfterFunction, AfterProcedure, ByAllocator, Frame, Creating, Filling, State, whole_spot}
+use Rattle.ctl_code.specs.declared.kinds.Kind.TheVariants.{Operand, RecordValue}
+use Rattle.ctl_code.specs.States.{Move, Word, Scalar, Located, Cells, Complete, Point, After, AfterFunction, AfterProcedure, ByAllocator, Frame, Creating, Filling, State, whole_spot}
 use Rattle.ctl_code.specs.Table as Table
 use Rattle.ctl_code.specs.Table.{AllocateOf, Exhausted, Grant, Granted, Here, NotPassed, Passed, Test, UnknownPool, address_test, begun_of, come_to_life, first_value, grant, is_refused, joins, newborn, operation_for, operation_of, own_grant, pool_in, set_seen, size_of as code_size, units_of, with_member, is_made_at_once, parts_of}
 use Rattle.ctl_code.proofs.Storage.{OnGrant, granted_keeps}
 use Rattle.ctl_code.specs.Steps.{moved, step}
-use Rattle.ctl_code.specs.Valid.{IsAllocable, IsDeclarable, storage_formals}
+use Rattle.ctl_code.specs.Valid.{IsAllocable, IsDeclarable, over_numbers, storage_formals}
 use Rattle.ctl_code.specs.Windows.{depth, height}
 use Rattle.ctl_layout.specs.Around.{Line}
 use Rattle.ctl_layout.specs.Parts.{Reached, part_code, part_runs}
-use Rattle.ctl_layout.specs.Records.{none_allocates}
-use Rattle.ctl_layout.specs.Values.{moved_to, new, new_copy}
+use Rattle.ctl_layout.specs.Values.{address_numbers, moved_to, new, new_copy}
 use Rattle.ctl_layout.specs.Layout.{home_of}
-use Rattle.ctl_gen.proofs.Known.{IsPlainType, no_allocate, no_mark_pool}
+use Rattle.ctl_gen.proofs.Known.{IsPlainType, no_mark_pool}
 use Rattle.ctl_gen.proofs.Each.{Each, IfFound, found_passes}
 use Rattle.ctl_gen.proofs.Parted.{GivesDefaults}
 use Rattle.ctl_gen.proofs.Collections.{found_number, home, of_gathered}
@@ -60,7 +60,7 @@ use Rattle.ctl_gen.proofs.Worlds.{Fits, IsNoCopy, IsPlainSlot, Settled, Since, a
 use Rattle.ctl_gen.proofs.Scopes.{allocate_in, type_inside}
 use Rattle.ctl_gen.proofs.CreatedParts.{IsAround, parts_run, at_once_is}
 use Rattle.ctl_gen.proofs.Allocable.{may_allocate}
-use Rattle.ctl_gen.proofs.Setting.{Setting, Allocates, Calls, IsSeen, IsServed, MayAllocate, Told, allocator_steps, allocator_takes, behind_allocator, by_allocator, enter_shows, returned_to, returns, tools_with}
+use Rattle.ctl_gen.proofs.Setting.{Setting, Allocates, Calls, IsSeen, IsServed, MayAllocate, Told, allocator_steps, behind_allocator, by_allocator, enter_shows, returned_to, returns, tools_with}
 use Rattle.ctl_gen.proofs.Cells.{Any, OneCell, by_code, here, landed, landed_leaves}
 use Rattle.ctl_gen.proofs.Place.{Laid, laid_front, laid_back}
 use Rattle.ctl_gen.proofs.Calls.{point_at}
@@ -75,11 +75,7 @@ found_object : (n : ℕ) (w : World) (o : Object) → object_at n w ≡ Some o �
 unfolding object_at object_in
 found_object n w o there = eqb-true o.number n (found_passes (λ x. nat_eq x.number n) w.objects o there)
 
--- the step of an allocator takes at most one from the clock, and so many steps are enough
-takes_few : (value : Option (List ℕ)) → allocator_takes value ≤ 1
-takes_few None = omega arith
-takes_few (Some v) = omega arith
-
+-- so many steps are enough
 steps_enough : (value : Option (List ℕ)) → 7 ≤ allocator_steps value
 steps_enough None = omega arith
 steps_enough (Some v) = omega arith
@@ -479,49 +475,73 @@ module _ (ask : Ask) (k : Tables) (code : Code) (setting : Setting k code) (call
         (is.0, (is.1, subst (λ (e : List ℕ). IsDeclarable code (length e) t) (sym home_is) may.1))
 
     -- the object begins at an address that passes its test
-    placed_runs : (set : ℕ) (x : Collection) (n a : ℕ) (test : Test) (d : List ℕ) (place : ℕ) (ks : List Frame) (ops : List Word) (s0 : State) (c : ℕ) (l : Log) (w : World) → c ≤ bound → MayStand set x w → Since k code w0 w → step ask code s0 ≡ moved l (Table.new_in_block code t set n a test ops (here d place ks w))
-        → Gets 6 7 s0 c (point_at d (place + 1) ops) ks (bind (bind (bind (gives_test a test c l w) (on_goes (in_block n))) (on_goes (created K set (Record t) None))) (on_goes completed))
+    abbrev places : Option (List ℕ) → ℕ → ℕ → ℕ → Test → List Word → Here → Move
+    places None set n a test ops h = Table.new_in_block code t set n a test ops h
+    places (Some v) set n a test ops h = Table.copy_in_block code t v set n a test ops h
+
+    passes : (value : Option (List ℕ)) (set n a : ℕ) (d : List ℕ) (place : ℕ) (ks : List Frame) (ops : List Word) (l : Log) (w : World) → moved l (places value set n a Passed ops (here d place ks w)) ≡ moved l (creates value set (InBlock n a) (point_at d (place + 1) ops) ks w)
+    passes None set n a d place ks ops l w = refl
+    passes (Some v) set n a d place ks ops l w = refl
+
+    fails : (value : Option (List ℕ)) (set n a : ℕ) (why : Stop) (d : List ℕ) (place : ℕ) (ks : List Frame) (ops : List Word) (l : Log) (w : World) → moved l (places value set n a (NotPassed why) ops (here d place ks w)) ≡ moved l (Table.stopped why ks w)
+    fails None set n a why d place ks ops l w = refl
+    fails (Some v) set n a why d place ks ops l w = refl
+
+    placed_runs : (value : Option (List ℕ)) (set : ℕ) (x : Collection) (n a : ℕ) (test : Test) (d : List ℕ) (place : ℕ) (ks : List Frame) (ops : List Word) (s0 : State) (c : ℕ) (l : Log) (w : World) → c ≤ bound → MayStand set x w → Since k code w0 w → step ask code s0 ≡ moved l (places value set n a test ops (here d place ks w))
+        → Gets 6 (allocator_steps value) s0 c (point_at d (place + 1) ops) ks (bind (bind (bind (gives_test a test c l w) (on_goes (in_block n))) (on_goes (created K set (Record t) value))) (on_goes completed))
     unfolding opened_outcome
-    placed_runs set x n a Passed d place ks ops s0 c l w le may fits first =
-        subst (λ o. Gets 6 7 s0 c (point_at d (place + 1) ops) ks (bind o (on_goes completed))) (sym (add_none (created K set (Record t) None (InBlock n a) c l w)))
-        (created_runs None set x (InBlock n a) (point_at d (place + 1) ops) ks s0 c c l w le (omega arith) (omega arith) may fits first)
-    placed_runs set x n a (NotPassed s) d place ks ops s0 c l w le may fits first = stop_step_to ask code (Allocates k code w0) 6 7 s0 _ c 0 (returned_to (AfterFunction (point_at d (place + 1) ops)) ks) s l (omega arith) first refl refl
+    placed_runs value set x n a Passed d place ks ops s0 c l w le may fits first =
+        subst (λ o. Gets 6 (allocator_steps value) s0 c (point_at d (place + 1) ops) ks (bind o (on_goes completed))) (sym (add_none (created K set (Record t) value (InBlock n a) c l w)))
+        (created_runs value set x (InBlock n a) (point_at d (place + 1) ops) ks s0 c c l w le (omega arith) (omega arith) may fits (first ∙ passes value set n a d place ks ops l w))
+    placed_runs value set x n a (NotPassed s) d place ks ops s0 c l w le may fits first =
+        stop_step_to ask code (Allocates k code w0) 6 (allocator_steps value) s0 _ c 0 (returned_to (AfterFunction (point_at d (place + 1) ops)) ks) s l (let enough = steps_enough value in omega (arith, enough)) (first ∙ fails value set n a s d place ks ops l w) refl refl
 
     -- what follows the call
-    abbrev after_allocate : ℕ → ℕ → Result Returned → Act Returned
-    after_allocate set n r c l w = bind (bind (bind (on_goes (λ x. tested n units (address_in x)) r c l w) (on_goes (in_block n))) (on_goes (created K set (Record t) None))) (on_goes completed)
+    abbrev after_allocate : Option (List ℕ) → ℕ → ℕ → Result Returned → Act Returned
+    after_allocate value set n r c l w = bind (bind (bind (on_goes (λ x. tested n units (address_in x)) r c l w) (on_goes (in_block n))) (on_goes (created K set (Record t) value))) (on_goes completed)
 
-    called_is : (set n : ℕ) (o : Out Returned) → bind (bind (bind (bind o (on_goes (λ x. tested n units (address_in x)))) (on_goes (in_block n))) (on_goes (created K set (Record t) None))) (on_goes completed) ≡ bind o (after_allocate set n)
-    called_is set n o =
+    called_is : (value : Option (List ℕ)) (set n : ℕ) (o : Out Returned) → bind (bind (bind (bind o (on_goes (λ x. tested n units (address_in x)))) (on_goes (in_block n))) (on_goes (created K set (Record t) value))) (on_goes completed) ≡ bind o (after_allocate value set n)
+    called_is value set n o =
         let test : Result Returned → Act ℕ = on_goes (λ x. tested n units (address_in x)) in
         let placed : Result ℕ → Act Place = on_goes (in_block n) in
-        let made : Result Place → Act ℕ = on_goes (created K set (Record t) None) in
+        let made : Result Place → Act ℕ = on_goes (created K set (Record t) value) in
         ap (λ x. bind (bind x made) (on_goes completed)) (bind_bind o test placed)
         ∙ ap (λ x. bind x (on_goes completed)) (bind_bind o (λ r c l w. bind (test r c l w) placed) made)
         ∙ bind_bind o (λ r c l w. bind (bind (test r c l w) placed) made) (on_goes completed)
 
+    -- the operands that stay while an Allocate is executed: the value is one of them
+    abbrev kept_over : Option (List ℕ) → List Word → List Word
+    kept_over None ops = ops
+    kept_over (Some v) ops = Cells v ∷ ops
+
+    -- the instruction that is for the address which it gave
+    at_served : (value : Option (List ℕ)) (set n a x : ℕ) (d : List ℕ) (place : ℕ) (ks : List Frame) (ops : List Word) (l : Log) (w : World) → IsServed code t value place
+        → step ask code (at d (place + 1) ks (Scalar a ∷ Scalar x ∷ Scalar n ∷ Scalar set ∷ kept_over value ops) l w) ≡ moved l (places value set n a (address_test a (units_of code t) (block_pool_at n w.pools) w) ops (here d (place + 1) ks w))
+    at_served None set n a x d place ks ops l w (ty, top, there) = by_code ask code d (place + 1) ks (Scalar a ∷ Scalar x ∷ Scalar n ∷ Scalar set ∷ ops) l w (InstrOf.NewIn t ty top) there
+    at_served (Some v) set n a x d place ks ops l w (ty, top, there) = by_code ask code d (place + 1) ks (Scalar a ∷ Scalar x ∷ Scalar n ∷ Scalar set ∷ Cells v ∷ ops) l w (InstrOf.NewCopyIn t ty top) there
+
     -- from where the call leads
-    after_runs : (set n : ℕ) (x : Collection) (d : List ℕ) (place : ℕ) (ks : List Frame) (ops : List Word) (v : World) → MayStand set x v → Since k code w0 v → IsServed k code t None place → (r : Result Returned) (c : ℕ) (l : Log) (w : World) → c ≤ bound → Told k code v (way_of r) w → Gets 6 7 (returned_to (AfterProcedure 2 (point_at d (place + 1) (Scalar n ∷ Scalar set ∷ ops))) ks r l w) c (point_at d (place + 1 + 1) ops) ks (after_allocate set n r c l w)
+    after_runs : (value : Option (List ℕ)) (set n : ℕ) (x : Collection) (d : List ℕ) (place : ℕ) (ks : List Frame) (ops : List Word) (v : World) → MayStand set x v → Since k code w0 v → IsServed code t value place → (r : Result Returned) (c : ℕ) (l : Log) (w : World) → c ≤ bound → Told k code v (way_of r) w → Gets 6 (allocator_steps value) (returned_to (AfterProcedure 2 (point_at d (place + 1) (Scalar n ∷ Scalar set ∷ kept_over value ops))) ks r l w) c (point_at d (place + 1 + 1) ops) ks (after_allocate value set n r c l w)
     unfolding opened_outcome
-    after_runs set n x d place ks ops v may fits (ty, top, there) (Goes r) c l w le told1 =
+    after_runs value set n x d place ks ops v may fits served (Goes r) c l w le told1 =
         let since = told1.1 in
         let stand = still_stands set x v w may (fits.0, keeps_itself k code v) since in
         let a = first_value (drop 1 r.slots) in
-        let s1 = at d (place + 1) ks (Scalar a ∷ Scalar (first_value r.slots) ∷ Scalar n ∷ Scalar set ∷ ops) l w in
-        subst (λ o. Gets 6 7 s1 c (point_at d (place + 1 + 1) ops) ks (bind (bind (bind o (on_goes (in_block n))) (on_goes (created K set (Record t) None))) (on_goes completed)))
+        let s1 = at d (place + 1) ks (Scalar a ∷ Scalar (first_value r.slots) ∷ Scalar n ∷ Scalar set ∷ kept_over value ops) l w in
+        subst (λ o. Gets 6 (allocator_steps value) s1 c (point_at d (place + 1 + 1) ops) ks (bind (bind (bind o (on_goes (in_block n))) (on_goes (created K set (Record t) value))) (on_goes completed)))
         (sym (ap (λ i. tested n units i c l w) (address_is r) ∙ tested_is n units a c l w))
-        (placed_runs set stand.0 n a (address_test a units (block_pool_at n w.pools) w) d (place + 1) ks ops s1 c l w le stand.1 (since_on k code w0 v w fits since)
-        (by_code ask code d (place + 1) ks (Scalar a ∷ Scalar (first_value r.slots) ∷ Scalar n ∷ Scalar set ∷ ops) l w (InstrOf.NewIn t ty top) there
-        ∙ ap (λ i. moved l (Table.new_in_block code t set n a (address_test a i (block_pool_at n w.pools) w) ops (here d (place + 1) ks w))) units_are))
-    after_runs set n x d place ks ops v may fits served (Leaves y) c l w le told1 =
-        by_raise (λ z. Gets 6 7 (transferred z ks l w) c (point_at d (place + 1 + 1) ops) ks (Gives (Leaves z) 0 c l w))
-        (λ e. raises 6 7 e (point_at d (place + 1 + 1) ops) ks c l w (since_on k code w0 v w fits told1.1)) y told1.0
+        (placed_runs value set stand.0 n a (address_test a units (block_pool_at n w.pools) w) d (place + 1) ks ops s1 c l w le stand.1 (since_on k code w0 v w fits since)
+        (at_served value set n a (first_value r.slots) d place ks ops l w served
+        ∙ ap (λ i. moved l (places value set n a (address_test a i (block_pool_at n w.pools) w) ops (here d (place + 1) ks w))) units_are))
+    after_runs value set n x d place ks ops v may fits served (Leaves y) c l w le told1 =
+        by_raise (λ z. Gets 6 (allocator_steps value) (transferred z ks l w) c (point_at d (place + 1 + 1) ops) ks (Gives (Leaves z) 0 c l w))
+        (λ e. raises 6 (allocator_steps value) e (point_at d (place + 1 + 1) ops) ks c l w (since_on k code w0 v w fits told1.1)) y told1.0
 
     -- from the step that calls it
-    user_runs : (set : ℕ) (x : Collection) (o : Object) (f : ℕ) (d : List ℕ) (place : ℕ) (ks : List Frame) (ops : List Word) (s0 : State) (c : ℕ) (l : Log) (w : World) → c ≤ bound → MayStand set x w → Since k code w0 w → IsOwn w (AllocateOf o f) → IsServed k code t None place → step ask code s0 ≡ moved l (Table.call_allocate code units set o f ops (here d place ks w))
-        → Gets 6 7 s0 c (point_at d (place + 1 + 1) ops) ks (bind (bind (gives_place units (AllocateOf o f) c l w) (on_goes (created K set (Record t) None))) (on_goes completed))
+    user_runs : (value : Option (List ℕ)) (set : ℕ) (x : Collection) (o : Object) (f : ℕ) (d : List ℕ) (place : ℕ) (ks : List Frame) (ops : List Word) (s0 : State) (c : ℕ) (l : Log) (w : World) → c ≤ bound → MayStand set x w → Since k code w0 w → IsOwn w (AllocateOf o f) → IsServed code t value place → step ask code s0 ≡ moved l (Table.call_allocate code units set o f (kept_over value ops) (here d place ks w))
+        → Gets 6 (allocator_steps value) s0 c (point_at d (place + 1 + 1) ops) ks (bind (bind (gives_place units (AllocateOf o f) c l w) (on_goes (created K set (Record t) value))) (on_goes completed))
     unfolding opened_outcome
-    user_runs set x o f d place ks ops s0 c l w le may fits own served first = by (nat_lt integer_last units) refl first
+    user_runs value set x o f d place ks ops s0 c l w le may fits own served first = by (nat_lt integer_last units) refl first
       where
         n : ℕ
         n = o.number
@@ -533,7 +553,7 @@ module _ (ask : Ask) (k : Tables) (code : Code) (setting : Setting k code) (call
         p = point_at d (place + 1 + 1) ops
 
         after : After
-        after = AfterProcedure 2 (point_at d (place + 1) (Scalar n ∷ Scalar set ∷ ops))
+        after = AfterProcedure 2 (point_at d (place + 1) (Scalar n ∷ Scalar set ∷ kept_over value ops))
 
         shown : Log
         shown = tell (Allocate n units) l
@@ -542,23 +562,23 @@ module _ (ask : Ask) (k : Tables) (code : Code) (setting : Setting k code) (call
         actuals = storage_actuals n 0 units
 
         goal : Out ℕ → Type 0
-        goal y = Gets 6 7 s0 c p ks (bind (bind (bind y (on_goes (in_block n))) (on_goes (created K set (Record t) None))) (on_goes completed))
+        goal y = Gets 6 (allocator_steps value) s0 c p ks (bind (bind (bind y (on_goes (in_block n))) (on_goes (created K set (Record t) value))) (on_goes completed))
 
         by : (b : Bool) → nat_lt integer_last units ≡ b → step ask code s0 ≡ moved l (if b then Table.transfers (ByRaise constraint_error) ks w else Table.enter_body (slice_get code.entries.items f) (Allocate n units ∷ []) v actuals after ks w) → goal (user_allocate K n units f c l w)
         by true is go =
             subst goal (sym (great_is n units f c l w is))
-            (one_step_to ask code (Allocates k code w0) 5 6 6 7 s0 (transferred (ByRaise constraint_error) ks l w) c c (returned_to (AfterFunction p) ks) (Gives (Leaves (ByRaise constraint_error)) 0 c l w) (omega arith) (omega arith) (omega arith) (omega arith) go (raises 5 6 constraint_error p ks c l w fits))
+            (one_step_to ask code (Allocates k code w0) 5 6 6 (allocator_steps value) s0 (transferred (ByRaise constraint_error) ks l w) c c (returned_to (AfterFunction p) ks) (Gives (Leaves (ByRaise constraint_error)) 0 c l w) (omega arith) (steps_enough value) (omega arith) (omega arith) go (raises 5 6 constraint_error p ks c l w fits))
         by false is go =
             let u = own.1.0 in
             let op = own.1.2 in
             let body = setting.allocate_body u f op in
             let callable = allocate_in code setting.valid (length v) u f (type_inside k code n w o u fits.0 own.0 own.1.1) (setting.allocate u ∙ op) in
             subst goal (sym (user_is n units f c l w o own.0 is))
-            (subst (Gets 6 7 s0 c p ks) (sym (called_is set n (call (OfSubprogram f actuals) v c shown w)))
-            (both_to ask code (λ r w1. Told k code w (way_of r) w1) (Allocates k code w0) 0 3 6 7 6 7 s0 c (returned_to after ks) (returned_to (AfterFunction p) ks) (call (OfSubprogram f actuals) v c shown w) (after_allocate set n) (omega arith) (omega arith) (omega arith)
+            (subst (Gets 6 (allocator_steps value) s0 c p ks) (sym (called_is value set n (call (OfSubprogram f actuals) v c shown w)))
+            (both_to ask code (λ r w1. Told k code w (way_of r) w1) (Allocates k code w0) 0 3 6 (allocator_steps value) 6 (allocator_steps value) s0 c (returned_to after ks) (returned_to (AfterFunction p) ks) (call (OfSubprogram f actuals) v c shown w) (after_allocate value set n) (omega arith) (let enough = steps_enough value in omega (arith, enough)) (omega arith)
             (calls.runs f body.0 body.1 w v actuals after ks c shown w s0 Procedure storage_formals tt le (fits.0, keeps_itself k code w) callable (origin_nested k code o.origin w fits.0) (plain_actuals n units)
             (go ∙ enter_shows (slice_get code.entries.items f) (Allocate n units) v actuals after ks l w))
-            (λ r c1 l1 w1 lo told1. after_runs set n x d place ks ops w may fits served r c1 l1 w1 (omega (arith, lo, le)) told1)))
+            (λ r c1 l1 w1 lo told1. after_runs value set n x d place ks ops w may fits served r c1 l1 w1 (omega (arith, lo, le)) told1)))
 
     -- Storage is requested ----------------------------------------------------------------------------------
 
@@ -580,79 +600,87 @@ module _ (ask : Ask) (k : Tables) (code : Code) (setting : Setting k code) (call
     this_set (Some v) pool x ops h l = refl
 
     -- an exception in its step
-    raise_runs : (value : Option (List ℕ)) (e : ℕ) (p : Point) (ks : List Frame) (s0 : State) (c0 c : ℕ) (l : Log) (w : World) → c ≤ c0 → c0 ≤ c + 1 → Since k code w0 w → step ask code s0 ≡ transferred (ByRaise e) ks l w → Gets 6 (allocator_steps value) s0 c0 p ks (Gives (Leaves (ByRaise e)) 0 c l w)
-    raise_runs value e p ks s0 c0 c l w lo hi fits first = one_step_to ask code (Allocates k code w0) 5 6 6 (allocator_steps value) s0 (transferred (ByRaise e) ks l w) c0 c (returned_to (AfterFunction p) ks) (Gives (Leaves (ByRaise e)) 0 c l w) (omega arith) (steps_enough value) lo hi first (raises 5 6 e p ks c l w fits)
+    raise_runs : (value : Option (List ℕ)) (e : ℕ) (p : Point) (ks : List Frame) (s0 : State) (c : ℕ) (l : Log) (w : World) → Since k code w0 w → step ask code s0 ≡ transferred (ByRaise e) ks l w → Gets 6 (allocator_steps value) s0 c0 p ks (Gives (Leaves (ByRaise e)) 0 c l w)
+    raise_runs value e p ks s0 c l w fits first = one_step_to ask code (Allocates k code w0) 5 6 6 (allocator_steps value) s0 (transferred (ByRaise e) ks l w) c c (returned_to (AfterFunction p) ks) (Gives (Leaves (ByRaise e)) 0 c l w) (omega arith) (steps_enough value) (omega arith) (omega arith) first (raises 5 6 e p ks c l w fits)
 
     -- a use of what has ceased to exist
-    gone_runs : (value : Option (List ℕ)) (p : Point) (ks : List Frame) (s0 : State) (c0 : ℕ) (l : Log) (w : World) → step ask code s0 ≡ moved l (Table.gone ks w) → Gets 6 (allocator_steps value) s0 c0 p ks (Stops UseAfterFree 0 l)
-    gone_runs value p ks s0 c0 l w first = stop_step_to ask code (Allocates k code w0) 6 (allocator_steps value) s0 _ c0 0 (returned_to (AfterFunction p) ks) UseAfterFree l (let enough = steps_enough value in omega (arith, enough)) first refl refl
+    gone_runs : (value : Option (List ℕ)) (p : Point) (ks : List Frame) (s0 : State) (c : ℕ) (l : Log) (w : World) → step ask code s0 ≡ moved l (Table.gone ks w) → Gets 6 (allocator_steps value) s0 c0 p ks (Stops UseAfterFree 0 l)
+    gone_runs value p ks s0 c l w first = stop_step_to ask code (Allocates k code w0) 6 (allocator_steps value) s0 _ c 0 (returned_to (AfterFunction p) ks) UseAfterFree l (let enough = steps_enough value in omega (arith, enough)) first refl refl
+
+    -- where storage is granted, or not
+    granted_is : (value : Option (List ℕ)) (set : ℕ) (at1 : Place) (w1 : World) (d : List ℕ) (place : ℕ) (ks : List Frame) (ops : List Word) (l : Log) (w : World) → moved l (grants value set (Granted at1 w1) ops (here d place ks w)) ≡ moved l (creates value set at1 (point_at d (behind_allocator place) ops) ks w1)
+    granted_is None set at1 w1 d place ks ops l w = refl
+    granted_is (Some v) set at1 w1 d place ks ops l w = refl
+
+    exhausted_is : (value : Option (List ℕ)) (set : ℕ) (d : List ℕ) (place : ℕ) (ks : List Frame) (ops : List Word) (l : Log) (w : World) → moved l (grants value set Exhausted ops (here d place ks w)) ≡ transferred (ByRaise storage_error) ks l w
+    exhausted_is None set d place ks ops l w = refl
+    exhausted_is (Some v) set d place ks ops l w = refl
+
+    unknown_is : (value : Option (List ℕ)) (set : ℕ) (d : List ℕ) (place : ℕ) (ks : List Frame) (ops : List Word) (l : Log) (w : World) → moved l (grants value set UnknownPool ops (here d place ks w)) ≡ moved l (Table.gone ks w)
+    unknown_is None set d place ks ops l w = refl
+    unknown_is (Some v) set d place ks ops l w = refl
+
+    asked_is : (value : Option (List ℕ)) (set : ℕ) (o : Object) (f : ℕ) (d : List ℕ) (place : ℕ) (ks : List Frame) (ops : List Word) (l : Log) (w : World) → moved l (grants value set (AllocateOf o f) ops (here d place ks w)) ≡ moved l (Table.call_allocate code (units_of code t) set o f (kept_over value ops) (here d place ks w))
+    asked_is None set o f d place ks ops l w = refl
+    asked_is (Some v) set o f d place ks ops l w = refl
 
     -- from there, for a collection that stands
-    granted_runs : (value : Option (List ℕ)) (set : ℕ) (x : Collection) (g : Grant) (d : List ℕ) (place : ℕ) (ks : List Frame) (ops : List Word) (s0 : State) (c0 c : ℕ) (l : Log) (w : World) → c ≤ bound → c ≤ c0 → c0 ≤ c + allocator_takes value → MayStand set x w → OnGrant (MayStand set x) g → OnGrant (Since k code w0) g → IsOwn w g → Since k code w0 w → IsServed k code t value place → step ask code s0 ≡ moved l (grants value set g ops (here d place ks w))
-        → Gets 6 (allocator_steps value) s0 c0 (point_at d (behind_allocator value place) ops) ks (bind (bind (gives_place units g c l w) (on_goes (created K set (Record t) value))) (on_goes completed))
+    granted_runs : (value : Option (List ℕ)) (set : ℕ) (x : Collection) (g : Grant) (d : List ℕ) (place : ℕ) (ks : List Frame) (ops : List Word) (s0 : State) (c : ℕ) (l : Log) (w : World) → c ≤ bound → MayStand set x w → OnGrant (MayStand set x) g → OnGrant (Since k code w0) g → IsOwn w g → Since k code w0 w → IsServed code t value place → step ask code s0 ≡ moved l (grants value set g ops (here d place ks w))
+        → Gets 6 (allocator_steps value) s0 c (point_at d (behind_allocator place) ops) ks (bind (bind (gives_place units g c l w) (on_goes (created K set (Record t) value))) (on_goes completed))
     unfolding opened_outcome
-    granted_runs None set x (Granted at1 w1) d place ks ops s0 c0 c l w le lo hi may may1 fits1 own fits served first =
-        subst (λ o. Gets 6 7 s0 c0 (point_at d (place + 1 + 1) ops) ks (bind o (on_goes completed))) (sym (add_none (created K set (Record t) None at1 c l w1)))
-        (created_runs None set x at1 (point_at d (place + 1 + 1) ops) ks s0 c0 c l w1 le lo (omega (arith, hi)) may1 fits1 first)
-    granted_runs None set x Exhausted d place ks ops s0 c0 c l w le lo hi may may1 fits1 own fits served first = raise_runs None storage_error (point_at d (place + 1 + 1) ops) ks s0 c0 c l w lo (omega (arith, hi)) fits first
-    granted_runs None set x UnknownPool d place ks ops s0 c0 c l w le lo hi may may1 fits1 own fits served first = gone_runs None (point_at d (place + 1 + 1) ops) ks s0 c0 l w first
-    granted_runs None set x (AllocateOf o f) d place ks ops s0 c0 c l w le lo hi may may1 fits1 own fits served first =
-        let same : c ≡ c0 = omega (arith, lo, hi) in
-        subst (λ i. Gets 6 7 s0 i (point_at d (place + 1 + 1) ops) ks (bind (bind (gives_place units (AllocateOf o f) c l w) (on_goes (created K set (Record t) None))) (on_goes completed))) same
-        (user_runs set x o f d place ks ops s0 c l w le may fits own served
-        (first ∙ ap (λ i. moved l (Table.call_allocate code i set o f ops (here d place ks w))) units_are))
-    granted_runs (Some v) set x (Granted at1 w1) d place ks ops s0 c0 c l w le lo hi may may1 fits1 own fits served first =
-        subst (λ o. Gets 6 8 s0 c0 (point_at d (place + 1) ops) ks (bind o (on_goes completed))) (sym (add_none (created K set (Record t) (Some v) at1 c l w1)))
-        (created_runs (Some v) set x at1 (point_at d (place + 1) ops) ks s0 c0 c l w1 le lo hi may1 fits1 first)
-    granted_runs (Some v) set x Exhausted d place ks ops s0 c0 c l w le lo hi may may1 fits1 own fits served first = raise_runs (Some v) storage_error (point_at d (place + 1) ops) ks s0 c0 c l w lo hi fits first
-    granted_runs (Some v) set x UnknownPool d place ks ops s0 c0 c l w le lo hi may may1 fits1 own fits served first = gone_runs (Some v) (point_at d (place + 1) ops) ks s0 c0 l w first
-    -- with a value no type has one
-    granted_runs (Some v) set x (AllocateOf o f) d place ks ops s0 c0 c l w le lo hi may may1 fits1 own fits served first = absurd (let e = sym own.1.2 ∙ no_allocate k own.1.0 served in cc)
+    granted_runs value set x (Granted at1 w1) d place ks ops s0 c l w le may may1 fits1 own fits served first =
+        subst (λ o. Gets 6 (allocator_steps value) s0 c (point_at d (place + 1 + 1) ops) ks (bind o (on_goes completed))) (sym (add_none (created K set (Record t) value at1 c l w1)))
+        (created_runs value set x at1 (point_at d (place + 1 + 1) ops) ks s0 c c l w1 le (omega arith) (omega arith) may1 fits1 (first ∙ granted_is value set at1 w1 d place ks ops l w))
+    granted_runs value set x Exhausted d place ks ops s0 c l w le may may1 fits1 own fits served first = raise_runs value storage_error (point_at d (place + 1 + 1) ops) ks s0 c l w fits (first ∙ exhausted_is value set d place ks ops l w)
+    granted_runs value set x UnknownPool d place ks ops s0 c l w le may may1 fits1 own fits served first = gone_runs value (point_at d (place + 1 + 1) ops) ks s0 c l w (first ∙ unknown_is value set d place ks ops l w)
+    granted_runs value set x (AllocateOf o f) d place ks ops s0 c l w le may may1 fits1 own fits served first =
+        user_runs value set x o f d place ks ops s0 c l w le may fits own served
+        (first ∙ asked_is value set o f d place ks ops l w ∙ ap (λ i. moved l (Table.call_allocate code i set o f (kept_over value ops) (here d place ks w))) units_are)
 
     -- for this collection, if there is one
-    set_runs : (value : Option (List ℕ)) (pool : Option Var) (set : ℕ) (o : Option Collection) (d : List ℕ) (place : ℕ) (ks : List Frame) (ops : List Word) (s0 : State) (c0 c : ℕ) (l : Log) (w : World) → c ≤ bound → c ≤ c0 → c0 ≤ c + allocator_takes value → collection_at set w.ledger ≡ o → ((x : Collection) → o ≡ Some x → IsDeclarable code (length (home x.master w.activations)) t) → Since k code w0 w → IsServed k code t value place → step ask code s0 ≡ moved l (by_allocator code t value pool o ops (here d place ks w))
-        → Gets 6 (allocator_steps value) s0 c0 (point_at d (behind_allocator value place) ops) ks (for_set value pool d set o c l w)
+    set_runs : (value : Option (List ℕ)) (pool : Option Var) (set : ℕ) (o : Option Collection) (d : List ℕ) (place : ℕ) (ks : List Frame) (ops : List Word) (s0 : State) (c : ℕ) (l : Log) (w : World) → c ≤ bound → collection_at set w.ledger ≡ o → ((x : Collection) → o ≡ Some x → IsDeclarable code (length (home x.master w.activations)) t) → Since k code w0 w → IsServed code t value place → step ask code s0 ≡ moved l (by_allocator code t value pool o ops (here d place ks w))
+        → Gets 6 (allocator_steps value) s0 c (point_at d (behind_allocator place) ops) ks (for_set value pool d set o c l w)
     unfolding refuses opened_outcome opened_names in_pools
-    set_runs value pool set None d place ks ops s0 c0 c l w le lo hi is may fits served first = gone_runs value (point_at d (behind_allocator value place) ops) ks s0 c0 l w (first ∙ no_set value pool ops (here d place ks w) l)
-    set_runs value pool set (Some x) d place ks ops s0 c0 c l w le lo hi is may fits served first =
-        subst (λ b. Gets 6 (allocator_steps value) s0 c0 p ks (bind (either (b && x.started) (raise program_error) (storage K d pool None units >>= created K set (Record t) value) c l w) (on_goes completed))) (sym (setting.agrees default constants t plain).has)
+    set_runs value pool set None d place ks ops s0 c l w le is may fits served first = gone_runs value (point_at d (behind_allocator place) ops) ks s0 c l w (first ∙ no_set value pool ops (here d place ks w) l)
+    set_runs value pool set (Some x) d place ks ops s0 c l w le is may fits served first =
+        subst (λ b. Gets 6 (allocator_steps value) s0 c p ks (bind (either (b && x.started) (raise program_error) (storage K d pool None units >>= created K set (Record t) value) c l w) (on_goes completed))) (sym (setting.agrees default constants t plain).has)
         (by (is_refused code t x) (first ∙ this_set value pool x ops (here d place ks w) l))
       where
         p : Point
-        p = point_at d (behind_allocator value place) ops
+        p = point_at d (behind_allocator place) ops
 
         number : x.number ≡ set
         number = found_number set w x is
 
-        by : (b : Bool) → step ask code s0 ≡ moved l (if b then Table.transfers (ByRaise program_error) ks w else grants value x.number (grant code pool d (units_of code t) w) ops (here d place ks w)) → Gets 6 (allocator_steps value) s0 c0 p ks (bind (either b (raise program_error) (storage K d pool None units >>= created K set (Record t) value) c l w) (on_goes completed))
-        by true go = raise_runs value program_error p ks s0 c0 c l w lo (let few = takes_few value in omega (arith, hi, few)) fits go
+        by : (b : Bool) → step ask code s0 ≡ moved l (if b then Table.transfers (ByRaise program_error) ks w else grants value x.number (grant code pool d (units_of code t) w) ops (here d place ks w)) → Gets 6 (allocator_steps value) s0 c p ks (bind (either b (raise program_error) (storage K d pool None units >>= created K set (Record t) value) c l w) (on_goes completed))
+        by true go = raise_runs value program_error p ks s0 c l w fits go
         by false go =
-            subst (λ o. Gets 6 (allocator_steps value) s0 c0 p ks (bind (bind o (on_goes (created K set (Record t) value))) (on_goes completed))) (sym (storage_is pool d units c l w fits.0))
-            (granted_runs value set x (grant code pool d units w) d place ks ops s0 c0 c l w le lo hi (is, may x refl)
+            subst (λ o. Gets 6 (allocator_steps value) s0 c p ks (bind (bind o (on_goes (created K set (Record t) value))) (on_goes completed))) (sym (storage_is pool d units c l w fits.0))
+            (granted_runs value set x (grant code pool d units w) d place ks ops s0 c l w le (is, may x refl)
             (granted_keeps (MayStand set x) (λ n v h. h) code pool d units w (is, may x refl))
             (since_granted k code pool d units w0 w fits) (own_granted pool d units w) fits served
             (go ∙ ap (λ i. moved l (grants value x.number (grant code pool d i w) ops (here d place ks w))) units_are ∙ ap (λ i. moved l (grants value i (grant code pool d units w) ops (here d place ks w))) number))
 
     -- an allocator, from its step
     pub allocator_runs : (access : ℕ) → slice_get code.accesses.items access ≡ option_map home_of (slice_get k.accesses access)
-        → (value : Option (List ℕ)) (d : List ℕ) (place : ℕ) (ks : List Frame) (ops : List Word) (s0 : State) (c0 c : ℕ) (l : Log) (w : World) → c ≤ bound → c ≤ c0 → c0 ≤ c + allocator_takes value → Since k code w0 w → MayAllocate code access t d w → IsServed k code t value place → step ask code s0 ≡ moved l (by_allocator code t value (pool_in (slice_get code.accesses.items access)) (set_seen (slice_get code.accesses.items access) d w) ops (here d place ks w))
-        → Gets 6 (allocator_steps value) s0 c0 (point_at d (behind_allocator value place) ops) ks (bind (allocate K d access (Record t) None value c l w) (on_goes completed))
-    allocator_runs access named value d place ks ops s0 c0 c l w le lo hi fits may served first = by (slice_get k.accesses access) refl
+        → (value : Option (List ℕ)) (d : List ℕ) (place : ℕ) (ks : List Frame) (ops : List Word) (s0 : State) (c : ℕ) (l : Log) (w : World) → c ≤ bound → Since k code w0 w → MayAllocate code access t d w → IsServed code t value place → step ask code s0 ≡ moved l (by_allocator code t value (pool_in (slice_get code.accesses.items access)) (set_seen (slice_get code.accesses.items access) d w) ops (here d place ks w))
+        → Gets 6 (allocator_steps value) s0 c (point_at d (behind_allocator place) ops) ks (bind (allocate K d access (Record t) None value c l w) (on_goes completed))
+    allocator_runs access named value d place ks ops s0 c l w le fits may served first = by (slice_get k.accesses access) refl
       where
         p : Point
-        p = point_at d (behind_allocator value place) ops
+        p = point_at d (behind_allocator place) ops
 
         -- its step, where this is its access type
         from : (o : Option AccessType) → slice_get k.accesses access ≡ o → step ask code s0 ≡ moved l (by_allocator code t value (pool_in (option_map home_of o)) (set_seen (option_map home_of o) d w) ops (here d place ks w))
         from o found = first ∙ ap (λ y. moved l (by_allocator code t value (pool_in y) (set_seen y d w) ops (here d place ks w))) (named ∙ ap (option_map home_of) found)
 
-        by : (o : Option AccessType) → slice_get k.accesses access ≡ o → Gets 6 (allocator_steps value) s0 c0 p ks (bind (allocate K d access (Record t) None value c l w) (on_goes completed))
+        by : (o : Option AccessType) → slice_get k.accesses access ≡ o → Gets 6 (allocator_steps value) s0 c p ks (bind (allocate K d access (Record t) None value c l w) (on_goes completed))
         by None found =
-            subst (Gets 6 (allocator_steps value) s0 c0 p ks) (sym (allocate_none value d access found c l w))
-            (gone_runs value p ks s0 c0 l w (from None found ∙ no_set value None ops (here d place ks w) l))
+            subst (Gets 6 (allocator_steps value) s0 c p ks) (sym (allocate_none value d access found c l w))
+            (gone_runs value p ks s0 c l w (from None found ∙ no_set value None ops (here d place ks w) l))
         by (Some a) found =
-            subst (Gets 6 (allocator_steps value) s0 c0 p ks) (sym (allocate_is value d access a found c l w))
-            (set_runs value a.pool (set_number d a.collection w) (set_seen (Some (home_of a)) d w) d place ks ops s0 c0 c l w le lo hi refl (λ x is. may x (ap (λ o. set_seen o d w) (named ∙ ap (option_map home_of) found) ∙ is)) fits served (from (Some a) found))
+            subst (Gets 6 (allocator_steps value) s0 c p ks) (sym (allocate_is value d access a found c l w))
+            (set_runs value a.pool (set_number d a.collection w) (set_seen (Some (home_of a)) d w) d place ks ops s0 c l w le refl (λ x is. may x (ap (λ o. set_seen o d w) (named ∙ ap (option_map home_of) found) ∙ is)) fits served (from (Some a) found))
 
 -- As a value ----------------------------------------------------------------------------------------------
 
@@ -685,12 +713,12 @@ module _ (ask : Ask) (k : Tables) (code : Code) (setting : Setting k code) (call
   allocated d value = call (OfAllocator access (Record t) None value) d >>= cells
 
   -- from its step, with the operands that it leaves, to where its value is wanted
-  step_runs : (value : Option (List ℕ)) (to : Cell) (ty : Ty) (s : List Kind) (d : List ℕ) (place : ℕ) (ks : List Frame) (ops : List Word) (c0 c : ℕ) (l : Log) (w : World) (s0 : State) → c + 1 ≤ bound → c ≤ c0 → c0 ≤ c + allocator_takes value → Since k code w0 w → IsSeen w0 d s → IsAllocable code (depth s) access t → IsServed k code t value place → Laid code (behind_allocator value place) (moved_to to ty s) → step ask code s0 ≡ moved l (by_allocator code t value (pool_in (slice_get code.accesses.items access)) (set_seen (slice_get code.accesses.items access) d w) ops (here d place ks w)) → RunsTo ask code (OneCell (Since k code w0) Any) 7 (allocator_steps value) s0 c0 (landed to.named d (behind_allocator value place + length (moved_to to ty s)) ks ops) (allocated d value c l w)
+  step_runs : (value : Option (List ℕ)) (to : Cell) (ty : Ty) (s : List Kind) (d : List ℕ) (place : ℕ) (ks : List Frame) (ops : List Word) (c : ℕ) (l : Log) (w : World) (s0 : State) → c + 1 ≤ bound → Since k code w0 w → IsSeen w0 d s → IsAllocable code (depth s) access t → IsServed code t value place → Laid code (behind_allocator place) (moved_to to ty s) → step ask code s0 ≡ moved l (by_allocator code t value (pool_in (slice_get code.accesses.items access)) (set_seen (slice_get code.accesses.items access) d w) ops (here d place ks w)) → RunsTo ask code (OneCell (Since k code w0) Any) 7 (allocator_steps value) s0 c (landed to.named d (behind_allocator place + length (moved_to to ty s)) ks ops) (allocated d value c l w)
   unfolding opened_outcome
-  step_runs value to ty s d place ks ops c0 c l w s0 le lo hi fits long allocable served has first =
-      let p = behind_allocator value place in
-      both_to ask code (Allocates k code w0) (OneCell (Since k code w0) Any) 6 (allocator_steps value) 1 1 7 (allocator_steps value) s0 c0 (returned_to (AfterFunction (point_at d p ops)) ks) (landed to.named d (p + length (moved_to to ty s)) ks ops) (call (OfAllocator access (Record t) None value) d c l w) (on_goes cells) (omega arith) (omega arith) (steps_enough value)
-      (calls.allocates access t plain value w0 d place ks ops c0 c l w s0 le lo hi fits (may_allocate k code access t d s w0 w allocable long fits) served first)
+  step_runs value to ty s d place ks ops c l w s0 le fits long allocable served has first =
+      let p = behind_allocator place in
+      both_to ask code (Allocates k code w0) (OneCell (Since k code w0) Any) 6 (allocator_steps value) 1 1 7 (allocator_steps value) s0 c (returned_to (AfterFunction (point_at d p ops)) ks) (landed to.named d (p + length (moved_to to ty s)) ks ops) (call (OfAllocator access (Record t) None value) d c l w) (on_goes cells) (omega arith) (omega arith) (steps_enough value)
+      (calls.allocates access t plain value w0 d place ks ops c l w s0 le fits (may_allocate k code access t d s w0 w allocable long fits) served first)
       (λ r c1 l1 w1 lo1 h. value_runs to ty s d p ks ops has r c1 l1 w1 h)
 
   -- By default ----------------------------------------------------------------------------------------
@@ -706,13 +734,13 @@ module _ (ask : Ask) (k : Tables) (code : Code) (setting : Setting k code) (call
   runs to ty s d place ks ops (suc c) l w le fits long has =
       let i = InstrOf.New access t ty (height s) in
       let rest = has.2 in
-      let served : IsServed k code t None (place + 1) = (ty, height s, rest.2.0) in
+      let served : IsServed code t None (place + 1) = (ty, height s, rest.2.0) in
       let end : place + 1 + 1 + 1 + length (moved_to to ty s) ≡ place + length ((new access (Record t) None None).code to ty s) = omega arith in
       let skipped : place + 1 + 0 ≡ place + 1 = omega arith in
       subst (λ q. RunsTo ask code (OneCell (Since k code w0) Any) 8 8 (at d place ks ops l w) (suc c) (landed to.named d q ks ops) (allocated d None c l w)) end
       (one_step_to ask code (OneCell (Since k code w0) Any) 7 7 8 8 (at d place ks ops l w) (at d (place + 1) ks ops l w) (suc c) c (landed to.named d (place + 1 + 1 + 1 + length (moved_to to ty s)) ks ops) (allocated d None c l w) (omega arith) (omega arith) (omega arith) (omega arith)
       (by_code ask code d place ks ops l w (InstrOf.Skip 0) has.0 ∙ ap (λ q. at d q ks ops l w) skipped)
-      (step_runs None to ty s d (place + 1) ks ops c c l w _ (omega (arith, le)) (omega arith) (omega arith) fits long (setting.valid.each (place + 1) i s rest.0 rest.1).1 served rest.2.2 (by_code ask code d (place + 1) ks ops l w i rest.0)))
+      (step_runs None to ty s d (place + 1) ks ops c l w _ (omega (arith, le)) fits long (setting.valid.each (place + 1) i s rest.0 rest.1).1 served rest.2.2 (by_code ask code d (place + 1) ks ops l w i rest.0)))
 
   pub new_value : Value ask k code bound w0 (new access (Record t) None None) (eval_step (Expr-F.New access (Record t) None None) V)
   new_value = record {
@@ -723,7 +751,7 @@ module _ (ask : Ask) (k : Tables) (code : Code) (setting : Setting k code) (call
 
   -- With the value of a part --------------------------------------------------------------------------
 
-  module _ (m : Valued) (x : Reached) (known : Reads ask k code call default bound w0 t x m) (none : none_allocates k.records ≡ true) (walks : part_runs x k.records ≡ true) where
+  module _ (m : Valued) (x : Reached) (known : Reads ask k code call default bound w0 t x m) (walks : part_runs x k.records ≡ true) where
     -- the value, and then the allocator
     abbrev copied : List ℕ → Act (List ℕ)
     copied d = m V d >>= (λ v. allocated d (Some v))
@@ -743,7 +771,7 @@ module _ (ask : Ask) (k : Tables) (code : Code) (setting : Setting k code) (call
     copy_means d (suc c) l w = ap (add 1) (copied_is d (m V d c l w))
 
     -- over the part whose value it is
-    over_part : (q : Spot) (to : Cell) (ty : Ty) (s : List Kind) (d : List ℕ) (place : ℕ) (ks : List Frame) (ops : List Word) (c : ℕ) (l : Log) (w : World) → c + 1 ≤ bound → Since k code w0 w → IsSeen w0 d s → Laid code place ((InstrOf.NewCopy access t ty (height s), Operand (Record t) ∷ s) ∷ moved_to to ty s) → RunsTo ask code (OneCell (Since k code w0) Any) 8 8 (at d place ks (Located q ∷ ops) l w) c (landed to.named d (place + 1 + length (moved_to to ty s)) ks ops) (taken_from ask k code setting call default t plain (λ v. allocated d (Some v)) q.offset (object_at q.object w) c l w)
+    over_part : (q : Spot) (to : Cell) (ty : Ty) (s : List Kind) (d : List ℕ) (place : ℕ) (ks : List Frame) (ops : List Word) (c : ℕ) (l : Log) (w : World) → c + 1 ≤ bound → Since k code w0 w → IsSeen w0 d s → Laid code place ((InstrOf.NewCopy access t ty (height s), Operand (Record t) ∷ s) ∷ (InstrOf.NewCopyIn t ty (height s), over_numbers address_numbers (RecordValue ∷ s)) ∷ moved_to to ty s) → RunsTo ask code (OneCell (Since k code w0) Any) 8 8 (at d place ks (Located q ∷ ops) l w) c (landed to.named d (place + 1 + 1 + length (moved_to to ty s)) ks ops) (taken_from ask k code setting call default t plain (λ v. allocated d (Some v)) q.offset (object_at q.object w) c l w)
     over_part q to ty s d place ks ops c l w le fits long has = by (object_at q.object w) (by_code ask code d place ks (Located q ∷ ops) l w i has.0)
       where
         i : Instr
@@ -752,11 +780,11 @@ module _ (ask : Ask) (k : Tables) (code : Code) (setting : Setting k code) (call
         s0 : State
         s0 = at d place ks (Located q ∷ ops) l w
 
-        by : (o : Option Object) → step ask code s0 ≡ moved l (Table.new_from code t q.offset o (pool_in (slice_get code.accesses.items access)) (set_seen (slice_get code.accesses.items access) d w) ops (here d place ks w)) → RunsTo ask code (OneCell (Since k code w0) Any) 8 8 s0 c (landed to.named d (place + 1 + length (moved_to to ty s)) ks ops) (taken_from ask k code setting call default t plain (λ v. allocated d (Some v)) q.offset o c l w)
-        by None go = stop_step_to ask code (OneCell (Since k code w0) Any) 8 8 s0 _ c 0 (landed to.named d (place + 1 + length (moved_to to ty s)) ks ops) UseAfterFree l (omega arith) go refl refl
+        by : (o : Option Object) → step ask code s0 ≡ moved l (Table.new_from code t q.offset o (pool_in (slice_get code.accesses.items access)) (set_seen (slice_get code.accesses.items access) d w) ops (here d place ks w)) → RunsTo ask code (OneCell (Since k code w0) Any) 8 8 s0 c (landed to.named d (place + 1 + 1 + length (moved_to to ty s)) ks ops) (taken_from ask k code setting call default t plain (λ v. allocated d (Some v)) q.offset o c l w)
+        by None go = stop_step_to ask code (OneCell (Since k code w0) Any) 8 8 s0 _ c 0 (landed to.named d (place + 1 + 1 + length (moved_to to ty s)) ks ops) UseAfterFree l (omega arith) go refl refl
         by (Some o) go =
-            within_to ask code (OneCell (Since k code w0) Any) 7 8 8 8 s0 c (landed to.named d (place + 1 + length (moved_to to ty s)) ks ops) _ (omega arith) (omega arith)
-            (step_runs (Some (cells_at q.offset (code_size code t) o)) to ty s d place ks ops c c l w s0 le (omega arith) (omega arith) fits long (setting.valid.each place i (Operand (Record t) ∷ s) has.0 has.1).1 none has.2 go)
+            within_to ask code (OneCell (Since k code w0) Any) 7 8 8 8 s0 c (landed to.named d (place + 1 + 1 + length (moved_to to ty s)) ks ops) _ (omega arith) (omega arith)
+            (step_runs (Some (cells_at q.offset (code_size code t) o)) to ty s d place ks ops c l w s0 le fits long (setting.valid.each place i (Operand (Record t) ∷ s) has.0 has.1).1 (ty, height s, has.2.0) has.2.2 go)
 
     copy_runs : (to : Cell) (ty : Ty) (s : List Kind) (d : List ℕ) (place : ℕ) (ks : List Frame) (ops : List Word) (c : ℕ) (l : Log) (w : World) → c ≤ bound → Since k code w0 w → IsSeen w0 d s → Laid code place ((new_copy access t (Some x)).code to ty s) → RunsTo ask code (OneCell (Since k code w0) Any) 8 8 (at d place ks ops l w) c (landed to.named d (place + length ((new_copy access t (Some x)).code to ty s)) ks ops) (spend (copied d) c l w)
     unfolding opened_outcome
@@ -764,12 +792,12 @@ module _ (ask : Ask) (k : Tables) (code : Code) (setting : Setting k code) (call
     copy_runs to ty s d place ks ops (suc c) l w le fits long has =
         let Ends = OneCell (Since k code w0) Any in
         let front = part_code x t s in
-        let last : List Line = (InstrOf.NewCopy access t ty (height s), Operand (Record t) ∷ s) ∷ [] in
+        let last : List Line = (InstrOf.NewCopy access t ty (height s), Operand (Record t) ∷ s) ∷ (InstrOf.NewCopyIn t ty (height s), over_numbers address_numbers (RecordValue ∷ s)) ∷ [] in
         let whole = (front ++ last) ++ moved_to to ty s in
         let p = place + 1 in
         let next = landed to.named d (p + length whole) ks ops in
         let here = laid_back code p front (last ++ moved_to to ty s) (subst (Laid code p) (append_assoc front last (moved_to to ty s)) has.2) in
-        let end : p + length front + 1 + length (moved_to to ty s) ≡ p + length whole = omega (arith, length-append (front ++ last) (moved_to to ty s), length-append front last) in
+        let end : p + length front + 1 + 1 + length (moved_to to ty s) ≡ p + length whole = omega (arith, length-append (front ++ last) (moved_to to ty s), length-append front last) in
         let behind : p + length whole ≡ place + length ((new_copy access t (Some x)).code to ty s) = omega arith in
         let skipped : p + 0 ≡ p = omega arith in
         subst (λ n. RunsTo ask code Ends 8 8 (at d place ks ops l w) (suc c) (landed to.named d n ks ops) (copied d c l w)) behind

@@ -33,7 +33,7 @@ use Rattle.ctl_gen.proofs.Each.{Each}
 use Rattle.ctl_gen.proofs.Collections.{nested_taken}
 use Rattle.ctl_gen.proofs.Worlds.{IsNested, IsPlainSlot, plain_unset, Since, fits_empty, keeps_itself}
 use Rattle.ctl_gen.proofs.Scopes.{IsCallable}
-use Rattle.ctl_gen.proofs.Setting.{Setting, Allocates, IsServed, MayAllocate, EndsIn, allocator_steps, allocator_takes, behind_allocator, by_allocator, returned_to, returns, IsTold, Told, Calls}
+use Rattle.ctl_gen.proofs.Setting.{Setting, Allocates, IsServed, MayAllocate, EndsIn, allocator_steps, behind_allocator, by_allocator, returned_to, returns, IsTold, Told, Calls}
 use Rattle.ctl_gen.proofs.Known.{IsPlainType}
 use Rattle.ctl_gen.proofs.Parted.{GivesDefaults}
 use Rattle.ctl_gen.proofs.Calls.{point_at}
@@ -160,18 +160,18 @@ module _ (ask : Ask) (p : Meaning) (code : Code) (setting : Setting p.tables cod
       (number_runs (execution ask p (suc n)) n below f s here w0 v actuals after ks (suc c) c l w s0 kind count ends (omega (arith, le)) (omega arith) (omega arith) fits callable nested plain first)
 
   -- an allocator has taken one before
-  allocate_runs : (n : ℕ) → Below n → (access t : ℕ) → IsPlainType k (Record t) → (value : Option (List ℕ)) (w0 : World) (d : List ℕ) (place : ℕ) (ks : List Frame) (ops : List Word) (c0 c : ℕ) (l : Log) (w : World) (s0 : State) → c + 1 ≤ n → c ≤ c0 → c0 ≤ c + allocator_takes value → Since k code w0 w → MayAllocate code access t d w → IsServed k code t value place → step ask code s0 ≡ moved l (by_allocator code t value (pool_in (slice_get code.accesses.items access)) (set_seen (slice_get code.accesses.items access) d w) ops (here d place ks w)) → RunsTo ask code (Allocates k code w0) 6 (allocator_steps value) s0 c0 (returned_to (AfterFunction (point_at d (behind_allocator value place) ops)) ks) (execution ask p (suc n) (OfAllocator access (Record t) None value) d c l w)
+  allocate_runs : (n : ℕ) → Below n → (access t : ℕ) → IsPlainType k (Record t) → (value : Option (List ℕ)) (w0 : World) (d : List ℕ) (place : ℕ) (ks : List Frame) (ops : List Word) (c : ℕ) (l : Log) (w : World) (s0 : State) → c + 1 ≤ n → Since k code w0 w → MayAllocate code access t d w → IsServed code t value place → step ask code s0 ≡ moved l (by_allocator code t value (pool_in (slice_get code.accesses.items access)) (set_seen (slice_get code.accesses.items access) d w) ops (here d place ks w)) → RunsTo ask code (Allocates k code w0) 6 (allocator_steps value) s0 c (returned_to (AfterFunction (point_at d (behind_allocator place) ops)) ks) (execution ask p (suc n) (OfAllocator access (Record t) None value) d c l w)
   unfolding execution execute tools_with opened_outcome
-  allocate_runs zero below access t plain value w0 d place ks ops c0 c l w s0 le lo hi fits may served first = absurd (omega (arith, le))
-  allocate_runs (suc n) below access t plain value w0 d place ks ops c0 c l w s0 le lo hi fits may served first =
+  allocate_runs zero below access t plain value w0 d place ks ops c l w s0 le fits may served first = absurd (omega (arith, le))
+  allocate_runs (suc n) below access t plain value w0 d place ks ops c l w s0 le fits may served first =
       let inner = execution ask p (suc n) in
-      allocator_runs ask k code setting inner (default_in p.defaults (expression_tools ask p inner)) (constants inner) n below t plain w0 access (setting.accesses access) value d place ks ops s0 c0 c l w (omega (arith, le)) lo hi fits may served first
+      allocator_runs ask k code setting inner (default_in p.defaults (expression_tools ask p inner)) (constants inner) n below t plain w0 access (setting.accesses access) value d place ks ops s0 c l w (omega (arith, le)) fits may served first
 
   all_below : (n : ℕ) → Below n
   all_below zero = tt
   all_below (suc n) = record {
     runs = λ f s known w0 v actuals after ks c l w s0 kind count ends le fits callable nested plain first. call_runs n (all_below n) c le f s known w0 v actuals after ks l w s0 kind count ends fits callable nested plain first;
-    allocates = λ access t plain value w0 d place ks ops c0 c l w s0 le lo hi fits may served first. allocate_runs n (all_below n) access t plain value w0 d place ks ops c0 c l w s0 le lo hi fits may served first;
+    allocates = λ access t plain value w0 d place ks ops c l w s0 le fits may served first. allocate_runs n (all_below n) access t plain value w0 d place ks ops c l w s0 le fits may served first;
     counts = counted (suc n) n (omega arith);
   }
 

@@ -164,8 +164,7 @@ module _ (ask : Ask) (k : Tables) (code : Code) (setting : Setting k code) (call
   copies access t v None is runs = absurd (cc)
   copies access t v (Some x) is runs =
       let e = both_true _ _ runs in
-      let g = both_true _ _ e.0 in
-      copied_value ask k code setting call default bound calls w0 access t (plain_if k t g.0) (eval v.0) x (v.1.1 t x is (part_begun k.records x e.1)) g.1 e.1
+      copied_value ask k code setting call default bound calls w0 access t (plain_if k t e.0) (eval v.0) x (v.1.1 t x is (part_begun k.records x e.1)) e.1
 
   allocates_with : (access : ℕ) (ty : Ty) (v : ExprToo) → Meets (new access ty None (Some (value_code v.0))) (eval_step (Expr-F.New access ty None (Some (eval v.0))))
   allocates_with access (Record t) v runs = copies access t v (copied t (value_code v.0)) refl runs

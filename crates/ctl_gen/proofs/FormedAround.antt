@@ -8,7 +8,7 @@ use Rattle.ctl_program.specs.declared.types.Ty.TheVariants.{Integer}
 use Rattle.ctl_program.specs.declared.types.Var.{Var}
 use Rattle.ctl_well_typed.specs.Setting as W
 use Rattle.ctl_code.specs.declared.kinds.Kind.{Kind}
-use Rattle.ctl_code.specs.declared.kinds.Kind.TheVariants.{Operand, Block, Body}
+use Rattle.ctl_code.specs.declared.kinds.Kind.TheVariants.{Operand, RecordValue, Block, Body}
 use Rattle.ctl_code.specs.declared.code.Code.{Code}
 use Rattle.ctl_code.specs.Windows.{HasSlot, depth, height, slot_over, variable_at}
 use Rattle.ctl_code.specs.Valid.{HasCollection, HasVariable, IsAtEnd, IsFine, Leads, over_numbers}
@@ -30,6 +30,7 @@ slot_there below slots slot lt = tested (nat_lt slot slots) refl
 pub cell_there : (s : List Kind) (slot : ℕ) → HasSlot s 0 slot → (at : ℕ) × (variable_at s 0 slot ≡ Some at)
 cell_there [] slot h = absurd h
 cell_there (Operand ty ∷ s) slot h = cell_there s slot h
+cell_there (RecordValue ∷ s) slot h = cell_there s slot h
 cell_there (Block slots ∷ s) slot h = (height s + slot, slot_there (height s) slots slot h)
 cell_there (Body level slots ∷ s) slot h = (height s + slot, slot_there (height s) slots slot h)
 

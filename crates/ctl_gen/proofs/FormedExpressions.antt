@@ -60,9 +60,9 @@ module _ (code : Code) (records : List RecordType) where
   not_missing x same h = absurd (let e = sym (ap (λ (z : ValueCode). z.runs records) same) ∙ h in cc)
 
   -- an allocator with the value of a part
-  copied_fine : (env : W.Frames) (a u : ℕ) (o : Option Reached) → IsAllocable code (length env) a u → IsHoused code env a → IsFound code env records o → (new_copy a u o).runs records ≡ true → Fine code env (new_copy a u o) (TyOf.Access a)
-  copied_fine env a u None allocable housed found runs = absurd (cc)
-  copied_fine env a u (Some x) allocable housed found runs = inl (copied_own code env a u x found.0 (found.1 (part_begun records x (both_true _ _ runs).1)) allocable housed)
+  copied_fine : (env : W.Frames) (a u : ℕ) (o : Option Reached) → IsAllocable code (length env) a u → IsHoused code env a → IsRecord code u → IsFound code env records o → (new_copy a u o).runs records ≡ true → Fine code env (new_copy a u o) (TyOf.Access a)
+  copied_fine env a u None allocable housed known found runs = absurd (cc)
+  copied_fine env a u (Some x) allocable housed known found runs = inl (copied_own code env a u x found.0 (found.1 (part_begun records x (both_true _ _ runs).1)) allocable housed known)
 
   -- what is copied of an expression, if there is one, is found
   abbrev IsCopyFound : W.Frames → Option Expr → Type 0
@@ -72,7 +72,7 @@ module _ (code : Code) (records : List RecordType) where
   -- an allocator, which is run where it has no handle, and no value but that of a part
   allocated_fine : (env : W.Frames) (a : ℕ) (t : Ty) (handle : Option ValueCode) (x : Option Expr) → ((u : ℕ) → t ≡ TyOf.Record u → IsAllocable code (length env) a u × IsHoused code env a × IsRecord code u) → IsCopyFound env x → (new a t handle (option_map value_code x)).runs records ≡ true → Fine code env (new a t handle (option_map value_code x)) (TyOf.Access a)
   allocated_fine env a (TyOf.Record u) None None may found runs = inl (new_own code env a u (may u refl).0 (may u refl).1 (may u refl).2)
-  allocated_fine env a (TyOf.Record u) None (Some x) may found runs = copied_fine env a u (copied u (value_code x)) (may u refl).0 (may u refl).1 (found u) runs
+  allocated_fine env a (TyOf.Record u) None (Some x) may found runs = copied_fine env a u (copied u (value_code x)) (may u refl).0 (may u refl).1 (may u refl).2 (found u) runs
   allocated_fine env a (TyOf.Record u) (Some h) x may found runs = absurd (cc)
   allocated_fine env a TyOf.Integer h x may found runs = absurd (cc)
   allocated_fine env a TyOf.Count h x may found runs = absurd (cc)

@@ -352,6 +352,15 @@ module _ (code : Code) (env : W.Frames) where
         ),
       )
 
+  -- with the value of a part: behind the call of an Allocate they stand over that value (13.11)
+  behind_part_formed : (access t : ℕ) (ty : Ty) (s : List Kind) → Valid.IsScalar ty → Agrees env s → IsAllocable code (length env) access t → IsHoused code env access → IsRecord code t → Formed code ((InstrOf.NewCopy access t ty (height s), KindOf.Operand (TyOf.Record t) ∷ s) ∷ (InstrOf.NewCopyIn t ty (height s), over_numbers address_numbers (KindOf.RecordValue ∷ s)) ∷ []) (KindOf.Operand (TyOf.Record t) ∷ s) (Some (KindOf.Operand ty ∷ s))
+  behind_part_formed access t ty s scalar agrees allocable housed known p h =
+      let may = subst (λ n. IsAllocable code n access t) (sym agrees.0) allocable in
+      let last = h.1.1 in (
+        h.0,
+        ((scalar, may, (s, refl, (refl, h.1.0, last)), housed s agrees), ((scalar, known, have_over address_numbers (KindOf.RecordValue ∷ s), refl, refl, last), tt)),
+      )
+
   -- the value of an allocator is a new operand, and then goes where it is wanted
   pub new_own : (access t : ℕ) → IsAllocable code (length env) access t → IsHoused code env access → IsRecord code t → Own (new access (TyOf.Record t) None None) (TyOf.Access access)
   new_own access t allocable housed known =
@@ -366,28 +375,28 @@ module _ (code : Code) (env : W.Frames) where
         constant = λ n is. absurd (cc);
       })
 
-  -- one with the value of a part, which is found before
-  copy_formed : (access t : ℕ) (x : Reached) (ty : Ty) (s : List Kind) → Valid.IsScalar ty → Agrees env s → are_followed (start_of x) (steps_before x) ≡ true → IsBegun code env (start_of x) → IsAllocable code (length env) access t → IsHoused code env access → Formed code (new_copy_code access t x ty s) s (Some (KindOf.Operand ty ∷ s))
-  copy_formed access t x ty s scalar agrees followed begun allocable housed =
+  -- and the part itself is found before, behind an instruction that does nothing
+  copy_formed : (access t : ℕ) (x : Reached) (ty : Ty) (s : List Kind) → Valid.IsScalar ty → Agrees env s → are_followed (start_of x) (steps_before x) ≡ true → IsBegun code env (start_of x) → IsAllocable code (length env) access t → IsHoused code env access → IsRecord code t → Formed code (new_copy_code access t x ty s) s (Some (KindOf.Operand ty ∷ s))
+  copy_formed access t x ty s scalar agrees followed begun allocable housed known =
       let part = KindOf.Operand (TyOf.Record t) ∷ s in
       let top = KindOf.Operand ty ∷ s in
-      let last : List Line = (InstrOf.NewCopy access t ty (height s), part) ∷ [] in
+      let last : List Line = (InstrOf.NewCopy access t ty (height s), part) ∷ (InstrOf.NewCopyIn t ty (height s), over_numbers address_numbers (KindOf.RecordValue ∷ s)) ∷ [] in
       both code ((InstrOf.Skip 0, s) ∷ []) (part_code x t s ++ last) s s (Some top)
       (one code (InstrOf.Skip 0) s (Some s) (λ p next. let e : p + 1 ≡ p + 1 + 0 = omega arith in leads_at code (p + 1) (p + 1 + 0) s e next))
       (both code (part_code x t s) last s part (Some top)
       (part_formed code env x t s agrees followed begun)
-      (one code (InstrOf.NewCopy access t ty (height s)) part (Some top) (λ p next. (scalar, subst (λ n. IsAllocable code n access t) (sym agrees.0) allocable, (s, refl, (refl, next)), housed s agrees))))
+      (behind_part_formed access t ty s scalar agrees allocable housed known))
 
   -- and its value goes where it is wanted, too
-  pub copied_own : (access t : ℕ) (x : Reached) → are_followed (start_of x) (steps_before x) ≡ true → IsBegun code env (start_of x) → IsAllocable code (length env) access t → IsHoused code env access → Own (new_copy access t (Some x)) (TyOf.Access access)
-  copied_own access t x followed begun allocable housed =
+  pub copied_own : (access t : ℕ) (x : Reached) → are_followed (start_of x) (steps_before x) ≡ true → IsBegun code env (start_of x) → IsAllocable code (length env) access t → IsHoused code env access → IsRecord code t → Own (new_copy access t (Some x)) (TyOf.Access access)
+  copied_own access t x followed begun allocable housed known =
       own_as (new_copy access t (Some x)) (TyOf.Access access) refl tt
       (λ ty scalar. record {
         scalar = scalar;
         formed = λ to s agrees at.
             let top = KindOf.Operand ty ∷ s in
             both code (new_copy_code access t x ty s) (moved_to to ty s) s top (Some (with_put to.named ty s))
-            (copy_formed access t x ty s scalar agrees followed begun allocable housed)
+            (copy_formed access t x ty s scalar agrees followed begun allocable housed known)
             (moved_formed code to ty s scalar at);
         constant = λ n is. absurd (cc);
       })

@@ -12,7 +12,7 @@ use Rattle.ctl_program.specs.declared.types.RecordType.{RecordType}
 use Rattle.ctl_meaning.specs.Types.{Tables, Elementary, category_of, of_record, operation, operation_in, record_of, root_in, root_of}
 use Rattle.ctl_layout.specs.declared.forms.Form.{Form}
 use Rattle.ctl_layout.specs.declared.forms.Form.TheVariants as FormOf
-use Rattle.ctl_layout.specs.Records.{are_parts, extends_such, form_by, forms_of, have_constants, is_laid, is_laid_by, is_laid_form, is_part, is_plain, is_plain_by, is_plain_form, is_root_run, is_run_type, may_default, none_allocates}
+use Rattle.ctl_layout.specs.Records.{are_parts, extends_such, form_by, forms_of, have_constants, is_laid, is_laid_by, is_laid_form, is_part, is_plain, is_plain_by, is_plain_form, is_root_run, is_run_type, may_default}
 pub use Rattle.ctl_layout.proofs.Extensions.{both_true}
 use Rattle.ctl_layout.proofs.Extensions.{HasComponents, IsRow, extends_none, extends_one, row_at, rows_length, same_components}
 
@@ -283,17 +283,6 @@ pub part_plain : (k : Tables) (t : ℕ) (c : Component) (x : IsOfPlain k.records
 part_plain k t c x = plain_if k x.number x.plain
 
 -- Pools (13.11) -----------------------------------------------------------------------------------
-
-none_there : (records : List RecordType) (t : ℕ) → none_allocates records ≡ true → operation_in (λ x. x.allocate) (slice_get records t) ≡ None
-unfolding operation_in
-none_there [] t e = refl
-none_there (r ∷ rs) zero e = none_if r.operations.allocate (both_true (is_none r.operations.allocate) (none_allocates rs) e).0
-none_there (r ∷ rs) (suc t) e = none_there rs t (both_true (is_none r.operations.allocate) (none_allocates rs) e).1
-
--- where no type has an Allocate that the user wrote, no object has such a type
-pub no_allocate : (k : Tables) (t : ℕ) → none_allocates k.records ≡ true → operation (λ x. x.allocate) k t ≡ None
-unfolding operation
-no_allocate k t e = none_there k.records t e
 
 never_mark_pool : (r : RecordType) → IsRootRun r → r.root ≢ MarkPool
 never_mark_pool r (inl (inl h)) e = let bad : Controlled ≡ MarkPool = sym h ∙ e in cc

@@ -28,7 +28,7 @@ use Rattle.ctl_code.specs.Table.{Here, by_new, called_among, enter_body, new_wit
 use Rattle.ctl_code.specs.Steps.{moved, step}
 use Rattle.ctl_code.specs.Valid.{IsDeclarable, IsValid, kinds_at}
 use Rattle.ctl_code.specs.Windows.{depth}
-use Rattle.ctl_layout.specs.Records.{adjust_by, is_laid, none_allocates}
+use Rattle.ctl_layout.specs.Records.{adjust_by, is_laid}
 use Rattle.ctl_layout.specs.Layout.{home_of}
 use Rattle.ctl_layout.specs.Run.{IsBody}
 use Rattle.ctl_gen.proofs.Known.{IsPlainType}
@@ -157,21 +157,14 @@ abbrev pub by_allocator : Code → ℕ → Option (List ℕ) → Option Var → 
 by_allocator code t None = by_new code t
 by_allocator code t (Some v) = new_with code t v
 
--- the place that an allocator leads to: without a value it is behind two instructions, since the next one is for the address that a user's
--- Allocate gave (13.11)
-abbrev pub behind_allocator : Option (List ℕ) → ℕ → ℕ
-behind_allocator None place = place + 1 + 1
-behind_allocator (Some v) place = place + 1
+-- the place that an allocator leads to, behind two instructions: the next one is for the address that a user's Allocate gave (13.11)
+abbrev pub behind_allocator : ℕ → ℕ
+behind_allocator place = place + 1 + 1
 
--- that instruction stands behind it; with a value none is needed, since no type has an Allocate that the user wrote
-abbrev pub IsServed : (k : Tables) (code : Code) → ℕ → Option (List ℕ) → ℕ → Type 0
-IsServed k code t None place = (ty : Ty) × (at : ℕ) × (slice_get code.instructions.items (place + 1) ≡ Some (InstrOf.NewIn t ty at))
-IsServed k code t (Some v) place = none_allocates k.records ≡ true
-
--- how much the step of an allocator takes from the clock: without a value another step, before it, has taken what an allocator takes
-abbrev pub allocator_takes : Option (List ℕ) → ℕ
-allocator_takes None = 0
-allocator_takes (Some v) = 1
+-- that instruction stands behind it
+abbrev pub IsServed : (code : Code) → ℕ → Option (List ℕ) → ℕ → Type 0
+IsServed code t None place = (ty : Ty) × (at : ℕ) × (slice_get code.instructions.items (place + 1) ≡ Some (InstrOf.NewIn t ty at))
+IsServed code t (Some v) place = (ty : Ty) × (at : ℕ) × (slice_get code.instructions.items (place + 1) ≡ Some (InstrOf.NewCopyIn t ty at))
 
 -- how many steps that no tick pays come at most before an allocator is cut or has stopped, from its own step on
 abbrev pub allocator_steps : Option (List ℕ) → ℕ
@@ -189,7 +182,7 @@ Allocates k code w0 (Leaves y) w = IsRaise y × Since k code w0 w
 -- be finalized together than there were
 pub record Calls (ask : Ask) (k : Tables) (code : Code) (setting : Setting k code) (bound : ℕ) (call : Call) : Type 0 where
   pub runs : (f : ℕ) (s : Subprogram) → slice_get setting.subprograms f ≡ Some s → (w0 : World) (v : List ℕ) (actuals : List Slot) (after : After) (ks : List Frame) (c : ℕ) (l : Log) (w : World) (s0 : State) (kind : SubprogramKind) (count : ℕ) → EndsIn kind after → c ≤ bound → Since k code w0 w → IsCallable code kind (length v) f count → IsNested w v → Each IsPlainSlot actuals → step ask code s0 ≡ moved l (enter_body (slice_get code.entries.items f) [] v actuals after ks w) → Runs ask code (Told k code w0) 0 3 s0 c (returned_to after ks) (call (OfSubprogram f actuals) v c l w)
-  pub allocates : (access t : ℕ) → IsPlainType k (Record t) → (value : Option (List ℕ)) (w0 : World) (d : List ℕ) (place : ℕ) (ks : List Frame) (ops : List Word) (c0 c : ℕ) (l : Log) (w : World) (s0 : State) → c + 1 ≤ bound → c ≤ c0 → c0 ≤ c + allocator_takes value → Since k code w0 w → MayAllocate code access t d w → IsServed k code t value place → step ask code s0 ≡ moved l (by_allocator code t value (pool_in (slice_get code.accesses.items access)) (set_seen (slice_get code.accesses.items access) d w) ops (record { display = d; place = place; control = ks; world = w })) → RunsTo ask code (Allocates k code w0) 6 (allocator_steps value) s0 c0 (returned_to (AfterFunction (record { display = d; place = behind_allocator value place; operands = ops })) ks) (call (OfAllocator access (Record t) None value) d c l w)
+  pub allocates : (access t : ℕ) → IsPlainType k (Record t) → (value : Option (List ℕ)) (w0 : World) (d : List ℕ) (place : ℕ) (ks : List Frame) (ops : List Word) (c : ℕ) (l : Log) (w : World) (s0 : State) → c + 1 ≤ bound → Since k code w0 w → MayAllocate code access t d w → IsServed code t value place → step ask code s0 ≡ moved l (by_allocator code t value (pool_in (slice_get code.accesses.items access)) (set_seen (slice_get code.accesses.items access) d w) ops (record { display = d; place = place; control = ks; world = w })) → RunsTo ask code (Allocates k code w0) 6 (allocator_steps value) s0 c (returned_to (AfterFunction (record { display = d; place = behind_allocator place; operands = ops })) ks) (call (OfAllocator access (Record t) None value) d c l w)
   pub counts : (default : Default) (m : Member) → UpTo k ask bound (finalize_begun (tools_with ask k call default) CauseOf.Collection m)
 
 -- what is shown when a body is entered is shown before

@@ -2,6 +2,7 @@
 
 ghost use Rattle.std.specs.Prelude.{◌≡◌, ◌∷◌, ◌++◌, [], OnOk, None, Some, drop};
 ghost use Rattle.ctl_program.specs.declared.types.Ty.TheVariants.{Address, Count};
+ghost use Rattle.ctl_code.specs.declared.kinds.Kind.TheVariants as KindOf;
 ghost use Rattle.ctl_code.specs.Valid.{over_numbers};
 ghost use Rattle.ctl_code.specs.declared.code.Instr.TheVariants as InstrOf;
 ghost use Rattle.ctl_layout.specs.Parts as parts;
@@ -36,6 +37,16 @@ impl Emitter {
         self.enter_numbers(ADDRESS_NUMBERS)?;
         self.put(instr)?;
         self.leave_operands(ADDRESS_NUMBERS);
+        Ok(())
+    }
+
+    /// Adds an instruction over what an Allocate left and the value of a record below that, both of which it takes (RM 4.8, 13.11).
+    pub fn over_value_and_address(&mut self, instr: Instr) -> Result<(), AllocError>
+        ensures { OnOk result (self.new ≡ lined (λ s. (instr, over_numbers values.address_numbers (KindOf.RecordValue ∷ s)) ∷ []) self.old) }
+    {
+        self.enter(Kind::RecordValue)?;
+        self.over_address(instr)?;
+        self.leave();
         Ok(())
     }
 

@@ -196,18 +196,6 @@ impl<'a> Table<'a> {
         is_plain_form(self.forms.as_slice(), number)
     }
 
-    /// Tells whether no type has an Allocate that the user wrote (RM 13.11).
-    pub fn none_allocates(&self) -> bool
-        ensures { result ≡ types.none_allocates self.now.records.now }
-    {
-        for entry in self.records {
-            if entry.operations.allocate.is_some() {
-                return false;
-            }
-        }
-        true
-    }
-
     /// Tells whether objects of the record type of this number are declared as block pools (RM 13.11).
     pub fn is_pool(&self, number: usize) -> bool
         ensures { result ≡ types.is_pool self.now.records.now number }

@@ -135,12 +135,12 @@ fn is_copied(table: &Table, number: usize, expression: &Expr) -> bool
     table.is_plain(number) && is_part_value(expression, number, table)
 }
 
-/// Tells whether one that is allocated may take this value: that of a part of the type (RM 4.8); no pool has an Allocate of its own (RM 13.11).
+/// Tells whether one that is allocated may take this value: that of a part of the type (RM 4.8).
 #[cycle(values)]
 fn is_copied_anew(expression: &Expr, number: usize, table: &Table) -> bool
     ensures { (access : ℕ) → result ≡ (values.new_copy access number (values.copied number (values.value_code expression.now))).runs table.now.records.now }
 {
-    table.is_plain(number) && table.none_allocates() && is_part_value(expression, number, table)
+    table.is_plain(number) && is_part_value(expression, number, table)
 }
 
 /// Tells whether an allocator is run: of an object of a record type, without a handle; its value, if it has one, is that of a part of the type

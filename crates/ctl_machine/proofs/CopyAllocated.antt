@@ -1,5 +1,5 @@
 -- An object is allocated for a collection with the value of a part of another one.
-use Rattle.std.proofs.Common.{◌≡◌, ℕ, ◌+◌, List, [], ◌∷◌, ◌++◌, Option, Some, None, length, refl, sym, ap, ◌∙◌, subst, drop, replicate}
+use Rattle.std.proofs.Common.{◌≡◌, ℕ, ◌+◌, List, [], ◌∷◌, ◌++◌, Option, Some, None, length, refl, sym, ap, ◌∙◌, subst, arith, drop, replicate}
 use Rattle.std.specs.Prelude.{◌-◌, is_some, slice_get, slice_index_or, true}
 use Rattle.std.specs.Option.{option_map_or}
 use Rattle.ctl_tree.specs.declared.ending.Stop.TheVariants.{UseAfterFree}
@@ -8,18 +8,21 @@ use Rattle.ctl_program.specs.declared.types.Ty.{Ty}
 use Rattle.ctl_program.specs.declared.types.Ty.TheVariants.{Record}
 use Rattle.ctl_program.specs.declared.types.Var.{Var}
 use Rattle.ctl_meaning.specs.World as W
-use Rattle.ctl_meaning.specs.World.{Allocated, Collection, Place, Standard, World}
+use Rattle.ctl_meaning.specs.World.{Allocated, Collection, InBlock, Place, Standard, World}
 use Rattle.ctl_meaning.specs.Objects.{cells_at, change_in, object_in, with_cells}
 use Rattle.ctl_meaning.specs.Changes.{new_object, object_at, write_cells, opened_changes}
 use Rattle.ctl_meaning.specs.Finalization.{Spot}
 use Rattle.ctl_meaning.specs.Outcome.{Fine}
 use Rattle.ctl_code.specs.declared.code.Code.{Code}
 use Rattle.ctl_code.specs.declared.code.Instr.TheVariants.{NewCopy}
+use Rattle.ctl_code.specs.declared.kinds.Kind.{Kind}
+use Rattle.ctl_code.specs.declared.kinds.Kind.TheVariants.{Operand}
 use Rattle.ctl_code.specs.declared.code.Parts.{Parts}
 use Rattle.ctl_code.specs.declared.code.Parts.TheVariants as PartsOf
 use Rattle.ctl_code.specs.States as T
 use Rattle.ctl_code.specs.States.{State, Word}
-use Rattle.ctl_code.specs.Table.{Grant, Granted, Here, adjust_new, by_creating, by_instr, copy_at, new_from, new_with, newborn, parts_of, pool_in, set_seen, size_of, units_of, with_member}
+use Rattle.ctl_code.specs.Table.{Grant, Granted, Here, adjust_new, by_creating, by_instr, copy_at, copy_begins, new_from, new_with, newborn, parts_of, pool_in, set_seen, size_of, units_of, with_member}
+use Rattle.ctl_code.specs.Valid.{IsScalar, Leads}
 use Rattle.ctl_machine.specs.declared.engine.Engine.{Engine}
 use Rattle.ctl_machine.specs.declared.frame.Frame.{Frame}
 use Rattle.ctl_machine.specs.declared.frame.Frame.TheVariants as FrameOf
@@ -30,11 +33,11 @@ use Rattle.ctl_machine.specs.Allocating.{OwnsNone}
 use Rattle.ctl_machine.specs.Copying.{AwaitsCopy, IsMember, Refuses, Takes, point_at}
 use Rattle.ctl_machine.specs.Declaring.{NewObject}
 use Rattle.ctl_machine.specs.Finishing.{with_objects}
-use Rattle.ctl_machine.specs.Granting.{IsNewMember, storage_seen}
+use Rattle.ctl_machine.specs.Granting.{IsNewMember, number_at, storage_seen}
 use Rattle.ctl_machine.specs.Masters.{Head, heads_of, first_display}
 use Rattle.ctl_machine.specs.Moves.{Before, GoesOn, Inside, Makes, here_of}
 use Rattle.ctl_machine.specs.Shows.{Holds, Kept, Sized, kept, with_spots}
-use Rattle.ctl_machine.specs.Spots.{first_spot, standing}
+use Rattle.ctl_machine.specs.Spots.{first_cells, first_spot, standing}
 use Rattle.ctl_machine.proofs.CopyBegun.{noted_from}
 use Rattle.ctl_machine.proofs.CopyDeclared.{value_taken}
 use Rattle.ctl_machine.proofs.Following.{makes_later}
@@ -121,66 +124,92 @@ member_there code old made set t place k ops w v h b i =
     ∙ (object_shown code made k ops u old.next_object added
     ∙ (ap (λ (e : Kept). object_in old.next_object e.objects) i.kept ∙ new_found old.owned old.next_object old.objects x h.owns refl))
 
--- the state then
-abbrev pub taken_state : Code → ℕ → ℕ → Place → World → W.Object → State → State
-taken_state code set t place v o s = record s { operands = drop 1 s.operands; world = write_cells v.ledger.next_object 0 (cells_at (first_spot s.operands).offset (size_of code t) o) (with_member code set t place v) }
+-- the state then, with these operands
+abbrev pub taken_by : Code → ℕ → ℕ → Place → World → List ℕ → List Word → State → State
+taken_by code set t place v value rest s = record s { operands = rest; world = write_cells v.ledger.next_object 0 value (with_member code set t place v) }
 
--- the move of the table, where storage was granted or not
-abbrev pub member_copied : Code → ℕ → ℕ → ℕ → W.Object → State → Grant → T.Move
-member_copied code at set t o s g = copy_at code t (cells_at (first_spot s.operands).offset (size_of code t) o) set g (drop 1 s.operands) (here_of at s)
+-- the move of the table, by which the allocator goes on there
+abbrev pub copy_move : Code → ℕ → ℕ → ℕ → Place → World → List ℕ → List Word → State → T.Move
+copy_move code at set t place v value rest s = copy_begins code t value set place (record { display = first_display (heads_of s.world.activations); place = at; operands = rest }) s.control v
 
 -- what the table makes of it
-table_takes : (code : Code) (old made : Kept) (at set t : ℕ) (place : Place) (v : World) (o : W.Object) (s : State) → Holds code old s.control s.operands s.world → IsBeside s.world v → IsNewMember code old made set t place v
-    → member_copied code at set t o s (Granted place v)
-    ≡ (let x = taken_state code set t place v o s in adjust_new code (parts_of code t) T.ByAllocator (newborn v.ledger.next_object t (OwnerOf.Collection set)) (point_at (at + 1) (record x { world = s.world })) x.control x.world)
-table_takes code old made at set t place v o s h b i = rw (member_there code old made set t place s.control s.operands s.world v h b i) refl
+table_takes : (code : Code) (old made : Kept) (at set t : ℕ) (place : Place) (v : World) (value : List ℕ) (rest : List Word) (s : State) → Holds code old s.control s.operands s.world → IsBeside s.world v → IsNewMember code old made set t place v
+    → copy_move code at set t place v value rest s
+    ≡ (let x = taken_by code set t place v value rest s in adjust_new code (parts_of code t) T.ByAllocator (newborn v.ledger.next_object t (OwnerOf.Collection set)) (point_at at (record x { world = s.world })) x.control x.world)
+table_takes code old made at set t place v value rest s h b i = rw (member_there code old made set t place s.control s.operands s.world v h b i) refl
+
+-- the new object has taken the value, and its allocator goes on there
+pub value_is : (code : Code) (old made new : Engine) (at set t : ℕ) (ty : Ty) (stack : List Kind) (place : Place) (v : World) (value : List ℕ) (rest : List Word) (s : State) → IsScalar ty → Leads code at (Operand ty ∷ stack) → Inside code (with_spots (kept old) (standing s.control rest)) stack s.control rest s.world → IsBeside s.world v → IsNewMember code (kept old) (kept made) set t place v
+    → kept new ≡ with_taken value (old.numbered.objects + 1) (standing s.control rest) (kept made)
+    → IsMember code new made.numbered.objects at (taken_by code set t place v value rest s)
+value_is code old made new at set t ty stack place v value rest s scalar leads left beside i are =
+    let x = taken_by code set t place v value rest s in
+    let spots = standing s.control rest in
+    let taken = with_taken value (old.numbered.objects + 1) spots (kept made) in
+    let heads : heads_of x.world.activations ≡ heads_of s.world.activations = taken_heads code v.ledger.next_object set t place value s.world v beside in
+    let inside : Inside code taken stack s.control rest x.world = record {
+      stands = left.stands;
+      sized = subst (λ (l : List Head). Sized code stack s.control l) (sym heads) left.sized;
+      holds = taken_holds code (with_spots (kept old) spots) (with_spots (kept made) spots) set t place value s.control rest s.world v left.holds beside (spots_apart code (kept old) (kept made) set t place v spots i);
+      spots = left.spots;
+    } in
+    let number : made.numbered.objects ≡ old.numbered.objects + 1 = member_number code old made set t place v i in
+    let owned : new.owned.items ≡ old.owned.items = ap (λ (z : Kept). z.owned) are ∙ ap (λ (z : Kept). z.owned) i.kept in
+    let foreign : OwnsNone (old.numbered.objects + 1) old.owned.items = owns_no_next old.owned.items (old.numbered.objects + 1) old.stock.objects left.holds.owns in
+    record {
+      stack = stack;
+      type = ty;
+      scalar = scalar;
+      leads = leads;
+      inside = subst (λ (z : Kept). Inside code z stack s.control rest x.world) (sym are) inside;
+      foreign = subst (λ (l : List Owned). OwnsNone made.numbered.objects l) (sym owned) (subst (λ n. OwnsNone n old.owned.items) (sym number) foreign);
+    }
+
+pub value_makes : (code : Code) (old made mid new : Engine) (at set t : ℕ) (place : Place) (v : World) (value : List ℕ) (rest : List Word) (s : State) → Holds code (kept old) s.control s.operands s.world → IsBeside s.world v → IsNewMember code (kept old) (kept made) set t place v
+    → mid.events.items ≡ old.events.items → mid.picks.items ≡ old.picks.items
+    → (let x = taken_by code set t place v value rest s in Makes code mid new (adjust_new code (parts_of code t) T.ByAllocator (newborn made.numbered.objects t (OwnerOf.Collection set)) (point_at at x) x.control x.world)) → Makes code old new (copy_move code at set t place v value rest s)
+value_makes code old made mid new at set t place v value rest s h beside i events picks makes =
+    let x = taken_by code set t place v value rest s in
+    let goes : List Head → ℕ → T.Move = λ hs n. adjust_new code (parts_of code t) T.ByAllocator (newborn n t (OwnerOf.Collection set)) (record { display = first_display hs; place = at; operands = rest }) x.control x.world in
+    let same : copy_move code at set t place v value rest s ≡ goes (heads_of x.world.activations) made.numbered.objects =
+    table_takes code (kept old) (kept made) at set t place v value rest s h beside i
+    ∙ (ap (λ n. goes (heads_of s.world.activations) n) (member_next code old made set t place s.world v h.next_object beside i)
+    ∙ ap (λ (hs : List Head). goes hs made.numbered.objects) (sym (taken_heads code v.ledger.next_object set t place value s.world v beside))) in
+    subst (λ (m : T.Move). Makes code old new m) (sym same) (makes_later code old mid new _ events picks makes)
+
+-- the state where it takes the value of a record, at the address that an Allocate gave
+abbrev pub kept_state : Code → ℕ → ℕ → State → State
+kept_state code set t s = taken_by code set t (InBlock (number_at s.operands 2) (number_at s.operands 0)) s.world (first_cells (drop 4 s.operands)) (drop 1 (drop 4 s.operands)) s
+
+-- Where storage was granted ------------------------------------------------------------------------------
+
+-- the state then, with the value of the part that was the newest operand
+abbrev pub taken_state : Code → ℕ → ℕ → Place → World → W.Object → State → State
+taken_state code set t place v o s = taken_by code set t place v (cells_at (first_spot s.operands).offset (size_of code t) o) (drop 1 s.operands) s
+
+-- the move of the table, where it was or not
+abbrev pub member_copied : Code → ℕ → ℕ → ℕ → W.Object → State → Grant → T.Move
+member_copied code at set t o s g = copy_at code t (cells_at (first_spot s.operands).offset (size_of code t) o) set g (drop 1 s.operands) (here_of at s)
 
 -- the part whose value is taken
 pub source_part : (code : Code) (e : Engine) (access place t at : ℕ) (ty : Ty) (s : State) → (b : Before code e place (NewCopy access t ty at) s) → HasPart code (kept e) b.fine.2.0 s.control s.operands s.world
 source_part code e access place t at ty s b = part_on_top code e t b.stack b.fine.2.0 s b.inside b.fine.2.1
 
--- the new object has taken the value, and its allocator goes on
 pub taken_is : (code : Code) (old made new : Engine) (access at set t cell : ℕ) (ty : Ty) (place : Place) (v : World) (o : W.Object) (s : State) → Before code old at (NewCopy access t ty cell) s → IsBeside s.world v → IsNewMember code (kept old) (kept made) set t place v
     → kept new ≡ with_taken (cells_at (first_spot s.operands).offset (size_of code t) o) (old.numbered.objects + 1) (standing s.control (drop 1 s.operands)) (kept made)
-    → IsMember code new made.numbered.objects (at + 1) (taken_state code set t place v o s)
+    → IsMember code new made.numbered.objects (at + 2) (taken_state code set t place v o s)
 taken_is code old made new access at set t cell ty place v o s b beside i are =
-    let value = cells_at (first_spot s.operands).offset (size_of code t) o in
     let p = source_part code old access at t cell ty s b in
-    let x = taken_state code set t place v o s in
-    let spots = standing s.control (drop 1 s.operands) in
-    let taken = with_taken value (old.numbered.objects + 1) spots (kept made) in
-    let heads : heads_of x.world.activations ≡ heads_of s.world.activations = taken_heads code v.ledger.next_object set t place value s.world v beside in
-    let inside : Inside code taken b.fine.2.0 s.control x.operands x.world = record {
-      stands = p.left.stands;
-      sized = subst (λ (l : List Head). Sized code b.fine.2.0 s.control l) (sym heads) p.left.sized;
-      holds = taken_holds code (with_spots (kept old) spots) (with_spots (kept made) spots) set t place value s.control x.operands s.world v p.left.holds beside (spots_apart code (kept old) (kept made) set t place v spots i);
-      spots = p.left.spots;
-    } in
-    let number : made.numbered.objects ≡ old.numbered.objects + 1 = member_number code old made set t place v i in
-    let owned : new.owned.items ≡ old.owned.items = ap (λ (z : Kept). z.owned) are ∙ ap (λ (z : Kept). z.owned) i.kept in
-    let foreign : OwnsNone (old.numbered.objects + 1) old.owned.items = owns_no_next old.owned.items (old.numbered.objects + 1) old.stock.objects b.inside.holds.owns in
-    record {
-      stack = b.fine.2.0;
-      type = ty;
-      scalar = b.fine.0;
-      leads = b.fine.2.2.1;
-      inside = subst (λ (z : Kept). Inside code z b.fine.2.0 s.control x.operands x.world) (sym are) inside;
-      foreign = subst (λ (l : List Owned). OwnsNone made.numbered.objects l) (sym owned) (subst (λ n. OwnsNone n old.owned.items) (sym number) foreign);
-    }
+    let behind : at + 1 + 1 ≡ at + 2 = omega arith in
+    value_is code old made new (at + 2) set t ty b.fine.2.0 place v (cells_at (first_spot s.operands).offset (size_of code t) o) (drop 1 s.operands) s b.fine.0 (subst (λ n. Leads code n (Operand ty ∷ b.fine.2.0)) behind b.fine.2.2.2) p.left beside i are
 
 pub taken_makes : (code : Code) (old made mid new : Engine) (access at set t cell : ℕ) (ty : Ty) (place : Place) (v : World) (o : W.Object) (s : State) → Before code old at (NewCopy access t ty cell) s → IsBeside s.world v → IsNewMember code (kept old) (kept made) set t place v
     → mid.events.items ≡ old.events.items → mid.picks.items ≡ old.picks.items
-    → (let x = taken_state code set t place v o s in Makes code mid new (adjust_new code (parts_of code t) T.ByAllocator (newborn made.numbered.objects t (OwnerOf.Collection set)) (point_at (at + 1) x) x.control x.world)) → Makes code old new (member_copied code at set t o s (Granted place v))
+    → (let x = taken_state code set t place v o s in Makes code mid new (adjust_new code (parts_of code t) T.ByAllocator (newborn made.numbered.objects t (OwnerOf.Collection set)) (point_at (at + 2) x) x.control x.world)) → Makes code old new (member_copied code at set t o s (Granted place v))
 taken_makes code old made mid new access at set t cell ty place v o s b beside i events picks makes =
-    let x = taken_state code set t place v o s in
     let value = cells_at (first_spot s.operands).offset (size_of code t) o in
-    let h = b.inside.holds in
-    let goes : List Head → ℕ → T.Move = λ hs n. adjust_new code (parts_of code t) T.ByAllocator (newborn n t (OwnerOf.Collection set)) (record { display = first_display hs; place = at + 1; operands = x.operands }) x.control x.world in
-    let same : member_copied code at set t o s (Granted place v) ≡ goes (heads_of x.world.activations) made.numbered.objects =
-    table_takes code (kept old) (kept made) at set t place v o s h beside i
-    ∙ (ap (λ n. goes (heads_of s.world.activations) n) (member_next code old made set t place s.world v h.next_object beside i)
-    ∙ ap (λ (hs : List Head). goes hs made.numbered.objects) (sym (taken_heads code v.ledger.next_object set t place value s.world v beside))) in
-    subst (λ (m : T.Move). Makes code old new m) (sym same) (makes_later code old mid new _ events picks makes)
+    let behind : at + 2 ≡ at + 1 + 1 = omega arith in
+    subst (λ n. Makes code old new (copy_move code n set t place v value (drop 1 s.operands) s)) behind (value_makes code old made mid new (at + 2) set t place v value (drop 1 s.operands) s b.inside.holds beside i events picks makes)
 
 -- By the instruction -------------------------------------------------------------------------------------
 

@@ -4,7 +4,7 @@ use Rattle.ctl_meaning.specs.World as W
 use Rattle.ctl_meaning.specs.World.{World}
 use Rattle.ctl_meaning.specs.Lists.{last_of, opened_lists}
 use Rattle.ctl_code.specs.declared.kinds.Kind.{Kind}
-use Rattle.ctl_code.specs.declared.kinds.Kind.TheVariants.{Operand, Block, Body}
+use Rattle.ctl_code.specs.declared.kinds.Kind.TheVariants.{Operand, RecordValue, Block, Body}
 use Rattle.ctl_code.specs.declared.code.Code.{Code}
 use Rattle.ctl_code.specs.States as T
 use Rattle.ctl_code.specs.States.{Word, InMaster, AfterBlock, AfterProcedure, AfterFunction, AfterBody}
@@ -22,6 +22,7 @@ use Rattle.ctl_machine.proofs.Left.{top_of}
 -- where something stands, a master is being executed
 pub inside_master : (code : Code) (stack : List Kind) (k : List T.Frame) (ops : List Word) → Stands code stack k ops → (n : ℕ) × (handling : T.Handling) × (leads : T.After) × (waiting : List T.Frame) × (k ≡ InMaster n handling leads ∷ waiting)
 inside_master code (Operand ty ∷ stack) k (x ∷ ops) stands = inside_master code stack k ops stands.1
+inside_master code (RecordValue ∷ stack) k (T.Cells v ∷ ops) stands = inside_master code stack k ops stands
 inside_master code (Block slots ∷ stack) (InMaster n g (AfterBlock p) ∷ k) [] stands = (n, g, AfterBlock p, k, refl)
 inside_master code (Body level slots ∷ []) (InMaster n g (AfterProcedure copies p) ∷ k) [] stands = (n, g, (AfterProcedure copies p), k, refl)
 inside_master code (Body level slots ∷ []) (InMaster n g (AfterFunction p) ∷ k) [] stands = (n, g, (AfterFunction p), k, refl)

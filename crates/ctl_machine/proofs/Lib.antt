@@ -139,3 +139,4 @@ pub mod Placed
 pub mod PlacedMember
 pub mod UserAllocates
 pub mod Deallocated
+pub mod ValueKept

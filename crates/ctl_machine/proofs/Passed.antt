@@ -14,18 +14,18 @@ use Rattle.ctl_code.specs.declared.code.Code.{Code}
 use Rattle.ctl_code.specs.declared.code.Entry.{Entry}
 use Rattle.ctl_code.specs.Fits.{IsOperandOf, Stands}
 use Rattle.ctl_code.specs.States as T
-use Rattle.ctl_code.specs.States.{Word, Scalar, Located, cells_of, worth}
+use Rattle.ctl_code.specs.States.{Word, Scalar, Located, Cells, cells_of, worth}
 use Rattle.ctl_machine.specs.Masters.{Head}
 use Rattle.ctl_machine.specs.Shows.{Sized}
 use Rattle.ctl_code.specs.declared.kinds.Kind.{Kind}
-use Rattle.ctl_code.specs.declared.kinds.Kind.TheVariants.{Operand, Block, Body}
+use Rattle.ctl_code.specs.declared.kinds.Kind.TheVariants.{Operand, RecordValue, Block, Body}
 use Rattle.ctl_code.specs.Table.{formal_of, slots_of}
 use Rattle.ctl_code.specs.Table as Table
 use Rattle.ctl_code.specs.Valid.{HaveOperands}
 use Rattle.ctl_machine.specs.Holders.{binding, bound_in, formal_in}
 use Rattle.ctl_machine.specs.Moves.{cleared}
 use Rattle.ctl_machine.specs.Passing.{AreActuals, is_located, is_part, is_part_at, is_part_if, cell_passed, passed, bound, formal_if}
-use Rattle.ctl_machine.specs.Spots.{located}
+use Rattle.ctl_machine.specs.Spots.{located, value_spot}
 use Rattle.ctl_machine.specs.Under.{cell_in}
 use Rattle.ctl_machine.proofs.Cleared.{cleared_is, unset_cells}
 use Rattle.ctl_machine.proofs.Held.{content_in, unset_contents}
@@ -74,6 +74,9 @@ none_bound (suc n) (Scalar x ∷ ops) slot c less = none_bound n ops slot c (ome
 none_bound (suc n) (Located s ∷ ops) slot c less =
     ap (λ b. bound_in (bound n ops) slot (if b then binding s else c)) (eq_differs n slot (λ e. omega (arith, e, less)))
     ∙ none_bound n ops slot c (omega (arith, less))
+none_bound (suc n) (Cells v ∷ ops) slot c less =
+    ap (λ b. bound_in (bound n ops) slot (if b then binding (value_spot v) else c)) (eq_differs n slot (λ e. omega (arith, e, less)))
+    ∙ none_bound n ops slot c (omega (arith, less))
 
 -- All of them -------------------------------------------------------------------------------------------
 
@@ -93,11 +96,11 @@ next_cell : (x : Word) (front rest row : List ℕ) (at : ℕ) → at ≡ length 
 unfolding opened_lists opened_names
 next_cell (Scalar n) front rest row at long is = is
 next_cell (Located s) front rest row at long is = ap (λ l. slice_set l at 0) is ∙ set_right front (s.object ∷ rest) 0 at 0 long
+next_cell (Cells v) front rest row at long is = ap (λ l. slice_set l at 0) is ∙ set_right front (0 ∷ rest) 0 at 0 long
 
-next_content : (x : Word) (n : ℕ) (xs : List Slot) (ops : List Word) (slot : ℕ) → length xs ≡ n → content_in xs slot ≡ formal_in (bound n ops) slot → content_in (xs ++ formal_of x ∷ []) slot ≡ formal_in (formal_if x n ++ bound n ops) slot
+part_content : (s : Spot) (n : ℕ) (xs : List Slot) (ops : List Word) (slot : ℕ) → length xs ≡ n → content_in xs slot ≡ formal_in (bound n ops) slot → content_in (xs ++ formal_of (Located s) ∷ []) slot ≡ formal_in (formal_if (Located s) n ++ bound n ops) slot
 unfolding opened_lists opened_names
-next_content (Scalar v) n xs ops slot many h = content_same xs (formal_of (Scalar v)) slot refl ∙ h
-next_content (Located s) n xs ops slot many h =
+part_content s n xs ops slot many h =
     content_more xs (formal_of (Located s)) slot
     ∙ (ap (λ j. if nat_eq j slot then binding s else content_in xs slot) many
     ∙ by (nat_eq n slot) refl)
@@ -111,6 +114,12 @@ next_content (Located s) n xs ops slot many h =
     by false e =
         ap (λ c. if c then binding s else content_in xs slot) e
         ∙ (h ∙ ap (λ c. bound_in (bound n ops) slot (if c then binding s else W.Nothing)) (sym e))
+
+next_content : (x : Word) (n : ℕ) (xs : List Slot) (ops : List Word) (slot : ℕ) → length xs ≡ n → content_in xs slot ≡ formal_in (bound n ops) slot → content_in (xs ++ formal_of x ∷ []) slot ≡ formal_in (formal_if x n ++ bound n ops) slot
+unfolding opened_lists opened_names
+next_content (Scalar v) n xs ops slot many h = content_same xs (formal_of (Scalar v)) slot refl ∙ h
+next_content (Located s) n xs ops slot many h = part_content s n xs ops slot many h
+next_content (Cells v) n xs ops slot many h = part_content (value_spot v) n xs ops slot many h
 
 pub are_passed : (n : ℕ) (u : List ℕ) (ops : List Word) (rest : List ℕ) (base : ℕ) (row : List ℕ) → n ≤ length ops → base ≡ length (u ++ reverse (cells_of (drop n ops))) → row ≡ (u ++ reverse (cells_of ops)) ++ rest → ArePassed n u ops rest base row
 unfolding opened_lists
@@ -149,6 +158,7 @@ pub record Below (code : Code) (n : ℕ) (stack : List Kind) (k : List T.Frame) 
 pub below_actuals : (code : Code) (n : ℕ) (stack : List Kind) (k : List T.Frame) (ops : List Word) (hs : List Head) → HaveOperands n stack → Stands code stack k ops → Sized code stack k hs → Below code n stack k ops hs
 below_actuals code zero stack k ops hs h stands sized = record { enough = omega arith; stands = stands; sized = sized }
 below_actuals code (suc n) [] k ops hs h stands sized = absurd h
+below_actuals code (suc n) (RecordValue ∷ stack) k ops hs h stands sized = absurd h
 below_actuals code (suc n) (Block slots ∷ stack) k ops hs h stands sized = absurd h
 below_actuals code (suc n) (Body level slots ∷ stack) k ops hs h stands sized = absurd h
 below_actuals code (suc n) (Operand ty ∷ stack) k [] hs h stands sized = absurd stands
@@ -161,6 +171,7 @@ below_actuals code (suc n) (Operand ty ∷ stack) k (x ∷ ops) hs h stands size
 pub are_actuals : (code : Code) (n : ℕ) (stack : List Kind) (k : List T.Frame) (ops : List Word) → HaveOperands n stack → Stands code stack k ops → AreActuals n stack ops
 are_actuals code zero stack k ops h stands = tt
 are_actuals code (suc n) [] k ops h stands = absurd h
+are_actuals code (suc n) (RecordValue ∷ stack) k ops h stands = absurd h
 are_actuals code (suc n) (Block slots ∷ stack) k ops h stands = absurd h
 are_actuals code (suc n) (Body level slots ∷ stack) k ops h stands = absurd h
 are_actuals code (suc n) (Operand ty ∷ stack) k [] h stands = absurd stands
@@ -183,6 +194,13 @@ kind_is Boolean (Located s) h = absurd h
 kind_is Address (Located s) h = absurd h
 kind_is Handle (Located s) h = absurd h
 kind_is (Access a) (Located s) h = absurd h
+kind_is (Record t) (Cells v) h = absurd h
+kind_is Integer (Cells v) h = absurd h
+kind_is Count (Cells v) h = absurd h
+kind_is Boolean (Cells v) h = absurd h
+kind_is Address (Cells v) h = absurd h
+kind_is Handle (Cells v) h = absurd h
+kind_is (Access a) (Cells v) h = absurd h
 
 dropped_next : {X : Type 0} (xs : List X) (i : ℕ) (x : X) (ys : List X) → drop i xs ≡ x ∷ ys → (slice_get xs i ≡ Some x) × (drop (suc i) xs ≡ ys)
 dropped_next [] zero x ys e = absurd (cc)
@@ -220,6 +238,7 @@ is_next m i stack ops h = by (drop i stack) (drop i ops) refl refl h
 pub located_more : (x : Word) (ops : List Word) → located (x ∷ ops) ≡ located ops ++ located (x ∷ [])
 located_more (Scalar n) ops = sym (append-nil (located ops))
 located_more (Located s) ops = refl
+located_more (Cells v) ops = refl
 
 pub located_parted : (n : ℕ) (ops : List Word) → located ops ≡ located (drop n ops) ++ located (take n ops)
 located_parted zero ops = sym (append-nil (located ops))
@@ -233,6 +252,7 @@ located_parted (suc n) (x ∷ ops) =
 pub some_located : (x : Word) → is_located x ≡ true → length (located (x ∷ [])) ≡ 1
 some_located (Scalar n) e = absurd (cc)
 some_located (Located s) e = refl
+some_located (Cells v) e = refl
 
 -- the actual that is passed next is the newest part, if it is one
 pub next_spots : (m i : ℕ) (stack : List Kind) (ops : List Word) (below spots : List Spot) (x : IsNext m i stack ops) → spots ≡ below ++ located (take (suc m) (drop i ops)) → spots ≡ (below ++ located (take m (drop (suc i) ops))) ++ located (x.word ∷ [])
@@ -248,6 +268,7 @@ next_spots m i stack ops below spots x e =
 pub length_cell : (x : Word) (at : ℕ) (cells : List ℕ) → length (cell_passed x at cells) ≡ length cells
 length_cell (Scalar n) at cells = refl
 length_cell (Located s) at cells = length_set cells at 0
+length_cell (Cells v) at cells = length_set cells at 0
 
 pub length_passed : (n : ℕ) (ops : List Word) (base : ℕ) (cells : List ℕ) → length (passed n ops base cells) ≡ length cells
 length_passed zero ops base cells = refl

@@ -15,7 +15,7 @@ use Rattle.ctl_code.specs.declared.kinds.Kind.{Kind}
 use Rattle.ctl_code.specs.declared.kinds.Kind.TheVariants.{Operand}
 use Rattle.ctl_code.specs.declared.code.Code.{Code}
 use Rattle.ctl_code.specs.States as T
-use Rattle.ctl_code.specs.States.{Located, Scalar, Word, cells_of}
+use Rattle.ctl_code.specs.States.{Located, Scalar, Word, cells_of, Cells}
 use Rattle.ctl_code.specs.Table.{NotPassed, Passed, Test, address_test}
 use Rattle.ctl_code.specs.Valid.{HaveNumbers}
 use Rattle.ctl_code.specs.Windows.{height}
@@ -124,6 +124,7 @@ record IsOne (code : Code) (n : ℕ) (stack : List Kind) (k : List T.Frame) (ops
 is_one : (code : Code) (n : ℕ) (stack : List Kind) (k : List T.Frame) (ops : List Word) → HaveNumbers (suc n) stack → Stands code stack k ops → IsOne code n stack k ops
 is_one code n (Operand Integer ∷ below) k (Scalar x ∷ rest) have stands = record { below = below; number = x; rest = rest; kinds = refl; words = refl; more = have; stands = stands.1 }
 is_one code n (Operand Integer ∷ below) k (Located s ∷ rest) have stands = absurd stands.0
+is_one code n (Operand Integer ∷ below) k (Cells v ∷ rest) have stands = absurd stands.0
 is_one code n (Operand Integer ∷ below) k [] have stands = absurd stands
 is_one code n _ k ops have stands = elim have [ ]
 

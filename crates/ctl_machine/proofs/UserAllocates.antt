@@ -17,26 +17,23 @@ use Rattle.ctl_code.specs.declared.kinds.Kind.TheVariants.{Operand}
 use Rattle.ctl_code.specs.declared.code.Code.{Code}
 use Rattle.ctl_code.specs.declared.code.Entry.{Entry}
 use Rattle.ctl_code.specs.declared.code.Operations.{Operations}
-use Rattle.ctl_code.specs.declared.code.Instr.TheVariants.{New}
 use Rattle.ctl_code.specs.declared.code.Way.TheVariants as WayOf
-use Rattle.ctl_code.specs.Kinds.{stack_at}
 use Rattle.ctl_code.specs.States as T
 use Rattle.ctl_code.specs.States.{AfterProcedure, Scalar, State, Word}
 use Rattle.ctl_code.specs.Table.{behind_declaration, call_allocate, enter_body, operation_for, operation_in, transfers}
-use Rattle.ctl_code.specs.Valid.{IsValid, TakesStorage, over_numbers, storage_formals}
+use Rattle.ctl_code.specs.Valid.{IsValid, Leads, TakesStorage, over_numbers, storage_formals}
 use Rattle.ctl_code.specs.Windows.{height}
 use Rattle.ctl_machine.specs.declared.engine.Engine.{Engine}
 use Rattle.ctl_machine.specs.declared.frame.After.TheVariants as AfterOf
 use Rattle.ctl_machine.specs.declared.frame.Mode.TheVariants as ModeOf
 use Rattle.ctl_machine.specs.Granting.{with_numbers}
-use Rattle.ctl_machine.specs.Masters.{heads_of, first_window}
-use Rattle.ctl_machine.specs.Moves.{Before, GoesOn, Makes, here_of}
+use Rattle.ctl_machine.specs.Masters.{heads_of, first_display, first_window}
+use Rattle.ctl_machine.specs.Moves.{GoesOn, Inside, Makes, here_of}
 use Rattle.ctl_machine.specs.declared.frame.Owned.{Owned}
 use Rattle.ctl_machine.specs.Owned.{IsObject}
 use Rattle.ctl_machine.specs.Shows.{Holds, Kept, kept, with_cells}
-use Rattle.ctl_machine.specs.StorageCalling.{CallsStorage, StorageCall}
+use Rattle.ctl_machine.specs.StorageCalling.{AsksAllocate, CallsStorage, StorageCall}
 use Rattle.ctl_machine.specs.Under.{tall}
-use Rattle.ctl_machine.proofs.Blocks.{stack_is}
 use Rattle.ctl_machine.proofs.Bodies.{more_cells}
 use Rattle.ctl_machine.proofs.Homes.{home_shown}
 use Rattle.ctl_machine.proofs.Lists.{length_set, same_at}
@@ -68,19 +65,29 @@ allocate_body code Address f valid is = absurd (cc)
 allocate_body code Handle f valid is = absurd (cc)
 allocate_body code (Access a) f valid is = absurd (cc)
 
--- Where its window begins --------------------------------------------------------------------------------
+-- What stands there before ------------------------------------------------------------------------------
 
--- behind the operands of the allocator
-pub begins_over : (code : Code) (e : Engine) (access place t at : ℕ) (ty : Ty) (s : State) → (b : Before code e place (New access t ty at) s) → first_window (reverse e.masters.items) + height (stack_at code.kinds place) ≡ tall s.control (heads_of s.world.activations) + length s.operands
-begins_over code e access place t at ty s b = ap (λ (l : List Kind). first_window (reverse e.masters.items) + height l) (stack_is code place b.stack b.leads) ∙ place_is (window_in b.inside)
+-- it is asked for an allocator without a value
+pub asks_over : (code : Code) (old ready : Engine) (place first : ℕ) (stack : List Kind) (s : State) (more : List ℕ) → s.mode ≡ T.At (first_display (heads_of s.world.activations)) place → Leads code (place + 1) (over_numbers 4 stack) → Inside code (kept old) stack s.control s.operands s.world
+    → first ≡ first_window (reverse old.masters.items) + height stack → kept ready ≡ with_cells (kept old) (old.cells.items ++ more) → AsksAllocate code ready place first s
+asks_over code old ready place first stack s more mode leads i begins is = record {
+  mode = mode;
+  stack = stack;
+  leads = leads;
+  inside = subst (λ (z : Kept). Inside code z stack s.control s.operands s.world) (sym is) (record { stands = i.stands; sized = i.sized; holds = more_cells code (kept old) more s.control s.operands s.world i.holds; spots = i.spots });
+  cell = begins ∙ ap (λ (z : Kept). first_window z.masters + height stack) (sym is);
+}
 
--- there is room for the two numbers
-pub numbers_within : (code : Code) (e : Engine) (access place t at : ℕ) (ty : Ty) (s : State) → IsValid code → Before code e place (New access t ty at) s → first_window (reverse e.masters.items) + height (stack_at code.kinds place) + 4 ≤ length e.cells.items
-numbers_within code e access place t at ty s valid b =
-    let room = room_for code.room (reverse e.masters.items) (length e.cells.items) b.inside.holds.room in
-    let fits : height b.stack + 1 + 1 + 1 + 1 ≤ code.room = valid.room (place + 1) (over_numbers 4 b.stack) b.fine.3 in
-    let same = ap height (stack_is code place b.stack b.leads) in
-    omega (arith, room, fits, same)
+-- there is room in the window for what stands before the next instruction
+pub next_within : (code : Code) (e : Engine) (place : ℕ) (stack over : List Kind) (k : List T.Frame) (ops : List Word) (w : World) → IsValid code → Inside code (kept e) stack k ops w → Leads code (place + 1) over → first_window (reverse e.masters.items) + height over ≤ length e.cells.items
+next_within code e place stack over k ops w valid i leads =
+    let room = room_for code.room (reverse e.masters.items) (length e.cells.items) i.holds.room in
+    let fits = valid.room (place + 1) over leads in
+    omega (arith, room, fits)
+
+-- behind the operands that stay
+pub begins_over : (code : Code) (e : Engine) (place first : ℕ) (s : State) → (a : AsksAllocate code e place first s) → first ≡ tall s.control (heads_of s.world.activations) + length s.operands
+begins_over code e place first s a = a.cell ∙ place_is (window_in a.inside)
 
 -- The call -----------------------------------------------------------------------------------------------
 
@@ -104,25 +111,24 @@ numbers_hold code e k ops w set pool at h there within =
     let long = length_set e.cells at set in
     operand_put code (with_cells e (slice_set e.cells at set)) k (Scalar set ∷ ops) w (Scalar pool) (at + 1) once (omega (arith, there)) (omega (arith, within, long))
 
-pub calls_allocate : (code : Code) (old ready : Engine) (access place t at units set f home first base : ℕ) (ty : Ty) (entry : Entry) (o : Object) (s : State) (more : List ℕ) → IsValid code → (b : Before code old place (New access t ty at) s) → IsObject old.owned.items old.stock.objects o.number home o
-    → slice_get code.entries.items f ≡ Some entry → storage_formals ≤ entry.slots → first ≡ tall s.control (heads_of s.world.activations) + length s.operands → base ≡ first + 2 → first + 1 < length (old.cells.items ++ more)
-    → kept ready ≡ with_cells (kept old) (with_numbers first set o.number (old.cells.items ++ more)) → CallsStorage code ready entry home base (AfterOf.Procedure (place + 1) 2) (allocate_call place f units set o s)
-calls_allocate code old ready access place t at units set f home first base ty entry o s more valid b part found slots there begins within is =
+pub calls_allocate : (code : Code) (old ready : Engine) (place units set f home first base : ℕ) (entry : Entry) (o : Object) (s : State) → (a : AsksAllocate code old place first s) → IsObject old.owned.items old.stock.objects o.number home o
+    → slice_get code.entries.items f ≡ Some entry → storage_formals ≤ entry.slots → base ≡ first + 2 → first + 1 < length old.cells.items
+    → kept ready ≡ with_cells (kept old) (with_numbers first set o.number old.cells.items) → CallsStorage code ready entry home base (AfterOf.Procedure (place + 1) 2) (allocate_call place f units set o s)
+calls_allocate code old ready place units set f home first base entry o s a part found slots begins within is =
     let w = s.world in
     let k = s.control in
     let ops : List Word = Scalar o.number ∷ Scalar set ∷ s.operands in
-    let e = with_cells (kept old) (old.cells.items ++ more) in
-    let h : Holds code e k s.operands w = more_cells code (kept old) more k s.operands w b.inside.holds in
+    let there = begins_over code old place first s a in
     record {
-      holds = subst (λ (z : Kept). Holds code z k ops w) (sym is) (numbers_hold code e k s.operands w set o.number first h there within);
-      spots = ap (λ (z : Kept). z.spots) is ∙ b.inside.spots;
-      stack = Operand Integer ∷ Operand Integer ∷ b.stack;
-      leads = b.fine.3;
-      sized = b.inside.sized;
+      holds = subst (λ (z : Kept). Holds code z k ops w) (sym is) (numbers_hold code (kept old) k s.operands w set o.number first a.inside.holds there within);
+      spots = ap (λ (z : Kept). z.spots) is ∙ a.inside.spots;
+      stack = Operand Integer ∷ Operand Integer ∷ a.stack;
+      leads = a.leads;
+      sized = a.inside.sized;
       seen = refl;
       leads_to = refl;
       window = omega (arith, there, begins);
-      home = home_shown code (kept old) k s.operands w o.origin b.inside.holds ∙ part.home;
+      home = home_shown code (kept old) k s.operands w o.origin a.inside.holds ∙ part.home;
       body = found;
       slots = slots;
       few = omega arith;
@@ -141,12 +147,12 @@ table_calls code units set f place o s few = by (nat_lt integer_last units) refl
     by false is = refl
 
 -- and raises Constraint_Error where it is
-pub too_large : (code : Code) (old new : Engine) (access place t at units set f : ℕ) (ty : Ty) (o : Object) (s : State) → Before code old place (New access t ty at) s → integer_last < units → GoesOn old new (ModeOf.Transfers (WayOf.Raise 0)) old.cells.items
+pub too_large : (code : Code) (old new : Engine) (place first units set f : ℕ) (o : Object) (s : State) → AsksAllocate code old place first s → integer_last < units → GoesOn old new (ModeOf.Transfers (WayOf.Raise 0)) old.cells.items
     → Makes code old new (call_allocate code units set o f s.operands (here_of place s))
 unfolding constraint_error
-too_large code old new access place t at units set f ty o s b more goes =
+too_large code old new place first units set f o s a more goes =
     let is : nat_lt integer_last units ≡ true = grind (arith, nat_tests, more) in
-    rw (is) (transfers_makes code old new (WayOf.Raise 0) b.stack s.control s.operands s.world b.inside goes)
+    rw (is) (transfers_makes code old new (WayOf.Raise 0) a.stack s.control s.operands s.world a.inside goes)
 
 -- The pool object ------------------------------------------------------------------------------------------
 

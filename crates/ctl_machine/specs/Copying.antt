@@ -1,7 +1,8 @@
 -- Objects that take values, and objects that allocators create: what stands there before they are adjusted, and where that has ended.
-use Rattle.std.specs.Prelude.{◌≡◌, ℕ, ◌<◌, List, [], ◌∷◌, Option, None, Some, drop, length, reverse, false, true}
+use Rattle.std.specs.Prelude.{◌≡◌, ℕ, ◌<◌, List, [], ◌∷◌, ◌++◌, Option, None, Some, drop, length, reverse, slice_set, false, true}
 use Rattle.ctl_program.specs.declared.types.Ty.{Ty}
 use Rattle.ctl_tree.specs.declared.ending.Stop.TheVariants.{UseAfterFree}
+use Rattle.ctl_meaning.specs.Finalization.{Spot}
 use Rattle.ctl_meaning.specs.World.{Collection}
 use Rattle.ctl_code.specs.declared.kinds.Kind.{Kind}
 use Rattle.ctl_code.specs.declared.kinds.Kind.TheVariants.{Operand}
@@ -17,8 +18,8 @@ use Rattle.ctl_machine.specs.Filling.{AllLeaveSame}
 use Rattle.ctl_machine.specs.Masters.{first_display, heads_of}
 use Rattle.ctl_machine.specs.Moves.{Inside}
 use Rattle.ctl_machine.specs.Noted.{noted_in}
-use Rattle.ctl_machine.specs.Shows.{Holds, SizedBelow, Wait, kept}
-use Rattle.ctl_machine.specs.Spots.{standing}
+use Rattle.ctl_machine.specs.Shows.{Holds, Kept, SizedBelow, Wait, kept}
+use Rattle.ctl_machine.specs.Spots.{standing, value_spot}
 use Rattle.ctl_machine.specs.declared.engine.Engine.{Engine}
 use Rattle.ctl_machine.specs.declared.frame.Frame.{Frame}
 use Rattle.ctl_machine.specs.declared.frame.Mode.{Mode}
@@ -52,6 +53,10 @@ pub record IsMember (code : Code) (e : Engine) (object place : ℕ) (s : State) 
   pub leads : Leads code place (Operand type ∷ stack)
   pub inside : Inside code (kept e) stack s.control s.operands s.world
   pub foreign : OwnsNone object e.owned.items
+
+-- the value of a record has taken the place of the newest part, in this cell, over these parts
+abbrev pub with_value : ℕ → List ℕ → List Spot → Kept → Kept
+with_value cell value below e = record e { cells = slice_set e.cells cell 0; spots = below ++ value_spot value ∷ [] }
 
 -- Adjustments ------------------------------------------------------------------------------------
 

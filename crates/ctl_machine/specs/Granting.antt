@@ -1,5 +1,6 @@
 -- Storage of allocators: what is granted where it is seen, and objects that are put there (13.11).
-use Rattle.std.specs.Prelude.{◌≡◌, ℕ, ◌+◌, List, ◌∷◌, Bool, true, false, Option, Some, None, is_some, slice_get, slice_set, replicate}
+use Rattle.std.specs.Prelude.{◌≡◌, ℕ, ◌+◌, List, ◌∷◌, Bool, true, false, Option, Some, None, Result, Ok, Err, is_some, slice_get, slice_set, replicate, unwrap_or}
+use Rattle.ctl_tree.specs.declared.ending.Stop.{Stop}
 use Rattle.ctl_tree.specs.declared.ending.Stop.TheVariants.{BadAddress, UseAfterFree}
 use Rattle.ctl_meaning.specs.World.{Object, Place, Standard, InBlock, World}
 use Rattle.ctl_meaning.specs.Changes.{in_pools}
@@ -11,7 +12,7 @@ use Rattle.ctl_code.specs.declared.kinds.Kind.TheVariants.{Operand}
 use Rattle.ctl_code.specs.declared.code.Code.{Code}
 use Rattle.ctl_code.specs.declared.code.Way.TheVariants as WayOf
 use Rattle.ctl_code.specs.Fits.{Stands}
-use Rattle.ctl_code.specs.States.{State}
+use Rattle.ctl_code.specs.States.{Scalar, State, Word, worth}
 use Rattle.ctl_code.specs.Valid.{IsScalar, Leads}
 use Rattle.ctl_code.specs.Table.{Grant, Granted, Exhausted, UnknownPool, AllocateOf, NotPassed, Passed, address_test, grant, operation_for, pool_in, size_of, units_of, with_member}
 use Rattle.ctl_storage.specs.Calls.{IsOpen, is_exhausted_at}
@@ -105,6 +106,19 @@ Serves code old new set t w g (Some mode) = Lacks g mode × GoesOn old new old.m
 abbrev pub Places : Code → Engine → Engine → ℕ → ℕ → ℕ → ℕ → World → Placing → Type 0
 Places code old new set t n a w PlacingOf.Placed = (address_test a (units_of code t) (block_pool_at n w.pools) w ≡ Passed) × IsNewMember code (kept old) (kept new) set t (InBlock n a) w
 Places code old new set t n a w PlacingOf.Refused = (address_test a (units_of code t) (block_pool_at n w.pools) w ≡ NotPassed BadAddress) × GoesOn old new old.mode old.cells.items
+
+-- the number under so many newer operands
+abbrev pub number_at : List Word → ℕ → ℕ
+number_at ops i = worth (unwrap_or (slice_get ops i) (Scalar 0))
+
+-- an object is at the address that an Allocate gave, for the collection whose number is answered; or that address does not pass its test
+abbrev pub PlacesThere : Code → Engine → Engine → ℕ → State → Result ℕ Mode → Type 0
+PlacesThere code old new t s (Ok set) =
+    let n = number_at s.operands 2 in
+    let a = number_at s.operands 0 in
+    (set ≡ number_at s.operands 3) × (address_test a (units_of code t) (block_pool_at n s.world.pools) s.world ≡ Passed) × IsNewMember code (kept old) (kept new) set t (InBlock n a) s.world
+PlacesThere code old new t s (Err mode) =
+    (stop : Stop) × (mode ≡ ModeOf.Stopped stop) × (address_test (number_at s.operands 0) (units_of code t) (block_pool_at (number_at s.operands 2) s.world.pools) s.world ≡ NotPassed stop) × GoesOn old new old.mode old.cells.items
 
 -- New objects ------------------------------------------------------------------------------------
 

@@ -4,11 +4,12 @@ use Rattle.ctl_program.specs.declared.types.Ty.TheVariants.{Record}
 use Rattle.ctl_meaning.specs.Finalization.{Spot}
 use Rattle.ctl_code.specs.declared.kinds.Kind.{Kind}
 use Rattle.ctl_code.specs.declared.kinds.Kind.TheVariants.{Operand}
-use Rattle.ctl_code.specs.States.{Word, Scalar, Located}
+use Rattle.ctl_code.specs.States.{Word, Scalar, Located, Cells}
 use Rattle.ctl_code.specs.Fits.{IsOperandOf}
 use Rattle.ctl_machine.specs.declared.frame.Formal.{Formal}
 use Rattle.ctl_machine.specs.Shows.{Kept}
 use Rattle.ctl_machine.specs.Moves.{cleared}
+use Rattle.ctl_machine.specs.Spots.{value_spot}
 
 -- an operand of this kind is a part of an object
 abbrev pub is_part : Kind → Bool
@@ -23,9 +24,11 @@ is_part_if (Some kind) = is_part kind
 abbrev pub is_part_at : List Kind → ℕ → Bool
 is_part_at stack depth = is_part_if (slice_get stack depth)
 
+-- it stands among the parts
 abbrev pub is_located : Word → Bool
 is_located (Scalar n) = false
 is_located (Located s) = true
+is_located (Cells v) = true
 
 -- so many of the newest operands are of these kinds
 abbrev pub AreActuals : ℕ → List Kind → List Word → Type 0
@@ -37,6 +40,7 @@ AreActuals (suc n) _ _ = ⊥
 abbrev pub cell_passed : Word → ℕ → List ℕ → List ℕ
 cell_passed (Scalar n) cell cells = cells
 cell_passed (Located s) cell cells = slice_set cells cell 0
+cell_passed (Cells v) cell cells = slice_set cells cell 0
 
 -- so many actuals, the last one first, stand in the cells from one on
 abbrev pub passed : ℕ → List Word → ℕ → List ℕ → List ℕ
@@ -48,6 +52,7 @@ passed (suc n) (x ∷ ops) base cells = passed n ops base (cell_passed x (base +
 abbrev pub formal_if : Word → ℕ → List Formal
 formal_if (Scalar n) slot = []
 formal_if (Located s) slot = record { slot = slot; spot = s } ∷ []
+formal_if (Cells v) slot = record { slot = slot; spot = value_spot v } ∷ []
 
 -- the formals that stand for these parts, that of the last slot first
 abbrev pub bound : ℕ → List Word → List Formal

@@ -1,5 +1,5 @@
 -- Calls of the Allocate and the Deallocate that the user wrote for the type of a pool: what the table calls, and what stands there before (13.11).
-use Rattle.std.specs.Prelude.{◌≡◌, ℕ, ◌+◌, ◌-◌, ◌≤◌, List, Some, length, slice_get, slice_set}
+use Rattle.std.specs.Prelude.{◌≡◌, ℕ, ◌+◌, ◌-◌, ◌≤◌, List, Some, length, reverse, slice_get, slice_set}
 use Rattle.ctl_program.specs.Limits.{alignment}
 use Rattle.ctl_meaning.specs.World.{Object, World}
 use Rattle.ctl_meaning.specs.Changes.{home_master}
@@ -8,12 +8,13 @@ use Rattle.ctl_code.specs.declared.code.Code.{Code}
 use Rattle.ctl_code.specs.declared.code.Entry.{Entry}
 use Rattle.ctl_code.specs.States as T
 use Rattle.ctl_code.specs.Valid.{Leads, over_numbers, storage_formals}
+use Rattle.ctl_code.specs.Windows.{height}
 use Rattle.ctl_machine.specs.declared.engine.Engine.{Engine}
 use Rattle.ctl_machine.specs.declared.frame.After.{After}
 use Rattle.ctl_machine.specs.declared.frame.After.TheVariants as AfterOf
 use Rattle.ctl_machine.specs.declared.storage_calls.StorageActuals.{StorageActuals}
-use Rattle.ctl_machine.specs.Masters.{heads_of, first_display}
-use Rattle.ctl_machine.specs.Moves.{cleared}
+use Rattle.ctl_machine.specs.Masters.{heads_of, first_display, first_window}
+use Rattle.ctl_machine.specs.Moves.{Inside, cleared}
 use Rattle.ctl_machine.specs.Shows.{Sized, Holds, kept}
 use Rattle.ctl_machine.specs.Spots.{standing}
 use Rattle.ctl_machine.specs.Under.{tall}
@@ -50,6 +51,14 @@ pub record CallsStorage (code : Code) (e : Engine) (entry : Entry) (master base 
   pub body : slice_get code.entries.items t.body ≡ Some entry
   pub slots : storage_formals ≤ entry.slots
   pub few : t.copies ≤ storage_formals
+
+-- an Allocate is to be called for an allocator: the next instruction finds what it gives over the operands that stay, behind which this cell is
+pub record AsksAllocate (code : Code) (e : Engine) (place first : ℕ) (s : T.State) : Type 0 where
+  pub mode : s.mode ≡ T.At (first_display (heads_of s.world.activations)) place
+  pub stack : List Kind
+  pub leads : Leads code (place + 1) (over_numbers 4 stack)
+  pub inside : Inside code (kept e) stack s.control s.operands s.world
+  pub cell : first ≡ first_window (reverse e.masters.items) + height stack
 
 -- from one on, the first cells of a body are those of its formals: that of a pool object, an address, so many units and the alignment
 abbrev pub with_formals : ℕ → ℕ → ℕ → List ℕ → List ℕ

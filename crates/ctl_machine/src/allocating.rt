@@ -15,14 +15,17 @@ ghost use Rattle.ctl_code.specs.declared.code.Instr.TheVariants as InstrOf;
 ghost use Rattle.ctl_code.specs.Table as Table;
 ghost use Rattle.ctl_code.specs.Table.{Grant};
 ghost use Rattle.ctl_code.specs.States.{ByAllocator, Giving, State};
-ghost use Rattle.ctl_code.specs.Valid.{IsValid};
+ghost use Rattle.ctl_code.specs.declared.kinds.Kind.{Kind};
+ghost use Rattle.ctl_code.specs.Valid.{HaveNumbers, IsValid, Leads};
+ghost use Rattle.ctl_machine.specs.Assigning.{HasRoom};
 ghost use Rattle.ctl_machine.specs.Allocating.{MayJoin};
 ghost use Rattle.ctl_machine.specs.Copying.{IsMember, Refuses, Takes, point_at};
 ghost use Rattle.ctl_machine.specs.declared.frame.Frame.{Frame};
 ghost use Rattle.ctl_machine.specs.declared.frame.Frame.TheVariants as FrameOf;
 ghost use Rattle.ctl_machine.specs.Gathering.{Member, with_set};
-ghost use Rattle.ctl_machine.specs.Granting.{IsAdded, storage_seen, with_numbers};
-ghost use Rattle.ctl_machine.specs.Moves.{Before, BeforeResuming, GoesOn, Makes, here_of};
+ghost use Rattle.ctl_machine.specs.Granting.{IsAdded, PlacesThere, storage_seen, with_numbers};
+ghost use Rattle.ctl_machine.specs.Moves.{Before, BeforeResuming, GoesOn, Inside, Makes, here_of};
+ghost use Rattle.ctl_machine.specs.StorageCalling.{AsksAllocate};
 ghost use Rattle.ctl_machine.specs.Shows as Shows;
 ghost use Rattle.ctl_machine.specs.Masters.{first_display, heads_of};
 ghost use Rattle.ctl_machine.specs.Owned.{collection_of};
@@ -219,8 +222,61 @@ impl Engine {
     }
 
     /// Calls the Allocate that the user wrote for the type of the pool of this number, for an object of a record type (RM 13.11): it leads to
-    /// the next instruction, over the numbers of the collection and of the pool. A size beyond Storage_Count'Last is Constraint_Error in
-    /// place of the call. Unchanged where memory is refused.
+    /// the next instruction, over the numbers of the collection and of the pool, which stand from this cell on; there is room for it. A size
+    /// beyond Storage_Count'Last is Constraint_Error in place of the call.
+    pub(crate) fn enter_allocate(
+        &mut self,
+        code: &Code,
+        set: u64,
+        record: usize,
+        pool: u64,
+        allocate: usize,
+        place: usize,
+        first: usize,
+    )
+        ghost s: { State × Object × ℕ }
+        requires valid { IsValid code.now }
+        requires asks { AsksAllocate code.now self.old place first s.0 }
+        requires set { s.2 ≡ set }
+        requires pool { object_in pool self.old.stock.objects ≡ Some s.1 }
+        requires operation { Table.operation_for (λ x. x.allocate) code.now s.1.ty ≡ Some allocate }
+        requires room { HasRoom code.now self.old (first + 2) }
+        requires place { place + 1 < 2 ^ 64 }
+        ensures { Makes code.now self.old self.new (Table.call_allocate code.now (Table.units_of code.now «record») set s.1 allocate s.0.operands (here_of place s.0)) }
+    {
+        let units = units_of(code, record) as u64;
+        if units > STORAGE_COUNT_LAST {
+            self.go_on(Mode::Transfers(Way::Raise(CONSTRAINT_ERROR)));
+            return;
+        }
+        let Some(master) = self.master_of(pool) else {
+            self.go_on(Mode::Stopped(Stop::UseAfterFree));
+            return;
+        };
+        self.put_numbers(first, set, pool);
+        let actuals = StorageActuals {
+            pool,
+            address: 0,
+            units,
+        };
+        let after = After::Procedure {
+            place: place + 1,
+            copies: 2,
+        };
+        let event = Event::Allocate(pool, units);
+        self.call_storage(
+            code,
+            &code.entries[allocate],
+            master,
+            first + 2,
+            event,
+            actuals,
+            after,
+        );
+    }
+
+    /// Calls the Allocate that the user wrote for the type of the pool of this number, for an object of a record type without a value, as
+    /// `enter_allocate` does (RM 13.11). Unchanged where memory is refused.
     fn call_allocate(
         &mut self,
         code: &Code,
@@ -241,38 +297,10 @@ impl Engine {
         ensures ok { OnOk result (Makes code.now self.old self.new (Table.call_allocate code.now (Table.units_of code.now «record») set s.1 allocate s.0.operands (here_of place s.0))) }
         ensures err { OnErr result (GoesOn self.old self.new self.old.mode self.old.cells.items) }
     {
-        let units = units_of(code, record) as u64;
-        if units > STORAGE_COUNT_LAST {
-            self.go_on(Mode::Transfers(Way::Raise(CONSTRAINT_ERROR)));
-            return Ok(());
-        }
-        let Some(master) = self.master_of(pool) else {
-            self.go_on(Mode::Stopped(Stop::UseAfterFree));
-            return Ok(());
-        };
         let first = self.window() + code.kinds.height_at(place, 0);
         let base = first + 2;
         self.prepare(base, code.room, 1)?;
-        self.put_numbers(first, set, pool);
-        let actuals = StorageActuals {
-            pool,
-            address: 0,
-            units,
-        };
-        let after = After::Procedure {
-            place: place + 1,
-            copies: 2,
-        };
-        let event = Event::Allocate(pool, units);
-        self.call_storage(
-            code,
-            &code.entries[allocate],
-            master,
-            base,
-            event,
-            actuals,
-            after,
-        );
+        self.enter_allocate(code, set, record, pool, allocate, place, first);
         Ok(())
     }
 
@@ -341,9 +369,43 @@ impl Engine {
         }
     }
 
-    /// Allocates an object of a record type without a value for the collection of this number at an address of a pool, if a block of it is out
-    /// there that holds no object and is large enough (RM 13.11); else the program is erroneous (RM 13.11.2). Unchanged where memory is
-    /// refused.
+    /// Allocates an object of a record type for the collection whose number stands there, at the address of a pool that an Allocate gave, if a
+    /// block of the pool is out there that holds no object and is large enough (RM 13.11), and reserves room for two frames that wait for it
+    /// and for the part that it is. Answers the number of the collection, or what comes next: else the program is erroneous (RM 13.11.2).
+    /// Unchanged then, and where memory is refused.
+    pub(crate) fn place_member(
+        &mut self,
+        code: &Code,
+        record: usize,
+        place: usize,
+    ) -> Result<Result<u64, Mode>, AllocError>
+        ghost s: { State }
+        requires valid { IsValid code.now }
+        requires numbers { (stack : List Kind) × Leads code.now place stack × HaveNumbers 4 stack × Inside code.now (kept self.old) stack s.control s.operands s.world }
+        requires objects { self.old.numbered.objects + 1 < 2 ^ 64 }
+        ensures ok { IfOk result (PlacesThere code.now self.old self.new «record» s) }
+        ensures err { OnErr result (GoesOn self.old self.new self.old.mode self.old.cells.items) }
+        ensures control { OnOk result (IfOk result (λ answer. OnOk answer (vec_len self.new.control + 2 ≤ vec_capacity self.new.control))) }
+        ensures spots { OnOk result (IfOk result (λ answer. OnOk answer (vec_len self.new.spots < vec_capacity self.new.spots))) }
+        ensures events { self.new.events ≡ self.old.events }
+        ensures picks { self.new.picks ≡ self.old.picks }
+    {
+        let first = self.window() + code.kinds.height_at(place, 4);
+        let set = self.cells[first];
+        let pool = self.cells[first + 1];
+        let address = self.cells[first + 3];
+        if !is_open(&self.stock, pool) {
+            return Ok(Err(Mode::Stopped(Stop::UseAfterFree)));
+        }
+        let block = BlockSpot { pool, address };
+        match self.add_at_address(code, set, record, block)? {
+            Placing::Placed => Ok(Ok(set)),
+            Placing::Refused => Ok(Err(Mode::Stopped(Stop::BadAddress))),
+        }
+    }
+
+    /// Allocates an object of a record type without a value at the address of a pool that an Allocate gave (RM 13.11); where no object may be
+    /// there, the program is erroneous (RM 13.11.2). Unchanged where memory is refused.
     pub(crate) fn allocate_at_address(
         &mut self,
         code: &Code,
@@ -358,18 +420,9 @@ impl Engine {
         ensures ok { OnOk result (Makes code.now self.old self.new (Table.by_instr code.now (Some (InstrOf.NewIn «record» s.1 s.2)) s.0.operands (here_of place s.0))) }
         ensures err { OnErr result (GoesOn self.old self.new self.old.mode self.old.cells.items) }
     {
-        let first = self.window() + code.kinds.height_at(place, 4);
-        let set = self.cells[first];
-        let pool = self.cells[first + 1];
-        let address = self.cells[first + 3];
-        if !is_open(&self.stock, pool) {
-            self.go_on(Mode::Stopped(Stop::UseAfterFree));
-            return Ok(());
-        }
-        let block = BlockSpot { pool, address };
-        match self.add_at_address(code, set, record, block)? {
-            Placing::Placed => self.begin_member(code, set, record, place + 1),
-            Placing::Refused => self.go_on(Mode::Stopped(Stop::BadAddress)),
+        match self.place_member(code, record, place)? {
+            Ok(set) => self.begin_member(code, set, record, place + 1),
+            Err(refused) => self.go_on(refused),
         }
         Ok(())
     }

@@ -1,28 +1,33 @@
 //! Allocators with a value (RM 4.8): the object takes the value of a part of another one, and joins its collection once it is adjusted; where
 //! an Adjust of it failed, those of its parts that are adjusted are finalized before it is gone (RM 7.6, 7.6.1).
 
-ghost use Rattle.std.specs.Prelude.{◌≡◌, ◌+◌, ◌^◌, ◌<◌, ◌≤◌, ◌∷◌, ℕ, List, OnErr, OnOk, Some, drop, reverse, vec_capacity, vec_len};
+ghost use Rattle.std.specs.Prelude.{◌≡◌, ◌+◌, ◌^◌, ◌<◌, ◌≤◌, ◌∷◌, ◌++◌, [], ℕ, List, OnErr, OnOk, Some, drop, length, reverse, vec_capacity, vec_len};
 ghost use Rattle.ctl_program.specs.declared.types.Ty.{Ty};
 ghost use Rattle.ctl_tree.specs.declared.event.Owner.TheVariants as OwnerOf;
 ghost use Rattle.ctl_meaning.specs.Changes.{object_at};
-ghost use Rattle.ctl_meaning.specs.Objects.{cells_at};
+ghost use Rattle.ctl_meaning.specs.Finalization as S;
+ghost use Rattle.ctl_meaning.specs.Objects.{cells_at, object_in};
 ghost use Rattle.ctl_meaning.specs.World.{Object};
 ghost use Rattle.ctl_code.specs.declared.code.Instr.TheVariants as InstrOf;
 ghost use Rattle.ctl_code.specs.Table as Table;
 ghost use Rattle.ctl_code.specs.Table.{Grant};
-ghost use Rattle.ctl_code.specs.States.{ByAllocator, Giving, State};
+ghost use Rattle.ctl_code.specs.States.{ByAllocator, Cells, Giving, State};
 ghost use Rattle.ctl_code.specs.Valid.{IsValid};
-ghost use Rattle.ctl_machine.specs.Copying.{IsMember, point_at};
+ghost use Rattle.ctl_machine.specs.Copying.{IsMember, point_at, with_value};
 ghost use Rattle.ctl_machine.specs.declared.frame.Frame.{Frame};
 ghost use Rattle.ctl_machine.specs.declared.frame.Frame.TheVariants as FrameOf;
 ghost use Rattle.ctl_machine.specs.Granting.{storage_seen};
 ghost use Rattle.ctl_machine.specs.Moves.{Before, BeforeResuming, GoesOn, Makes, here_of};
 ghost use Rattle.ctl_machine.specs.Shows as Shows;
+ghost use Rattle.ctl_machine.specs.Shows.{kept};
 ghost use Rattle.ctl_machine.specs.Spots.{first_spot};
 
 use crate::engine::Engine;
 use crate::frame::{Ended, Frame, Mode};
+use crate::granting::Grantor;
 use crate::parts::{parts_of, size_of};
+use crate::room::reserve;
+use crate::spots::Spot;
 use ctl_code::code::{Code, Parts};
 use ctl_tree::ending::Stop;
 use ctl_tree::event::Owner;
@@ -53,10 +58,69 @@ impl Engine {
         self.adjust_object(code, copy, object, record, Owner::Collection(set));
     }
 
+    /// Puts the value of a record in the place of the newest part, in this cell.
+    fn put_value(&mut self, cell: usize, value: Vec<u64>)
+        ghost below: { List S.Spot }
+        requires cell { cell < length self.old.cells.items }
+        requires part { (part : S.Spot) × (self.old.spots.items ≡ below ++ part ∷ []) }
+        ensures mode { self.new.mode ≡ self.old.mode }
+        ensures kept { kept self.new ≡ with_value cell value.items below (kept self.old) }
+        ensures stock { self.new.stock ≡ self.old.stock }
+        ensures given { self.new.given_masters ≡ self.old.given_masters }
+        ensures masters { self.new.masters ≡ self.old.masters }
+        ensures control { self.new.control ≡ self.old.control }
+        ensures events { self.new.events ≡ self.old.events }
+        ensures picks { self.new.picks ≡ self.old.picks }
+        ensures formals { self.new.formals ≡ self.old.formals }
+    {
+        let _ = self.spots.take_last();
+        self.spots.push_reserved(Spot::of_value(value));
+        self.cells[cell] = 0;
+    }
+
+    /// Calls the Allocate that the user wrote for the type of the pool of this number, for an object of a record type that is to take the
+    /// value of the part that is the newest operand, of an object that is there (RM 4.8, 13.11): the value takes the place of the part, and
+    /// stays an operand meanwhile. Unchanged where memory is refused.
+    fn call_over_value(
+        &mut self,
+        code: &Code,
+        set: u64,
+        record: usize,
+        pool: u64,
+        allocate: usize,
+        place: usize,
+    ) -> Result<(), AllocError>
+        ghost s: { State × Object × Object × ℕ }
+        requires valid { IsValid code.now }
+        requires before { (access : ℕ) × (ty : Ty) × (at : ℕ) × Before code.now self.old place (InstrOf.NewCopy access «record» ty at) s.0 }
+        requires source { object_at (first_spot s.0.operands).object s.0.world ≡ Some s.1 }
+        requires set { s.3 ≡ set }
+        requires pool { object_in pool self.old.stock.objects ≡ Some s.2 }
+        requires operation { Table.operation_for (λ x. x.allocate) code.now s.2.ty ≡ Some allocate }
+        requires place { place + 1 < 2 ^ 64 }
+        requires masters { self.old.given_masters + 1 < 2 ^ 64 }
+        ensures ok { OnOk result (Makes code.now self.old self.new (Table.call_allocate code.now (Table.units_of code.now «record») set s.2 allocate (Cells (cells_at (first_spot s.0.operands).offset (Table.size_of code.now «record») s.1) ∷ drop 1 s.0.operands) (here_of place s.0))) }
+        ensures err { OnErr result (GoesOn self.old self.new self.old.mode self.old.cells.items) }
+    {
+        let newest = self.count_spots() - 1;
+        let spot = &self.spots[newest];
+        let size = size_of(code, record);
+        let mut value = Vec::new(self.alloc);
+        reserve(&mut value, size)?;
+        self.stock
+            .save(spot.object(), spot.offset(), size, &mut value);
+        let cell = self.window() + code.kinds.height_at(place, 1);
+        let base = cell + 3;
+        self.prepare(base, code.room, 1)?;
+        self.put_value(cell, value);
+        self.enter_allocate(code, set, record, pool, allocate, place, cell + 1);
+        Ok(())
+    }
+
     /// Allocates an object of a record type for the collection of this number, with storage of the pool of an access type and the value of the
     /// part that is the newest operand, of an object that is there (RM 4.8, 13.11): it is created and takes the value, and is to be adjusted
-    /// (RM 7.6). Where there is no storage, Storage_Error is raised, or the program is erroneous (RM 13.11.2); no program that is run comes here with
-    /// an Allocate of the user's. Unchanged where memory is refused.
+    /// (RM 7.6); or the Allocate is called that the user wrote for the type of the pool. Where there is no storage, Storage_Error is raised, or
+    /// the program is erroneous (RM 13.11.2). Unchanged where memory is refused.
     fn copy_member(
         &mut self,
         code: &Code,
@@ -70,16 +134,20 @@ impl Engine {
         requires before { (ty : Ty) × (at : ℕ) × Before code.now self.old place (InstrOf.NewCopy access «record» ty at) s.0 }
         requires source { object_at (first_spot s.0.operands).object s.0.world ≡ Some s.1 }
         requires storage { s.2 ≡ storage_seen code.now access s.0 }
-        requires place { place + 1 < 2 ^ 64 }
+        requires place { place + 1 + 1 < 2 ^ 64 }
         requires objects { self.old.numbered.objects + 1 < 2 ^ 64 }
+        requires masters { self.old.given_masters + 1 < 2 ^ 64 }
         ensures ok { OnOk result (Makes code.now self.old self.new (Table.copy_at code.now «record» (cells_at (first_spot s.0.operands).offset (Table.size_of code.now «record») s.1) set (s.2 (Table.units_of code.now «record»)) (drop 1 s.0.operands) (here_of place s.0))) }
         ensures err { OnErr result (GoesOn self.old self.new self.old.mode self.old.cells.items) }
     {
+        let grantor = self.grantor(code, access);
+        if let Grantor::User { pool, allocate } = grantor {
+            return self.call_over_value(code, set, record, pool, allocate, place);
+        }
         let newest = self.count_spots() - 1;
         let spot = &self.spots[newest];
         let start = spot.offset();
         let source = spot.object();
-        let grantor = self.grantor(code, access);
         if let Some(refused) = self.add_member(code, grantor, set, record)? {
             self.go_on(refused);
             return Ok(());
@@ -88,12 +156,42 @@ impl Engine {
         let size = size_of(code, record);
         self.stock.copy(source, start, number, 0, size);
         let _ = self.spots.take_last();
-        self.adjust_member(code, set, number, record, place + 1);
+        self.adjust_member(code, set, number, record, place + 2);
+        Ok(())
+    }
+
+    /// Allocates an object of a record type with the value of a record at the address of a pool that an Allocate gave (RM 4.8, 13.11): it takes
+    /// the value, which is the operand below what that gave, and is to be adjusted (RM 7.6). Where no object may be there, the program is
+    /// erroneous (RM 13.11.2). Unchanged where memory is refused.
+    pub(crate) fn allocate_copy_at_address(
+        &mut self,
+        code: &Code,
+        record: usize,
+        place: usize,
+    ) -> Result<(), AllocError>
+        ghost s: { State × Ty × ℕ }
+        requires valid { IsValid code.now }
+        requires before { Before code.now self.old place (InstrOf.NewCopyIn «record» s.1 s.2) s.0 }
+        requires place { place + 1 < 2 ^ 64 }
+        requires objects { self.old.numbered.objects + 1 < 2 ^ 64 }
+        ensures ok { OnOk result (Makes code.now self.old self.new (Table.by_instr code.now (Some (InstrOf.NewCopyIn «record» s.1 s.2)) s.0.operands (here_of place s.0))) }
+        ensures err { OnErr result (GoesOn self.old self.new self.old.mode self.old.cells.items) }
+    {
+        match self.place_member(code, record, place)? {
+            Ok(set) => {
+                let number = self.numbered.objects;
+                let value = self.spots.take_last();
+                self.stock.write_all(number, 0, value.cells());
+                self.adjust_member(code, set, number, record, place + 1);
+            }
+            Err(refused) => self.go_on(refused),
+        }
         Ok(())
     }
 
     /// Allocates an object of a record type for the collection of an access type with the value of the part that is the newest operand
-    /// (RM 4.8): it takes the value, and is to be adjusted (RM 7.6). Where the finalization of the collection has started, an object with a
+    /// (RM 4.8): it takes the value, and is to be adjusted (RM 7.6); or the Allocate is called that the user wrote for the type of its storage
+    /// pool (RM 13.11). Where the finalization of the collection has started, an object with a
     /// controlled part is not: Program_Error is raised; and Storage_Error where the storage pool of the access type is exhausted (RM 13.11).
     /// Where the object of the part, the collection or the pool is gone, the program is erroneous (RM 13.11.2). Unchanged where memory is
     /// refused.
@@ -107,8 +205,9 @@ impl Engine {
         ghost s: { State × Ty × ℕ }
         requires valid { IsValid code.now }
         requires before { Before code.now self.old place (InstrOf.NewCopy access «record» s.1 s.2) s.0 }
-        requires place { place + 1 < 2 ^ 64 }
+        requires place { place + 1 + 1 < 2 ^ 64 }
         requires objects { self.old.numbered.objects + 1 < 2 ^ 64 }
+        requires masters { self.old.given_masters + 1 < 2 ^ 64 }
         ensures ok { OnOk result (Makes code.now self.old self.new (Table.by_instr code.now (Some (InstrOf.NewCopy access «record» s.1 s.2)) s.0.operands (here_of place s.0))) }
         ensures err { OnErr result (GoesOn self.old self.new self.old.mode self.old.cells.items) }
     {

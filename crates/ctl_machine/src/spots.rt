@@ -4,14 +4,15 @@ ghost use Rattle.std.specs.Prelude.{◌≡◌, ◌+◌, ◌++◌, [], ◌∷◌,
 ghost use Rattle.ctl_code.specs.Table as Table;
 ghost use Rattle.ctl_meaning.specs.Lists.{begins, same_list};
 ghost use Rattle.ctl_meaning.specs.Finalization.{is_whole};
-ghost use Rattle.ctl_machine.specs.Spots.{whole_spot};
+ghost use Rattle.ctl_machine.specs.Spots.{value_spot, whole_spot};
 
 use ctl_tree::event::Part;
 use ctl_tree::text::Path;
 use std::alloc::{AllocError, Global};
 use std::marker::Model;
 
-/// A part of an object: the number of the object, the first cell of the part in it, and the way to it (RM 3.2).
+/// A part of an object: the number of the object, the first cell of the part in it, and the way to it (RM 3.2). The value of a record that is
+/// an operand stands among the parts as one of no object, its cells in place of the way.
 ///
 /// A contract sees it as the table of instructions does.
 #[derive(Drop)]
@@ -40,6 +41,24 @@ impl Spot {
             offset: 0,
             path: Vec::new(alloc),
         }
+    }
+
+    /// Answers the value of a record with these cells, as it stands among the parts.
+    pub(crate) fn of_value(cells: Vec<u64>) -> Spot
+        ensures { result ≡ value_spot cells.items }
+    {
+        Spot {
+            object: 0,
+            offset: 0,
+            path: cells,
+        }
+    }
+
+    /// Answers the cells of the value of a record, which stands among the parts.
+    pub(crate) fn cells(&self) -> &[u64]
+        ensures { result.now ≡ self.now.path }
+    {
+        self.path.as_slice()
     }
 
     /// Answers the number of its object.

@@ -3,8 +3,8 @@ use Rattle.ctl_machine.proofs.Newborn.{place_in}
 use Rattle.ctl_machine.proofs.PlacedMember.{member_in}
 use Rattle.ctl_machine.proofs.engine.Engine.allocate_at_address.Given as goal
 
-abbrev pub ghost-add_at_address : goal.ghost-add_at_address
-ghost-add_at_address g a = g.s.0
+abbrev pub ghost-place_member : goal.ghost-place_member
+ghost-place_member g a = g.s.0
 
 abbrev pub ghost-begin_member : goal.ghost-begin_member
 ghost-begin_member g a = let m = member_in g.s.0.operands (place_in g.s.0.mode) g.s.0 in (m, with_member a.code.now a.set a.record m.place m.granted)

@@ -1,117 +1,54 @@
-use Rattle.std.proofs.Common.{◌≡◌, ◌+◌, ◌<◌, ◌≤◌, ◌++◌, ◌∷◌, ◌∙◌, [], Some, ap, arith, length, refl, subst, sym}
-use Rattle.std.specs.Prelude.{slice_get, vec_capacity, vec_len}
-use Rattle.std.proofs.lemmas.List.{length-append}
-use Rattle.std.proofs.lemmas.Option.{slice_get_within}
-use Rattle.ctl_tree.specs.declared.event.Event.TheVariants.{Allocate}
-use Rattle.ctl_meaning.specs.Changes.{home_of}
-use Rattle.ctl_meaning.specs.Storage.{storage_actuals}
-use Rattle.ctl_code.specs.declared.code.Entry.{Entry}
-use Rattle.ctl_code.specs.States as T
-use Rattle.ctl_code.specs.States.{AfterProcedure}
-use Rattle.ctl_code.specs.Table.{call_allocate, enter_body, units_of}
-use Rattle.ctl_code.specs.Valid.{storage_formals}
-use Rattle.ctl_machine.specs.declared.frame.After.TheVariants as AfterOf
-use Rattle.ctl_machine.specs.Granting.{with_numbers}
-use Rattle.ctl_machine.specs.Masters.{heads_of}
-use Rattle.ctl_machine.specs.Moves.{Makes, here_of}
-use Rattle.ctl_machine.specs.Shows.{Kept, kept, with_cells}
-use Rattle.ctl_machine.specs.StorageCalling.{CallsStorage, StorageCall}
-use Rattle.ctl_machine.specs.Under.{tall}
+use Rattle.std.proofs.Common.{◌+◌, ◌∙◌, ap, arith, reverse, subst, sym}
+use Rattle.ctl_meaning.specs.Objects.{object_in}
+use Rattle.ctl_code.specs.Windows.{height}
+use Rattle.ctl_machine.specs.Masters.{first_window}
+use Rattle.ctl_machine.proofs.Blocks.{stack_is}
 use Rattle.ctl_machine.proofs.Following.{makes_later}
-use Rattle.ctl_machine.proofs.Links.{got}
-use Rattle.ctl_machine.proofs.Lists.{same_at}
-use Rattle.ctl_machine.proofs.Newborn.{place_in}
-use Rattle.ctl_machine.proofs.UserAllocates.{HasBody, allocate_body, allocate_call, begins_over, call_is, calls_allocate, found_number, length_numbers, numbers_within, object_there, table_calls, too_large}
+use Rattle.ctl_machine.proofs.UserAllocates.{asks_over}
 use Rattle.ctl_machine.proofs.engine.Engine.call_allocate.Goals as goal
 
-pub returns-then-units-gt-STORAGE_COUNT_LAST-clause-ok : goal.returns-then-units-gt-STORAGE_COUNT_LAST-clause-ok
-returns-then-units-gt-STORAGE_COUNT_LAST-clause-ok g c =
-    let before = c.requires.1.0 in
-    let units = c.units_of-units.ensures in
-    let more = c.if-units-gt-STORAGE_COUNT_LAST.true in
-    too_large c.args.code.now c.args.self.now c.go_on.new.self before.0 c.args.place c.args.record before.2 (units_of c.args.code.now c.args.record) c.args.set c.args.allocate before.1 g.s.1 g.s.0 before.3 (omega (arith, units, more)) c.go_on.ensures
-
-pub index-requires : goal.index-requires
-index-requires g c =
-    let body : HasBody c.args.code.now c.args.allocate = allocate_body c.args.code.now _ c.args.allocate c.requires.0 c.requires.1.1.1.1.0 in
-    let less = slice_get_within c.args.code.now.entries.items c.args.allocate body.entry body.found in
-    let many = c.args.code.now.entries.ok.0 in
-    omega (arith, less, many)
-
-pub call_storage-requires : goal.call_storage-requires
-call_storage-requires g c =
+pub enter_allocate-requires : goal.enter_allocate-requires
+enter_allocate-requires g c =
     let code = c.args.code.now in
     let old = c.args.self.now in
-    let s = g.s.0 in
-    let o = g.s.1 in
-    let f = c.args.allocate in
-    let before = c.requires.1.0 in
-    let b = before.3 in
-    let operation = c.requires.1.1.1.1.0 in
-    let entry = c.index.result.now in
-    let body : HasBody code f = allocate_body code o.ty f c.requires.0 operation in
-    let found : slice_get code.entries.items f ≡ Some entry = got code.entries.items f entry (slice_get_within code.entries.items f body.entry body.found) c.index.ensures in
-    let slots = subst (λ (x : Entry). storage_formals ≤ x.slots) (same_at body.entry entry (slice_get code.entries.items f) body.found found) body.slots in
-    let number : o.number ≡ c.args.pool = found_number c.args.pool old.stock.objects o c.requires.1.1.1.0 in
-    let part = object_there old.owned.items old.stock.objects c.args.pool c.in-Some.master o c.requires.1.1.1.0 c.in-Some.ensures.some in
-    let first = c.window.result + c.height_at.result in
+    let b = c.requires.1.0.3 in
+    let goes = c.in_ok-prepare.ensures.ok.1 in
     let window = c.window.ensures in
     let under = c.height_at.ensures in
-    let over = begins_over code old before.0 c.args.place c.args.record before.2 before.1 s b in
-    let there : first ≡ tall s.control (heads_of s.world.activations) + length s.operands = omega (arith, window, under, over) in
-    let wide = numbers_within code old before.0 c.args.place c.args.record before.2 before.1 s c.requires.0 b in
-    let more = c.in_ok-prepare.ensures.ok.0 in
-    let goes = c.in_ok-prepare.ensures.ok.1 in
-    let row = old.cells.items ++ more in
-    let longer = length-append old.cells.items more in
-    let is : kept c.put_numbers.new.self ≡ with_cells (kept old) (with_numbers first c.args.set o.number row) =
-    c.put_numbers.ensures.goes.kept
-    ∙ (ap (λ (e : Kept). with_cells e (with_numbers first c.args.set c.args.pool e.cells)) goes.kept
-    ∙ ap (λ n. with_cells (kept old) (with_numbers first c.args.set n row)) (sym number)) in
-    let calls = calls_allocate code old c.put_numbers.new.self before.0 c.args.place c.args.record before.2 c.units_of-units.result c.args.set f c.in-Some.master first (first + 2) before.1 entry o s more c.requires.0 b part found slots there refl (omega (arith, window, under, wide, longer)) is in
-    let same = call_is code c.args.place f c.units_of-units.result g.s.2 c.args.set o s (ap place_in b.mode) operation c.requires.1.1.0 in
-    let control = subst (λ v. vec_len v + 2 ≤ vec_capacity v) (sym c.put_numbers.ensures.control) c.in_ok-prepare.ensures.control in
-    let formals = subst (λ v. vec_len v + 1 ≤ vec_capacity v) (sym c.put_numbers.ensures.formals) c.in_ok-prepare.ensures.formals in
-    let given = c.put_numbers.ensures.given ∙ c.in_ok-prepare.ensures.number in
+    let same = ap height (stack_is code c.args.place b.stack b.leads) in
+    let first = c.window.result + c.height_at.result in
+    let existing = c.in_ok-prepare.ensures.existing in
+    let given = c.in_ok-prepare.ensures.number in
     let fewer = c.requires.1.1.1.1.1.1 in
-    let total = ap (λ (e : Kept). length e.cells) c.put_numbers.ensures.goes.kept ∙ length_numbers first c.args.set c.args.pool c.prepare.new.self.cells.items in
-    let cells = c.in_ok-prepare.ensures.cells in (
+    let formals = c.in_ok-prepare.ensures.formals in
+    let control = c.in_ok-prepare.ensures.control in (
       c.requires.0,
       (
-        subst (λ (t : StorageCall). CallsStorage code c.put_numbers.new.self entry c.in-Some.master (first + 2) (AfterOf.Procedure (c.args.place + 1) 2) t) (sym same) calls,
+        asks_over code old c.prepare.new.self c.args.place first b.stack g.s.0 c.in_ok-prepare.ensures.ok.0 b.mode b.fine.3 b.inside (omega (arith, window, under, same)) goes.kept,
         (
-          record { pool = sym number; address = refl; units = refl },
-          record {
-            masters = subst (λ v. vec_len v < vec_capacity v) (sym c.put_numbers.ensures.masters) c.in_ok-prepare.ensures.masters;
-            control = omega (arith, control);
-            events = subst (λ v. vec_len v < vec_capacity v) (sym c.put_numbers.ensures.events) c.in_ok-prepare.ensures.events;
-            formals = omega (arith, formals);
-            cells = omega (arith, cells, total);
-            number = omega (arith, given, fewer);
-          },
+          c.requires.1.1.0,
+          (
+            ap (λ x. object_in c.args.pool x.objects) existing ∙ c.requires.1.1.1.0,
+            (
+              c.requires.1.1.1.1.0,
+              (
+                record {
+                  masters = c.in_ok-prepare.ensures.masters;
+                  control = omega (arith, control);
+                  events = c.in_ok-prepare.ensures.events;
+                  formals = omega (arith, formals);
+                  cells = c.in_ok-prepare.ensures.cells;
+                  number = omega (arith, given, fewer);
+                },
+                c.requires.1.1.1.1.1.0,
+              ),
+            ),
+          ),
         ),
       ),
     )
 
 pub returns-clause-ok : goal.returns-clause-ok
 returns-clause-ok g c =
-    let code = c.args.code.now in
-    let old = c.args.self.now in
-    let s = g.s.0 in
-    let o = g.s.1 in
-    let f = c.args.allocate in
-    let u = c.units_of-units.result in
-    let b = c.requires.1.0.3 in
-    let set = c.args.set in
-    let new = c.call_storage.new.self in
-    let mid = c.put_numbers.new.self in
     let goes = c.in_ok-prepare.ensures.ok.1 in
-    let number : o.number ≡ c.args.pool = found_number c.args.pool old.stock.objects o c.requires.1.1.1.0 in
-    let same = call_is code c.args.place f u g.s.2 set o s (ap place_in b.mode) c.requires.1.1.1.1.0 c.requires.1.1.0 in
-    let made = subst (λ (t : StorageCall). Makes code mid new (enter_body (slice_get code.entries.items t.body) (Allocate c.args.pool u ∷ []) (home_of t.object.origin t.world) (storage_actuals t.object.number t.address t.units) (AfterProcedure t.copies t.point) t.control t.world)) same c.call_storage.ensures in
-    let call = allocate_call c.args.place f u set o s in
-    let shown = subst (λ n. Makes code mid new (enter_body (slice_get code.entries.items f) (Allocate n u ∷ []) (home_of o.origin s.world) (storage_actuals o.number 0 u) (AfterProcedure 2 call.point) s.control s.world)) (sym number) made in
-    let few = c.if-units-gt-STORAGE_COUNT_LAST.false in
-    subst (λ n. Makes code old new (call_allocate code n set o f s.operands (here_of c.args.place s))) c.units_of-units.ensures
-    (subst (λ (m : T.Move). Makes code old new m) (sym (table_calls code u set f c.args.place o s (omega (arith, few))))
-    (makes_later code old mid new _ (c.put_numbers.ensures.goes.events ∙ goes.events) (c.put_numbers.ensures.goes.picks ∙ goes.picks) shown))
+    makes_later c.args.code.now c.args.self.now c.prepare.new.self c.enter_allocate.new.self _ goes.events goes.picks c.enter_allocate.ensures

@@ -5,13 +5,13 @@ use Rattle.ctl_meaning.specs.World as W
 use Rattle.ctl_code.specs.Table.{Grant, size_of, units_of}
 use Rattle.ctl_machine.specs.declared.engine.Engine.{Engine}
 use Rattle.ctl_machine.specs.declared.frame.Mode.{Mode}
-use Rattle.ctl_machine.specs.Granting.{Adds, Serves, place_granted, storage_seen, world_granted}
+use Rattle.ctl_machine.specs.Granting.{Adds, Grants, Serves, place_granted, storage_seen, world_granted}
 use Rattle.ctl_machine.specs.Moves.{Makes, here_of}
 use Rattle.ctl_machine.specs.Shows.{Kept, kept}
 use Rattle.ctl_machine.specs.Spots.{first_spot, standing}
 use Rattle.ctl_machine.proofs.CopyAllocated.{member_copied, source_part, taken_is, taken_kept, taken_makes, with_taken}
 use Rattle.ctl_machine.proofs.NewMember.{lacking_makes, member_number}
-use Rattle.ctl_machine.proofs.Granted.{grants_beside}
+use Rattle.ctl_machine.proofs.Granted.{asks_none, grants_beside, no_user}
 use Rattle.ctl_machine.proofs.Owned.{found_below, object_shown}
 use Rattle.ctl_machine.proofs.Stocked.{copied_stock}
 use Rattle.ctl_machine.proofs.Words.{newest_read, same_front}
@@ -28,8 +28,10 @@ returns-in-Some-clause-ok g c =
     let b = c.requires.1.0.2 in
     let size = units_of code t in
     let mode = c.in-Some.refused in
+    let grants : Grants code old s.world g.s.2 c.grantor-grantor.result = subst (λ (f : ℕ → Grant). Grants code old s.world f c.grantor-grantor.result) (sym c.requires.1.1.1.0) c.grantor-grantor.ensures in
+    let none = no_user c.grantor-grantor.result c.in_default.not-User in
     let served : Serves code old added set t s.world (g.s.2 size) (Some mode) = subst (λ (o : Option Mode). Serves code old added set t s.world (g.s.2 size) o) c.in-Some.is c.in_ok-refused.ensures.ok in
-    lacking_makes code old added c.go_on.new.self mode b.stack s.operands (here_of c.args.place s) (member_copied code c.args.place set t g.s.1 s) (g.s.2 size) (λ o f is. refl) refl refl b.inside served.0 served.1 c.go_on.ensures
+    lacking_makes code old added c.go_on.new.self mode b.stack s.operands (here_of c.args.place s) (member_copied code c.args.place set t g.s.1 s) (g.s.2 size) (λ o f is. absurd (asks_none code old s.world g.s.2 c.grantor-grantor.result size o f grants none is)) refl refl b.inside served.0 served.1 c.go_on.ensures
 
 pub copy-requires : goal.copy-requires
 copy-requires g c = λ e.
@@ -48,7 +50,7 @@ copy-requires g c = λ e.
     let there = sym (object_shown code (kept old) s.control s.operands s.world (first_spot s.operands).object h) ∙ c.requires.1.1.0 in
     let less = found_below old.owned.items (old.numbered.objects + 1) old.stock.objects (first_spot s.operands).object g.s.1 h.owns there in
     let adds : Adds code (kept old) (kept added) c.args.set t s.world (g.s.2 size) =
-    subst (λ (o : Option Mode). Serves code old added c.args.set t s.world (g.s.2 size) o) c.in_default.is c.in_ok-refused.ensures.ok in
+    subst (λ (o : Option Mode). Serves code old added c.args.set t s.world (g.s.2 size) o) c.in_default-2.is c.in_ok-refused.ensures.ok in
     let given = member_number code old added c.args.set t (place_granted (g.s.2 size)) (world_granted s.world (g.s.2 size)) adds.member in
     omega (arith, e, given, number, less)
 
@@ -69,7 +71,7 @@ adjust_member-requires g c =
     let y = first_spot s.operands in
     let below = standing s.control (drop 1 s.operands) in
     let adds : Adds code (kept old) (kept added) set t s.world (g.s.2 size) =
-    subst (λ (z : Option Mode). Serves code old added set t s.world (g.s.2 size) z) c.in_default.is c.in_ok-refused.ensures.ok in
+    subst (λ (z : Option Mode). Serves code old added set t s.world (g.s.2 size) z) c.in_default-2.is c.in_ok-refused.ensures.ok in
     let i = adds.member in
     let beside = grants_beside code old s.world v (storage_seen code c.args.access s) c.grantor-grantor.result size place c.grantor-grantor.ensures (ap (λ (f : ℕ → Grant). f size) (sym c.requires.1.1.1.0) ∙ adds.granted) in
     let p = source_part code old c.args.access c.args.place t before.1 before.0 s b in
@@ -110,7 +112,7 @@ returns-clause-ok g c =
     let added = c.add_member.new.self in
     let begun : Engine = record added { spots = c.take_last.new.self; stock = c.copy.new.self } in
     let adds : Adds code (kept old) (kept added) set t s.world (g.s.2 size) =
-    subst (λ (z : Option Mode). Serves code old added set t s.world (g.s.2 size) z) c.in_default.is c.in_ok-refused.ensures.ok in
+    subst (λ (z : Option Mode). Serves code old added set t s.world (g.s.2 size) z) c.in_default-2.is c.in_ok-refused.ensures.ok in
     let beside = grants_beside code old s.world v (storage_seen code c.args.access s) c.grantor-grantor.result size place c.grantor-grantor.ensures (ap (λ (f : ℕ → Grant). f size) (sym c.requires.1.1.1.0) ∙ adds.granted) in
     let new = c.adjust_member.new.self in
     subst (λ (x : Grant). Makes code old new (member_copied code c.args.place set t o s x)) (sym adds.granted)

@@ -1,10 +1,14 @@
 use Rattle.ctl_code.specs.Table.{units_of}
 use Rattle.ctl_machine.specs.Granting.{place_granted, world_granted}
 use Rattle.ctl_machine.proofs.CopyAllocated.{taken_state}
+use Rattle.ctl_machine.proofs.MasterOf.{object_or}
 use Rattle.ctl_machine.proofs.engine.Engine.copy_member.Given as goal
 
 abbrev pub ghost-grantor : goal.ghost-grantor
 ghost-grantor g a = g.s.0
+
+abbrev pub ghost-call_over_value : goal.ghost-call_over_value
+ghost-call_over_value g a = (g.s.0, g.s.1, object_or a.pool a.self.now.stock.objects, a.set)
 
 abbrev pub ghost-add_member : goal.ghost-add_member
 ghost-add_member g a = (g.s.0, g.s.2)
