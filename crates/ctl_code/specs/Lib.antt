@@ -1,5 +1,16 @@
 pub mod Kinds
 pub mod States
+pub mod Moves
+pub mod Computing
+pub mod Bodies
+pub mod Finalizing
+pub mod Adjusting
+pub mod Creating
+pub mod Pooling
+pub mod Allocating
+pub mod Assigning
+pub mod Leaving
+pub mod Freeing
 pub mod Table
 pub mod Steps
 pub mod Laws

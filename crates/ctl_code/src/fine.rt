@@ -10,20 +10,22 @@ ghost use Rattle.ctl_code.specs.declared.code.Cell.{Cell};
 ghost use Rattle.ctl_code.specs.declared.code.Operator.{Operator};
 ghost use Rattle.ctl_code.specs.declared.code.Instr.TheVariants as I;
 ghost use Rattle.ctl_code.specs.Kinds.{changed, stack_at};
-ghost use Rattle.ctl_code.specs.Valid.{HasFormals, HaveOperands, IsCalled, IsOperandAt, Bounded, DropsPart, IsAtEnd, IsDeclarable, IsEntry, IsFine, IsInScope, IsScalar, IsText, Leads, Puts, Taken, Takes, Under};
+ghost use Rattle.ctl_code.specs.Valid.{Bounded, DropsPart, IsAtEnd, IsDeclarable, IsEntry, IsFine, IsScalar, IsText, Leads, Puts, Taken, Takes, Under};
 ghost use Rattle.ctl_code.specs.Windows.{HasSlot, depth, height, variable_at};
 
 use crate::accesses::{
     is_free_fine, is_free_part_fine, is_gather_fine, is_new_copy_fine, is_new_copy_in_fine,
     is_new_fine, is_new_in_fine,
 };
+use crate::calls::{
+    is_call_fine, is_copy_back_fine, is_discard_fine, is_evaluate_fine, is_start_fine,
+};
 use crate::code::{Cell, Code, Instr, Named, Operator, Way};
 use crate::images::count_images;
 use crate::kinds::{Kind, is_same_kind};
-use crate::layouts::{is_declarable, is_in_scope};
+use crate::layouts::is_declarable;
 use crate::pools::{is_giving_fine, is_pool_fine, is_taking_fine, is_taking_into_fine};
 use crate::types::{is_binary_of, is_cell_of, is_scalar, is_unary_of};
-use ctl_program::operators::SubprogramKind;
 use ctl_program::types::Ty;
 
 // Where an instruction leads -------------------------------------------------------------------
@@ -136,7 +138,7 @@ fn taken(code: &Code, place: usize, before: usize, cell: Cell, ty: Ty) -> Option
 }
 
 /// Tells whether a new operand stands in this cell, where so many were taken, and the next place finds it.
-fn puts_operand(code: &Code, place: usize, taken: usize, at: usize, ty: Ty) -> bool
+pub(crate) fn puts_operand(code: &Code, place: usize, taken: usize, at: usize, ty: Ty) -> bool
     requires { place + 1 < 2 ^ 64 }
     ensures { let stack = drop taken (stack_at code.now.kinds place) in
         IsTrue result ↔ ((at ≡ height stack) × Leads code.now (place + 1) (Operand ty ∷ stack)) }
@@ -451,7 +453,7 @@ fn is_at_end(code: &Code, place: usize) -> bool
 }
 
 /// Tells whether nothing stands before an instruction.
-fn is_bare(code: &Code, place: usize) -> bool
+pub(crate) fn is_bare(code: &Code, place: usize) -> bool
     ensures { IsTrue result ↔ (stack_at code.now.kinds place ≡ []) }
 {
     matches!(code.kinds.kind_at(place, 0), None)
@@ -472,120 +474,6 @@ fn gives_value(code: &Code, place: usize, from: Cell, ty: Ty) -> bool
         Some(_) => true,
         None => false,
     }
-}
-
-/// Checks the call of a procedure or of a function (RM 6.4): it is declared in a master that is seen, has slots for its actuals, and these
-/// stand on top.
-fn is_called(code: &Code, place: usize, kind: SubprogramKind, number: usize, actuals: usize) -> bool
-    ensures { IsTrue result ↔ IsCalled code.now kind number actuals (stack_at code.now.kinds place) }
-{
-    is_in_scope(code, code.kinds.depth_at(place), Some(number))
-        && has_formals(code, kind, number, actuals)
-        && has_operands(code, place, actuals)
-}
-
-/// Checks the call of a procedure, which leaves so many numbers in the place of its actuals, at most as many as these (RM 6.4, 6.4.1).
-fn is_call_fine(code: &Code, place: usize, number: usize, actuals: usize, copies: usize) -> bool
-    requires { place + 1 < 2 ^ 64 }
-    ensures { IsTrue result ↔ IsFine code.now place (I.Call number actuals copies) (stack_at code.now.kinds place) }
-{
-    is_called(code, place, SubprogramKind::Procedure, number, actuals)
-        && copies <= actuals
-        && code
-            .kinds
-            .leads_over_numbers(place, actuals, None, copies, place + 1)
-}
-
-/// Checks that a copy goes back to a variable: it is the last of so many numbers, in this cell (RM 6.4.1).
-fn is_copy_back_fine(
-    code: &Code,
-    place: usize,
-    depth: usize,
-    at: usize,
-    out: usize,
-    slot: usize,
-) -> bool
-    requires { place + 1 < 2 ^ 64 }
-    ensures { IsTrue result ↔ IsFine code.now place (I.CopyBack depth at out slot) (stack_at code.now.kinds place) }
-{
-    depth >= 1
-        && code.kinds.has_numbers(place, depth)
-        && code.kinds.height_at(place, depth) == at
-        && leads_on(code, place, 0, None)
-        && code.kinds.has_slot(place, out, slot)
-}
-
-/// Checks that so many numbers are dropped.
-fn is_discard_fine(code: &Code, place: usize, count: usize) -> bool
-    requires { place + 1 < 2 ^ 64 }
-    ensures { IsTrue result ↔ IsFine code.now place (I.Discard count) (stack_at code.now.kinds place) }
-{
-    code.kinds.has_numbers(place, count) && leads_on(code, place, count, None)
-}
-
-/// Checks the call of a function, which leaves its value in the place of its actuals (RM 6.4).
-fn is_evaluate_fine(
-    code: &Code,
-    place: usize,
-    number: usize,
-    actuals: usize,
-    ty: Ty,
-    at: usize,
-) -> bool
-    requires { place + 1 < 2 ^ 64 }
-    ensures { IsTrue result ↔ IsFine code.now place (I.Evaluate number actuals ty at) (stack_at code.now.kinds place) }
-{
-    is_scalar(ty)
-        && is_called(code, place, SubprogramKind::Function, number, actuals)
-        && puts_operand(code, place, actuals, at, ty)
-}
-
-/// Tells whether both are procedures, or both are functions.
-fn is_same_subprogram(kind: SubprogramKind, other: SubprogramKind) -> bool
-    ensures { IsTrue result ↔ (kind ≡ other) }
-{
-    match kind {
-        SubprogramKind::Procedure => matches!(other, SubprogramKind::Procedure),
-        SubprogramKind::Function => matches!(other, SubprogramKind::Function),
-    }
-}
-
-/// Tells whether it is a procedure, or a function, whose body has slots for so many formals (RM 6.1).
-pub(crate) fn has_formals(code: &Code, kind: SubprogramKind, number: usize, count: usize) -> bool
-    ensures { IsTrue result ↔ HasFormals code.now kind number count }
-{
-    match code.entries.get(number) {
-        Some(entry) => is_same_subprogram(entry.kind, kind) && count <= entry.slots,
-        None => false,
-    }
-}
-
-/// Checks the start of the main procedure, which is declared in no master (RM 10.2).
-fn is_start_fine(code: &Code, place: usize, number: usize) -> bool
-    ensures { IsTrue result ↔ IsFine code.now place (I.Start number) (stack_at code.now.kinds place) }
-{
-    is_bare(code, place)
-        && is_in_scope(code, 0, Some(number))
-        && has_formals(code, SubprogramKind::Procedure, number, 0)
-}
-
-/// Tells whether an operand stands before an instruction, at this place from the newest on.
-fn is_operand_at(code: &Code, place: usize, depth: usize) -> bool
-    ensures { IsTrue result ↔ IsOperandAt (stack_at code.now.kinds place) depth }
-{
-    matches!(code.kinds.kind_at(place, depth), Some(Kind::Operand(_)))
-}
-
-/// Tells whether so many operands stand on top before an instruction.
-fn has_operands(code: &Code, place: usize, count: usize) -> bool
-    ensures { IsTrue result ↔ HaveOperands count (stack_at code.now.kinds place) }
-{
-    for depth in 0..count {
-        if !is_operand_at(code, place, depth) {
-            return false;
-        }
-    }
-    true
 }
 
 /// Checks the declaration of an object in a slot of the newest master (RM 3.3.1).

@@ -2,6 +2,7 @@
 #![tactic(auto)]
 
 mod accesses;
+mod calls;
 pub mod code;
 mod fine;
 mod images;

@@ -9,8 +9,9 @@ ghost use Rattle.ctl_code.specs.declared.code.Operations.{Operations};
 ghost use Rattle.ctl_code.specs.Kinds.{stack_at};
 ghost use Rattle.ctl_code.specs.Valid.{IsBegun, IsFine, IsStarted, IsValid, MayBeEntry, TakesObject, TakesStorage};
 
+use crate::calls::has_formals;
 use crate::code::{Code, Instr};
-use crate::fine::{has_formals, is_entry, is_fine};
+use crate::fine::{is_entry, is_fine};
 use crate::kinds::Kind;
 use crate::layouts::are_layouts_fine;
 use ctl_program::operators::SubprogramKind;

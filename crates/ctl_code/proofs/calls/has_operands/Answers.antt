@@ -1,7 +1,7 @@
 use Rattle.std.proofs.Common.{refl, arith}
 use Rattle.ctl_code.specs.Kinds.{stack_at}
 use Rattle.ctl_code.proofs.Actuals.{have_all, have_at, one_more}
-use Rattle.ctl_code.proofs.fine.has_operands.Goals as goal
+use Rattle.ctl_code.proofs.calls.has_operands.Goals as goal
 
 pub returns-then-not-is_operand_at : goal.returns-then-not-is_operand_at
 returns-then-not-is_operand_at c =
