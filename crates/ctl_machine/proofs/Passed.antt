@@ -249,6 +249,35 @@ located_parted (suc n) (x ∷ ops) =
     ∙ (append_assoc (located (drop n ops)) (located (take n ops)) (located (x ∷ []))
     ∙ ap (λ (l : List Spot). located (drop n ops) ++ l) (sym (located_more x (take n ops)))))
 
+-- where no part stands, no actual is one
+pub record ArePlain (n : ℕ) (ops : List Word) : Type 0 where
+  pub cells : (base : ℕ) (row : List ℕ) → passed n ops base row ≡ row
+  pub formals : bound n ops ≡ []
+
+none_behind : (xs : List Spot) (s : Spot) → xs ++ s ∷ [] ≡ [] → ⊥
+none_behind xs s e =
+    let long = ap (λ (l : List Spot). length l) e in
+    let both = length-append xs (s ∷ []) in
+    omega (arith, long, both)
+
+plain_actuals : (n : ℕ) (ops : List Word) → located (take n ops) ≡ [] → ArePlain n ops
+plain_actuals zero ops e = record { cells = λ base row. refl; formals = refl }
+plain_actuals (suc n) [] e = record { cells = λ base row. refl; formals = refl }
+plain_actuals (suc n) (Scalar x ∷ ops) e = let p = plain_actuals n ops e in record { cells = λ base row. p.cells base row; formals = p.formals }
+plain_actuals (suc n) (Located s ∷ ops) e = absurd (none_behind (located (take n ops)) s e)
+
+pub nothing_is : (spots : List Spot) → length spots ≡ 0 → spots ≡ []
+nothing_is [] e = refl
+nothing_is (s ∷ spots) e = absurd (omega (arith, e))
+
+pub record NonePassed (n : ℕ) (ops : List Word) (below : List Spot) : Type 0 where
+  pub none : below ≡ []
+  pub plain : ArePlain n ops
+
+pub none_passed : (n : ℕ) (ops : List Word) (below : List Spot) → [] ≡ below ++ located (take n ops) → NonePassed n ops below
+none_passed n ops [] e = record { none = refl; plain = plain_actuals n ops (sym e) }
+none_passed n ops (s ∷ below) e = absurd (cc)
+
 pub some_located : (x : Word) → is_located x ≡ true → length (located (x ∷ [])) ≡ 1
 some_located (Scalar n) e = absurd (cc)
 some_located (Located s) e = refl

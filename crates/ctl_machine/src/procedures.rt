@@ -1,11 +1,12 @@
 //! Procedures and functions are called (RM 6.4).
 
-ghost use Rattle.std.specs.Prelude.{◌≡◌, ◌+◌, ◌^◌, ◌<◌, ◌≤◌, ◌∷◌, ◌++◌, [], IsTrue, List, OnErr, OnOk, length, reverse, take, vec_capacity, vec_len};
+ghost use Rattle.std.specs.Prelude.{◌≡◌, ◌+◌, ◌^◌, ◌<◌, ◌≤◌, ◌∷◌, ◌++◌, [], IsTrue, List, OnErr, OnOk, drop, length, reverse, take, vec_capacity, vec_len};
 ghost use Rattle.ctl_code.specs.Kinds.{stack_at};
 ghost use Rattle.ctl_code.specs.Table as Table;
 ghost use Rattle.ctl_code.specs.States.{State, Word};
 ghost use Rattle.ctl_meaning.specs.Finalization as S;
 ghost use Rattle.ctl_code.specs.Valid.{IsValid};
+ghost use Rattle.ctl_code.specs.Windows.{height};
 ghost use Rattle.ctl_machine.specs.Calling as Calling;
 ghost use Rattle.ctl_machine.specs.Calling.{BeforeCall};
 ghost use Rattle.ctl_machine.specs.Moves.{GoesOn, Makes, here_of};
@@ -84,14 +85,42 @@ fn bind(
     }
 }
 
-/// Counts the values that a call leaves as operands: those of so many copies, or that of a function (RM 6.4, 6.4.1).
+/// Lets the formals of a body stand for the parts that are passed to it, as `bind` does.
 #[inline(always)]
-fn count_values(kind: SubprogramKind, copies: usize) -> usize
-    ensures { result ≡ Calling.count_values kind copies }
+fn bind_parts(
+    code: &Code,
+    place: usize,
+    cells: &mut [u64],
+    spots: &mut Vec<Spot>,
+    formals: &mut Vec<Formal>,
+    base: usize,
+    actuals: usize,
+)
+    ghost t: { List Word × List S.Spot }
+    requires cells { base + actuals ≤ length cells.old }
+    requires formals { vec_len formals.old + actuals ≤ vec_capacity formals.old }
+    requires stack { AreActuals actuals (stack_at code.now.kinds place) t.0 }
+    requires spots { spots.old.items ≡ t.1 ++ located (take actuals t.0) }
+    ensures cells { cells.new ≡ passed actuals t.0 base cells.old }
+    ensures spots { spots.new.items ≡ t.1 }
+    ensures formals { formals.new.items ≡ formals.old.items ++ bound actuals t.0 }
+{
+    // Where no part stands, no actual is one; so it is with most calls.
+    if spots.is_empty() {
+        return;
+    }
+    bind(code, place, cells, spots, formals, base, actuals);
+}
+
+/// Counts the cells of a window below the values that a call has left as operands, at the place where it goes on.
+#[inline(always)]
+fn height_below(code: &Code, kind: SubprogramKind, copies: usize, place: usize) -> usize
+    requires { Calling.HasValue kind (stack_at code.now.kinds place) }
+    ensures { result ≡ height (drop (Calling.count_values kind copies) (stack_at code.now.kinds place)) }
 {
     match kind {
-        SubprogramKind::Procedure => copies,
-        SubprogramKind::Function => 1,
+        SubprogramKind::Procedure => code.kinds.height_at(place, copies),
+        SubprogramKind::Function => code.kinds.height_at(place, 0) - 1,
     }
 }
 
@@ -124,7 +153,7 @@ impl Engine {
         ensures masters { self.new.masters ≡ self.old.masters }
         ensures control { self.new.control ≡ self.old.control }
     {
-        bind(
+        bind_parts(
             code,
             place,
             &mut self.cells,
@@ -160,7 +189,7 @@ impl Engine {
         ensures err { OnErr result (GoesOn self.old self.new self.old.mode self.old.cells.items) }
     {
         let entry = code.entries[body];
-        let base = self.window() + code.kinds.height_at(place + 1, count_values(kind, copies));
+        let base = self.window() + height_below(code, kind, copies, place + 1);
         let link = self.around(entry.level);
         let depth = self.depth_at(link) + 1;
         let outer_formals = self.count_formals();

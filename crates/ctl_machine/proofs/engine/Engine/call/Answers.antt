@@ -15,17 +15,20 @@ use Rattle.ctl_machine.specs.Spots.{standing}
 use Rattle.ctl_machine.specs.Passing.{with_actuals}
 use Rattle.ctl_machine.specs.Shows.{Kept, kept, with_cells, with_master}
 use Rattle.ctl_machine.proofs.Links.{got}
-use Rattle.ctl_machine.proofs.SubprogramCalled.{base_within, call_makes, has_actuals, has_slots, linked_before, passed_spots}
+use Rattle.ctl_machine.proofs.SubprogramCalled.{base_within, call_makes, has_actuals, has_slots, has_value, linked_before, passed_spots}
 use Rattle.ctl_machine.proofs.engine.Engine.call.Goals as goal
 
 -- where the window of the body begins
-begins_at : (kinds : List (List Kind)) (kind : SubprogramKind) (copies place window height_at values first : ℕ) → window ≡ first → height_at ≡ height (drop values (stack_at kinds place)) → values ≡ count_values kind copies → window + height_at ≡ first + height (drop (count_values kind copies) (stack_at kinds place))
-begins_at kinds kind copies place window height_at values first window_is height_is values_is = ap (λ n. n + height_at) window_is ∙ ap (λ n. first + n) (height_is ∙ ap (λ n. height (drop n (stack_at kinds place))) values_is)
+begins_at : (kinds : List (List Kind)) (kind : SubprogramKind) (copies place window below first : ℕ) → window ≡ first → below ≡ height (drop (count_values kind copies) (stack_at kinds place)) → window + below ≡ first + height (drop (count_values kind copies) (stack_at kinds place))
+begins_at kinds kind copies place window below first window_is below_is = ap (λ n. n + below) window_is ∙ ap (λ n. first + n) below_is
+
+pub height_below-requires : goal.height_below-requires
+height_below-requires g c = has_value c.args.kind c.args.copies c.args.code.now (c.args.place + 1) _ c.requires.1.0.goes_on
 
 pub overflow_add-base : goal.overflow_add-base
 overflow_add-base g c =
     let old = c.args.self.now in
-    let is = begins_at c.args.code.now.kinds c.args.kind c.args.copies (c.args.place + 1) c.window.result c.height_at.result c.count_values.result (first_window (reverse old.masters.items)) c.window.ensures c.height_at.ensures c.count_values.ensures in
+    let is = begins_at c.args.code.now.kinds c.args.kind c.args.copies (c.args.place + 1) c.window.result c.height_below.result (first_window (reverse old.masters.items)) c.window.ensures c.height_below.ensures in
     let within = base_within c.args.code.now old c.args.kind c.args.place c.args.body c.args.actuals c.args.copies g.s c.requires.1.0 in
     let bound = old.cells.ok.0 in
     omega (arith, is, within, bound)
@@ -73,7 +76,7 @@ returns-clause-ok g c =
     let hs = heads_of g.s.world.activations in
     let ops = g.s.operands in
     let below = standing g.s.control (drop count ops) in
-    let base = c.window.result + c.height_at.result in
+    let base = c.window.result + c.height_below.result in
     let b : Master = record { number = c.begin_slots.new.self.given_masters + 1; window = base; base = base; slots = entry.slots; link = c.around-link.result; depth = c.depth_at-depth.result + 1; owned = c.count_owned.result; outer_formals = c.count_formals-outer_formals.result; formals = c.count_formals.result; spots = c.count_spots.result } in
     let begun : kept c.begin_slots.new.self ≡ with_actuals (with_cells (kept old) row) ops below base entry.slots count =
     c.begin_slots.ensures.kept ∙ ap (λ (e : Kept). with_actuals e ops below base entry.slots count) goes.kept in
@@ -82,7 +85,7 @@ returns-clause-ok g c =
     (record {
       number = ap (λ n. n + 1) (c.begin_slots.ensures.given ∙ c.in_ok-prepare.ensures.number);
       window = refl;
-      begins = begins_at code.kinds c.args.kind c.args.copies (c.args.place + 1) c.window.result c.height_at.result c.count_values.result (first_window (reverse old.masters.items)) c.window.ensures c.height_at.ensures c.count_values.ensures;
+      begins = begins_at code.kinds c.args.kind c.args.copies (c.args.place + 1) c.window.result c.height_below.result (first_window (reverse old.masters.items)) c.window.ensures c.height_below.ensures;
       slots = refl;
       link = c.around-link.ensures.bound;
       display = c.around-link.ensures.display;
