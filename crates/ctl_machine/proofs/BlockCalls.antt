@@ -7,7 +7,7 @@ use Rattle.ctl_program.specs.declared.types.Ty.TheVariants.{Address, Count}
 use Rattle.ctl_tree.specs.declared.ending.Stop.{Stop}
 use Rattle.ctl_tree.specs.declared.ending.Stop.TheVariants.{UseAfterFree}
 use Rattle.ctl_meaning.specs.Finalization.{Spot}
-use Rattle.ctl_meaning.specs.Outcome.{storage_error}
+use Rattle.ctl_meaning.specs.Outcome.{ByRaise, storage_error}
 use Rattle.ctl_meaning.specs.Pools.{block_pool_at}
 use Rattle.ctl_meaning.specs.World as W
 use Rattle.ctl_meaning.specs.World.{InBlock, InSubpool, Object, Standard, World}
@@ -21,7 +21,7 @@ use Rattle.ctl_code.specs.declared.code.Way.TheVariants as WayOf
 use Rattle.ctl_code.specs.Kinds.{stack_at}
 use Rattle.ctl_code.specs.States as T
 use Rattle.ctl_code.specs.States.{At, Located, Move, Scalar, State, Word}
-use Rattle.ctl_code.specs.Table.{AllocateOf, DeallocateOf, Exhausted, GivenBack, Grant, Granted, NotReturned, Returned, UnknownPool, block_given, block_taken, by_give_block, by_take_block, pool_grant, pool_return, quiet, stopped, with_cell}
+use Rattle.ctl_code.specs.Table.{AllocateOf, DeallocateOf, Exhausted, GivenBack, Grant, Granted, NotReturned, Returned, UnknownPool, block_given, block_taken, by_give_block, by_take_block, gone, pool_grant, pool_return, quiet, stopped, transfers, with_cell}
 use Rattle.ctl_code.specs.Valid.{DropsPart}
 use Rattle.ctl_code.specs.Windows.{height}
 use Rattle.ctl_machine.specs.declared.engine.Engine.{Engine}
@@ -92,16 +92,22 @@ address_asked code e place t s b =
       asked = is_asked code e place 3 (height under.0) t under.0 s (drop 1 s.operands) n under.2 (ap (λ (l : List Kind). height (drop 3 l)) (sym (stack_is code place b.stack b.leads ∙ under.1)));
     }
 
--- its cell is there
-pub asked_within : (code : Code) (e : Engine) (place under : ℕ) (s : State) (ops : List Word) → IsAsked code e place under s ops → first_window (reverse e.masters.items) + height (drop under (stack_at code.kinds place)) < length e.cells.items
-asked_within code e place under s ops a = slice_get_within e.cells.items (first_window (reverse e.masters.items) + height (drop under (stack_at code.kinds place))) a.value a.read
+-- a cell of the newest window with this value is there
+pub value_within : (e : Engine) (at value : ℕ) → slice_get e.cells.items (first_window (reverse e.masters.items) + at) ≡ Some value → first_window (reverse e.masters.items) + at < length e.cells.items
+value_within e at value is = slice_get_within e.cells.items (first_window (reverse e.masters.items) + at) value is
 
 -- and is read
+pub value_read : (e : Engine) (at value window there x : ℕ) → slice_get e.cells.items (first_window (reverse e.masters.items) + at) ≡ Some value → window ≡ first_window (reverse e.masters.items) → there ≡ at → x ≡ slice_index_or e.cells.items (window + there) x → x ≡ value
+value_read e at value window there x value_is first is read =
+    let cell = first_window (reverse e.masters.items) + at in
+    let same : window + there ≡ cell = ap (λ n. n + there) first ∙ ap (λ n. first_window (reverse e.masters.items) + n) is in
+    same_value x value (slice_get e.cells.items cell) (got e.cells.items cell x (value_within e at value value_is) (subst (λ n. x ≡ slice_index_or e.cells.items n x) same read)) value_is
+
+pub asked_within : (code : Code) (e : Engine) (place under : ℕ) (s : State) (ops : List Word) → IsAsked code e place under s ops → first_window (reverse e.masters.items) + height (drop under (stack_at code.kinds place)) < length e.cells.items
+asked_within code e place under s ops a = value_within e (height (drop under (stack_at code.kinds place))) a.value a.read
+
 pub asked_read : (code : Code) (e : Engine) (place under window at x : ℕ) (s : State) (ops : List Word) → (a : IsAsked code e place under s ops) → window ≡ first_window (reverse e.masters.items) → at ≡ height (drop under (stack_at code.kinds place)) → x ≡ slice_index_or e.cells.items (window + at) x → x ≡ a.value
-asked_read code e place under window at x s ops a first is read =
-    let cell = first_window (reverse e.masters.items) + height (drop under (stack_at code.kinds place)) in
-    let there : window + at ≡ cell = ap (λ n. n + at) first ∙ ap (λ n. first_window (reverse e.masters.items) + n) is in
-    same_value x a.value (slice_get e.cells.items cell) (got e.cells.items cell x (asked_within code e place under s ops a) (subst (λ n. x ≡ slice_index_or e.cells.items n x) there read)) a.read
+asked_read code e place under window at x s ops a first is read = value_read e (height (drop under (stack_at code.kinds place))) a.value window at x a.read first is read
 
 -- the pool is read
 pub pool_read : (code : Code) (e : Engine) (place under n count : ℕ) (x : Spot) (s : State) (ops : List Word) → (a : IsAsked code e place under s ops) → count ≡ length e.spots.items → x ≡ slice_index_or e.spots.items (count - 1) x → n ≡ x.object → n ≡ a.pool.object
@@ -128,7 +134,7 @@ with_shown code e t y stack k ops w i objects needs shown = record {
 }
 
 -- the program is erroneous
-stops_makes : (code : Code) (old new : Engine) (e : Kept) (stop : Stop) (k : List T.Frame) (ops : List Word) (w : World) → Holds code e k ops w → new.mode ≡ ModeOf.Stopped stop → kept new ≡ e → new.events.items ≡ old.events.items → new.picks.items ≡ old.picks.items → Makes code old new (stopped stop k w)
+pub stops_makes : (code : Code) (old new : Engine) (e : Kept) (stop : Stop) (k : List T.Frame) (ops : List Word) (w : World) → Holds code e k ops w → new.mode ≡ ModeOf.Stopped stop → kept new ≡ e → new.events.items ≡ old.events.items → new.picks.items ≡ old.picks.items → Makes code old new (stopped stop k w)
 stops_makes code old new e stop k ops w h mode kept_is events picks = record {
   mode = subst (λ (m : Mode). ShowsMode code m (T.Stopped stop) k (heads_of w.activations)) (sym mode) refl;
   holds = subst (λ (x : Kept). Holds code x k [] w) (sym kept_is) (no_operands code e k ops w h);
@@ -220,52 +226,57 @@ served_so code e place n size s t r r' a pool value same served =
     (subst (λ x. IsServed next w t (pool_grant a.pool.object x (block_pool_at a.pool.object w.pools) w) r) value
     (subst (λ x. IsServed next w t (pool_grant x size (block_pool_at x w.pools) w) r) pool served)))
 
--- no block is free, or each is smaller
-pub exhausted_makes : (code : Code) (old new : Engine) (place out slot : ℕ) (s : State) (stack : List Kind) (t : Stock) → IsAsked code old place 2 s s.operands → Inside code (kept old) stack s.control s.operands s.world → OnRequest old s t RequestOf.Exhausted
-    → t.objects ≡ old.stock.objects → t.needs ≡ old.stock.needs → Becomes old new (ModeOf.Transfers (WayOf.Raise 2)) (with_stock t (kept old)) → Makes code old new (by_take_block out slot s.operands (here_of place s))
+-- no block is free, or each is smaller, whatever takes an address
+pub exhausted_by : (code : Code) (old new : Engine) (s : State) (stack : List Kind) (t : Stock) (f : Grant → Move) (r : Grant) → f Exhausted ≡ transfers (ByRaise storage_error) s.control s.world → Inside code (kept old) stack s.control s.operands s.world
+    → IsServed (kept old).next_object s.world t r RequestOf.Exhausted → t.objects ≡ old.stock.objects → t.needs ≡ old.stock.needs → Becomes old new (ModeOf.Transfers (WayOf.Raise 2)) (with_stock t (kept old)) → Makes code old new (f r)
 unfolding storage_error
-exhausted_makes code old new place out slot s stack t a inside served objects needs becomes =
-    subst (λ (m : Move). Makes code old new m) (sym (take_move code old place out slot s a)) (by (grant_in s.operands s.world) served)
-  where
-    by : (r : Grant) → IsServed (kept old).next_object s.world t r RequestOf.Exhausted → Makes code old new (block_taken out slot r a.rest (here_of place s))
-    by (Granted Standard v) x = absurd x
-    by (Granted (InBlock n b) v) x = absurd (cc)
-    by (Granted (InSubpool n) v) x = absurd x
-    by Exhausted x = leaves_makes code old new (with_stock t (kept old)) (WayOf.Raise 2) stack s.control s.operands s.world (with_shown code (kept old) t s.world.pools stack s.control s.operands s.world inside objects needs x.1) becomes
-    by UnknownPool x = absurd (cc)
-    by (AllocateOf o f) x = absurd x
+exhausted_by code old new s stack t f (Granted Standard v) leaves inside x objects needs becomes = absurd x
+exhausted_by code old new s stack t f (Granted (InBlock n b) v) leaves inside x objects needs becomes = absurd (cc)
+exhausted_by code old new s stack t f (Granted (InSubpool n) v) leaves inside x objects needs becomes = absurd x
+exhausted_by code old new s stack t f Exhausted leaves inside x objects needs becomes =
+    subst (λ (m : Move). Makes code old new m) (sym leaves)
+    (leaves_makes code old new (with_stock t (kept old)) (WayOf.Raise 2) stack s.control s.operands s.world (with_shown code (kept old) t s.world.pools stack s.control s.operands s.world inside objects needs x.1) becomes)
+exhausted_by code old new s stack t f UnknownPool leaves inside x objects needs becomes = absurd (cc)
+exhausted_by code old new s stack t f (AllocateOf o p) leaves inside x objects needs becomes = absurd x
 
 -- there is no such pool, or it has closed
+pub unknown_by : (code : Code) (old new : Engine) (s : State) (stack : List Kind) (t : Stock) (f : Grant → Move) (r : Grant) → f UnknownPool ≡ gone s.control s.world → Inside code (kept old) stack s.control s.operands s.world
+    → IsServed (kept old).next_object s.world t r RequestOf.Unknown → t.objects ≡ old.stock.objects → t.needs ≡ old.stock.needs → Becomes old new (ModeOf.Stopped UseAfterFree) (with_stock t (kept old)) → Makes code old new (f r)
+unknown_by code old new s stack t f (Granted Standard v) stops inside x objects needs becomes = absurd x
+unknown_by code old new s stack t f (Granted (InBlock n b) v) stops inside x objects needs becomes = absurd (cc)
+unknown_by code old new s stack t f (Granted (InSubpool n) v) stops inside x objects needs becomes = absurd x
+unknown_by code old new s stack t f Exhausted stops inside x objects needs becomes = absurd (cc)
+unknown_by code old new s stack t f UnknownPool stops inside x objects needs becomes =
+    let i = with_shown code (kept old) t s.world.pools stack s.control s.operands s.world inside objects needs x.1 in
+    subst (λ (m : Move). Makes code old new m) (sym stops)
+    (stops_makes code old new (with_stock t (kept old)) UseAfterFree s.control s.operands s.world i.holds becomes.mode becomes.kept becomes.events becomes.picks)
+unknown_by code old new s stack t f (AllocateOf o p) stops inside x objects needs becomes = absurd x
+
+-- the table's world has the block out
+pub out_inside : (code : Code) (e : Kept) (below : List Kind) (k : List T.Frame) (rest : List Word) (w : World) (t : Stock) (r : Grant) (address : ℕ) → Inside code e below k rest w → IsServed e.next_object w t r (RequestOf.Taken address) → t.objects ≡ e.objects → t.needs ≡ e.needs → Inside code (with_stock t e) below k rest (world_of r w)
+out_inside code e below k rest w t (Granted Standard v) address i x objects needs = absurd x
+out_inside code e below k rest w t (Granted (InBlock n b) v) address i x objects needs = subst (λ (u : World). Inside code (with_stock t e) below k rest u) (sym x.2) (with_shown code e t x.1 below k rest w i objects needs x.3)
+out_inside code e below k rest w t (Granted (InSubpool n) v) address i x objects needs = absurd x
+out_inside code e below k rest w t Exhausted address i x objects needs = absurd (cc)
+out_inside code e below k rest w t UnknownPool address i x objects needs = absurd (cc)
+out_inside code e below k rest w t (AllocateOf o f) address i x objects needs = absurd x
+
+pub exhausted_makes : (code : Code) (old new : Engine) (place out slot : ℕ) (s : State) (stack : List Kind) (t : Stock) → IsAsked code old place 2 s s.operands → Inside code (kept old) stack s.control s.operands s.world → OnRequest old s t RequestOf.Exhausted
+    → t.objects ≡ old.stock.objects → t.needs ≡ old.stock.needs → Becomes old new (ModeOf.Transfers (WayOf.Raise 2)) (with_stock t (kept old)) → Makes code old new (by_take_block out slot s.operands (here_of place s))
+exhausted_makes code old new place out slot s stack t a inside served objects needs becomes =
+    subst (λ (m : Move). Makes code old new m) (sym (take_move code old place out slot s a))
+    (exhausted_by code old new s stack t (λ g. block_taken out slot g a.rest (here_of place s)) (grant_in s.operands s.world) refl inside served objects needs becomes)
+
 pub unknown_makes : (code : Code) (old new : Engine) (place out slot : ℕ) (s : State) (stack : List Kind) (t : Stock) → IsAsked code old place 2 s s.operands → Inside code (kept old) stack s.control s.operands s.world → OnRequest old s t RequestOf.Unknown
     → t.objects ≡ old.stock.objects → t.needs ≡ old.stock.needs → Becomes old new (ModeOf.Stopped UseAfterFree) (with_stock t (kept old)) → Makes code old new (by_take_block out slot s.operands (here_of place s))
 unknown_makes code old new place out slot s stack t a inside served objects needs becomes =
-    subst (λ (m : Move). Makes code old new m) (sym (take_move code old place out slot s a)) (by (grant_in s.operands s.world) served)
-  where
-    by : (r : Grant) → IsServed (kept old).next_object s.world t r RequestOf.Unknown → Makes code old new (block_taken out slot r a.rest (here_of place s))
-    by (Granted Standard v) x = absurd x
-    by (Granted (InBlock n b) v) x = absurd (cc)
-    by (Granted (InSubpool n) v) x = absurd x
-    by Exhausted x = absurd (cc)
-    by UnknownPool x =
-        let i = with_shown code (kept old) t s.world.pools stack s.control s.operands s.world inside objects needs x.1 in
-        stops_makes code old new (with_stock t (kept old)) UseAfterFree s.control s.operands s.world i.holds becomes.mode becomes.kept becomes.events becomes.picks
-    by (AllocateOf o f) x = absurd x
+    subst (λ (m : Move). Makes code old new m) (sym (take_move code old place out slot s a))
+    (unknown_by code old new s stack t (λ g. block_taken out slot g a.rest (here_of place s)) (grant_in s.operands s.world) refl inside served objects needs becomes)
 
--- the pool and the values over it are dropped, and the table's world has the block out
+-- the pool and the values over it are dropped
 pub block_out : (code : Code) (old : Engine) (place address : ℕ) (s : State) (t : Stock) → (a : IsAsked code old place 2 s s.operands) → OnRequest old s t (RequestOf.Taken address) → t.objects ≡ old.stock.objects → t.needs ≡ old.stock.needs
     → Inside code (with_stock t (with_spots (kept old) (standing s.control a.rest))) a.below s.control a.rest (world_of (grant_in s.operands s.world) s.world)
-block_out code old place address s t a served objects needs = by (grant_in s.operands s.world) served
-  where
-    e : Kept
-    e = with_spots (kept old) (standing s.control a.rest)
-
-    by : (r : Grant) → IsServed (kept old).next_object s.world t r (RequestOf.Taken address) → Inside code (with_stock t e) a.below s.control a.rest (world_of r s.world)
-    by (Granted Standard v) x = absurd x
-    by (Granted (InBlock n b) v) x = subst (λ (w : World). Inside code (with_stock t e) a.below s.control a.rest w) (sym x.2) (with_shown code e t x.1 a.below s.control a.rest s.world a.left objects needs x.3)
-    by (Granted (InSubpool n) v) x = absurd x
-    by Exhausted x = absurd (cc)
-    by UnknownPool x = absurd (cc)
-    by (AllocateOf o f) x = absurd x
+block_out code old place address s t a served objects needs = out_inside code (with_spots (kept old) (standing s.control a.rest)) a.below s.control a.rest s.world t (grant_in s.operands s.world) address a.left served objects needs
 
 -- a variable takes its address
 pub taken_makes : (code : Code) (old mid new : Engine) (place out slot address : ℕ) (s : State) (t : Stock) → (a : IsAsked code old place 2 s s.operands) → OnRequest old s t (RequestOf.Taken address) → t.objects ≡ old.stock.objects → t.needs ≡ old.stock.needs

@@ -134,6 +134,7 @@ pub mod PoolDeclared
 pub mod PoolBlocks
 pub mod PoolDiscriminants
 pub mod BlockCalls
+pub mod BlocksInto
 pub mod StorageCalled
 pub mod Placed
 pub mod PlacedMember

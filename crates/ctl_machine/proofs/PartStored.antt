@@ -14,12 +14,13 @@ use Rattle.ctl_code.specs.declared.kinds.Kind.TheVariants.{Operand}
 use Rattle.ctl_code.specs.declared.code.Code.{Code}
 use Rattle.ctl_code.specs.declared.code.Cell.{Cell}
 use Rattle.ctl_code.specs.declared.code.Instr.TheVariants.{StorePart}
-use Rattle.ctl_code.specs.States.{Word, State, Move, Stuck}
-use Rattle.ctl_code.specs.Table.{by_instr, locating, offset_of, on, quiet, store_into, stored, taking}
+use Rattle.ctl_code.specs.States.{Word, State, Frame, Move, Stuck}
+use Rattle.ctl_code.specs.Table.{Here, by_instr, locating, offset_of, on, quiet, store_into, stored, taking}
 use Rattle.ctl_code.specs.Valid.{Leads}
 use Rattle.ctl_machine.specs.declared.engine.Engine.{Engine}
 use Rattle.ctl_machine.specs.declared.frame.Mode.TheVariants as ModeOf
 use Rattle.ctl_machine.specs.Finishing.{with_objects}
+use Rattle.ctl_machine.specs.Masters.{first_display, heads_of}
 use Rattle.ctl_machine.specs.Shows.{Kept, Holds, kept, with_spots}
 use Rattle.ctl_machine.specs.Spots.{first_spot, standing}
 use Rattle.ctl_machine.specs.Moves.{Before, Inside, Makes, GoesOn, here_of}
@@ -77,33 +78,37 @@ value_within code e place s from t position ty b = let i = is_given code e place
 abbrev pub stored_in : ℕ → ℕ → ℕ → Kept → Kept
 stored_in n at x e = with_objects (change_in n (with_cells at (x ∷ [])) e.objects) e
 
+-- a component of an object that is there takes a value, and this is left
+pub stored_makes : (code : Code) (old new : Engine) (place : ℕ) (below : List Kind) (k : List Frame) (rest : List Word) (w : World) (n at x : ℕ) (o : W.Object) → Leads code (place + 1) below → Inside code (with_spots (kept old) (standing k rest)) below k rest w → object_in n old.stock.objects ≡ Some o
+    → new.mode ≡ ModeOf.At (place + 1) → kept new ≡ with_spots (stored_in n at x (kept old)) (standing k rest) → new.events.items ≡ old.events.items → new.picks.items ≡ old.picks.items
+    → Makes code old new (stored n at x (object_at n w) rest (record { display = first_display (heads_of w.activations); place = place; control = k; world = w }))
+unfolding opened_changes
+stored_makes code old new place below k rest w n at x o leads left there mode kept_is events picks =
+    let h : Here = record { display = first_display (heads_of w.activations); place = place; control = k; world = w } in
+    let e = with_spots (kept old) (standing k rest) in
+    let object : object_at n w ≡ Some o = object_shown code e k rest w n left.holds ∙ there in
+    let inside : Inside code (stored_in n at x e) below k rest (write_cells n at (x ∷ []) w) = record {
+      stands = left.stands;
+      sized = left.sized;
+      holds = holds_changed code e k rest w n (with_cells at (x ∷ [])) (cells_keep at (x ∷ [])) left.holds;
+      spots = refl;
+    } in
+    subst (λ z. Makes code old new (stored n at x z rest h)) (sym object)
+    (goes_keeping code old new (stored_in n at x e) (place + 1) below k rest (write_cells n at (x ∷ []) w) leads inside mode kept_is events picks)
+
 pub part_makes : (code : Code) (old new : Engine) (place : ℕ) (s : State) (from : Cell) (t position offset x : ℕ) (ty : Ty) (o : W.Object) → Before code old place (StorePart from ty t position) s
     → slice_get old.cells.items (cell_of old from) ≡ Some x → (let y = first_spot (parts_of from s) in object_in y.object old.stock.objects ≡ Some o
     → new.mode ≡ ModeOf.At (place + 1) → kept new ≡ with_spots (stored_in y.object (y.offset + offset) x (kept old)) (standing s.control (drop 1 (parts_of from s))) → new.events.items ≡ old.events.items → new.picks.items ≡ old.picks.items
     → (t' position' : ℕ) (ty' : Ty) → offset ≡ offset_of code t' position' → Makes code old new (by_instr code (Some (StorePart from ty' t' position')) s.operands (here_of place s)))
-unfolding opened_changes
 part_makes code old new place s from t position offset x ty o b value_read there mode kept_is events picks t' position' ty' same =
     let i = is_given code old place s from t position ty b in
     let y = first_spot (parts_of from s) in
     let rest = drop 1 (parts_of from s) in
-    let k = s.control in
-    let w = s.world in
-    let at = y.offset + offset in
     let value : x ≡ i.value = same_value x i.value (slice_get old.cells.items (cell_of old from)) value_read i.value_read in
-    let object : object_at y.object w ≡ Some o = object_shown code (kept old) k (parts_of from s) w y.object i.holds ∙ there in
-    let h = here_of place s in
-    let left = with_spots (kept old) (standing k rest) in
-    let e = stored_in y.object at x left in
-    let stored_there : Holds code e k rest (write_cells y.object at (x ∷ []) w) = holds_changed code left k rest w y.object (with_cells at (x ∷ [])) (cells_keep at (x ∷ [])) i.left.holds in
-    let inside : Inside code e i.below k rest (write_cells y.object at (i.value ∷ []) w) = record {
-      stands = i.left.stands;
-      sized = i.left.sized;
-      holds = subst (λ c. Holds code e k rest (write_cells y.object at (c ∷ []) w)) value stored_there;
-      spots = refl;
-    } in
-    let made : Makes code old new (on rest (write_cells y.object at (i.value ∷ []) w) h) = goes_keeping code old new e (place + 1) i.below k rest (write_cells y.object at (i.value ∷ []) w) i.leads inside mode kept_is events picks in
     subst (λ c. Makes code old new (store_move from c place s)) same
-    (subst (λ (m : Move). Makes code old new m) (sym (i.move offset ∙ ap (λ (z : Option W.Object). stored y.object at i.value z rest h) object)) made)
+    (subst (λ (m : Move). Makes code old new m) (sym (i.move offset))
+    (subst (λ c. Makes code old new (store_into offset c y rest (here_of place s))) value
+    (stored_makes code old new place i.below s.control rest s.world y.object (y.offset + offset) x o i.leads i.left there mode kept_is events picks)))
 
 pub store_gone : (code : Code) (old new : Engine) (place : ℕ) (s : State) (from : Cell) (t position offset : ℕ) (ty : Ty) → Before code old place (StorePart from ty t position) s
     → object_in (first_spot (parts_of from s)).object old.stock.objects ≡ None → GoesOn old new (ModeOf.Stopped UseAfterFree) old.cells.items

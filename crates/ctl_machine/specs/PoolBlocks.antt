@@ -64,3 +64,33 @@ pub record IsAsked (code : Code) (e : Engine) (place under : ℕ) (s : State) (o
   pub spots : e.spots.items ≡ standing s.control rest ++ pool ∷ []
   pub leads : Leads code (place + 1) below
   pub left : Inside code (with_spots (kept e) (standing s.control rest)) below s.control rest s.world
+
+-- A component takes the address ------------------------------------------------------------------------
+
+-- what comes of the request that these operands are, in a world, where the part that has the component stands over the pool
+abbrev pub grant_into : List Word → World → Grant
+grant_into (Scalar alignment ∷ Scalar size ∷ Located part ∷ Located pool ∷ ops) w = pool_grant pool.object size (block_pool_at pool.object w.pools) w
+grant_into _ w = UnknownPool
+
+-- the size that is asked for stands below the alignment, the part that has the component below both, the newest one, and the pool below that;
+-- this is left without them
+pub record IsAskedInto (code : Code) (e : Engine) (place : ℕ) (s : State) : Type 0 where
+  pub alignment : ℕ
+  pub size : ℕ
+  pub part : Spot
+  pub pool : Spot
+  pub rest : List Word
+  pub below : List Kind
+  pub are : s.operands ≡ Scalar alignment ∷ Scalar size ∷ Located part ∷ Located pool ∷ rest
+  pub read : slice_get e.cells.items (first_window (reverse e.masters.items) + height (drop 2 (stack_at code.kinds place))) ≡ Some size
+  pub spots : e.spots.items ≡ (standing s.control rest ++ pool ∷ []) ++ part ∷ []
+  pub leads : Leads code (place + 1) below
+  pub left : Inside code (with_spots (kept e) (standing s.control rest)) below s.control rest s.world
+
+-- a part stands over a pool and what a state has below both
+pub record StandsOnPool (code : Code) (e : Engine) (place : ℕ) (part : Spot) (s : State) : Type 0 where
+  pub pool : Spot
+  pub below : List Kind
+  pub spots : e.spots.items ≡ (standing s.control s.operands ++ pool ∷ []) ++ part ∷ []
+  pub leads : Leads code (place + 1) below
+  pub left : Inside code (with_spots (kept e) (standing s.control s.operands)) below s.control s.operands s.world

@@ -1,9 +1,11 @@
-//! The library's Allocate and Deallocate, as a program calls them (RM 13.11): a block goes out of a pool, and a variable takes its address; a
-//! block comes back to its pool. The pool is the newest part, below the values on top. And discriminants of pools, which are read (RM 3.7).
+//! The library's Allocate and Deallocate, as a program calls them (RM 13.11): a block goes out of a pool, and a variable or a component takes
+//! its address; a block comes back to its pool. The pool is the newest part, below the values on top, but where a component takes the address:
+//! the part that has it stands over the pool. And discriminants of pools, which are read (RM 3.7).
 
 ghost use Rattle.std.specs.Prelude.{◌≡◌, ◌+◌, ◌^◌, ◌<◌, ℕ, IfNone, IfOk, IfSome, IsTrue, List, OnErr, OnOk, Some, is_some, true};
 ghost use Rattle.std.specs.Option.{option_map};
 ghost use Rattle.ctl_tree.specs.declared.ending.Stop.TheVariants as StopOf;
+ghost use Rattle.ctl_meaning.specs.Finalization.{Spot};
 ghost use Rattle.ctl_meaning.specs.Objects.{object_in};
 ghost use Rattle.ctl_meaning.specs.Pools.{block_pool_at};
 ghost use Rattle.ctl_meaning.specs.World as W;
@@ -15,12 +17,13 @@ ghost use Rattle.ctl_code.specs.States.{State, Word};
 ghost use Rattle.ctl_code.specs.Table as Table;
 ghost use Rattle.ctl_code.specs.Valid.{IsValid};
 ghost use Rattle.ctl_machine.specs.Moves.{Before, GoesOn, Makes, here_of};
-ghost use Rattle.ctl_machine.specs.PoolBlocks.{IsAccepted, IsAsked, IsServed, is_open_at};
+ghost use Rattle.ctl_machine.specs.PoolBlocks.{IsAccepted, IsAsked, IsAskedInto, IsServed, StandsOnPool, is_open_at};
 ghost use Rattle.ctl_machine.specs.Windows.{Comes};
 ghost use Rattle.ctl_machine.specs.declared.frame.Mode.TheVariants as ModeOf;
 
 use crate::engine::Engine;
 use crate::frame::Mode;
+use crate::parts::offset_of;
 use ctl_code::code::{Cell, Code, PoolDiscriminant, Way};
 use ctl_objects::{BlockReturn, Objects, PoolState};
 use ctl_tree::ending::Stop;
@@ -170,6 +173,65 @@ impl Engine {
             Request::Taken(address) => {
                 let _ = self.spots.take_last();
                 self.give(code, out, slot, address, place + 1);
+            }
+            Request::Exhausted => self.go_on(Mode::Transfers(Way::Raise(STORAGE_ERROR))),
+            Request::Unknown => self.go_on(Mode::Stopped(Stop::UseAfterFree)),
+        }
+        Ok(())
+    }
+
+    /// Answers the number of the pool that is the part below the newest one, and the size below the alignment on top.
+    fn pool_below(&self, code: &Code, place: usize) -> (u64, u64)
+        ghost s: { State }
+        requires { IsAskedInto code.now self.now place s }
+        ensures { (a : IsAskedInto code.now self.now place s) → (result.0 ≡ a.pool.object) × (result.1 ≡ a.size) }
+    {
+        let size = self.cells[self.window() + code.kinds.height_at(place, 2)];
+        let pool = self.spots[self.count_spots() - 2].object();
+        (pool, size)
+    }
+
+    /// Gives a component of the newest part an address, by the first cell of the component, and takes the part and the pool below it off; where
+    /// the object of the part is gone, the program is erroneous (RM 13.11.2).
+    fn store_address(&mut self, code: &Code, offset: usize, address: u64, place: usize)
+        ghost s: { Spot × State }
+        requires stands { StandsOnPool code.now self.old place s.0 s.1 }
+        requires place { place + 1 < 2 ^ 64 }
+        ensures { Makes code.now self.old self.new (Table.store_into offset address s.0 s.1.operands (here_of place s.1)) }
+    {
+        let _ = code;
+        let part = self.spots.take_last();
+        let _ = self.spots.take_last();
+        if !self.stock.exists(part.object()) {
+            self.mode = Mode::Stopped(Stop::UseAfterFree);
+            return;
+        }
+        self.stock
+            .write_part(part.object(), part.offset(), offset, address);
+        self.mode = Mode::At(place + 1);
+    }
+
+    /// Takes a block out of the pool that is the part below the newest one, for the size below the alignment on top; a component of the newest
+    /// part takes its address, by its record type and the position of the component (RM 13.11). Where no block is free, or each is smaller,
+    /// Storage_Error is raised; where the pool is gone or has closed, or the object of the component is gone, the program is erroneous.
+    /// Unchanged where memory is refused.
+    pub(crate) fn take_block_into(
+        &mut self,
+        code: &Code,
+        record: usize,
+        position: usize,
+        place: usize,
+    ) -> Result<(), AllocError>
+        ghost s: { State }
+        requires before { (t : ℕ) × Before code.now self.old place (InstrOf.TakeBlockInto t «record» position) s }
+        requires place { place + 1 < 2 ^ 64 }
+        ensures ok { (t : ℕ) → OnOk result (Makes code.now self.old self.new (Table.by_instr code.now (Some (InstrOf.TakeBlockInto t «record» position)) s.operands (here_of place s))) }
+        ensures err { OnErr result (GoesOn self.old self.new self.old.mode self.old.cells.items) }
+    {
+        let (pool, size) = self.pool_below(code, place);
+        match take_from(&mut self.stock, pool, size)? {
+            Request::Taken(address) => {
+                self.store_address(code, offset_of(code, record, position), address, place);
             }
             Request::Exhausted => self.go_on(Mode::Transfers(Way::Raise(STORAGE_ERROR))),
             Request::Unknown => self.go_on(Mode::Stopped(Stop::UseAfterFree)),
