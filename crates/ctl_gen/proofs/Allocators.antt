@@ -600,11 +600,11 @@ module _ (ask : Ask) (k : Tables) (code : Code) (setting : Setting k code) (call
     this_set (Some v) pool x ops h l = refl
 
     -- an exception in its step
-    raise_runs : (value : Option (List ℕ)) (e : ℕ) (p : Point) (ks : List Frame) (s0 : State) (c : ℕ) (l : Log) (w : World) → Since k code w0 w → step ask code s0 ≡ transferred (ByRaise e) ks l w → Gets 6 (allocator_steps value) s0 c0 p ks (Gives (Leaves (ByRaise e)) 0 c l w)
+    raise_runs : (value : Option (List ℕ)) (e : ℕ) (p : Point) (ks : List Frame) (s0 : State) (c : ℕ) (l : Log) (w : World) → Since k code w0 w → step ask code s0 ≡ transferred (ByRaise e) ks l w → Gets 6 (allocator_steps value) s0 c p ks (Gives (Leaves (ByRaise e)) 0 c l w)
     raise_runs value e p ks s0 c l w fits first = one_step_to ask code (Allocates k code w0) 5 6 6 (allocator_steps value) s0 (transferred (ByRaise e) ks l w) c c (returned_to (AfterFunction p) ks) (Gives (Leaves (ByRaise e)) 0 c l w) (omega arith) (steps_enough value) (omega arith) (omega arith) first (raises 5 6 e p ks c l w fits)
 
     -- a use of what has ceased to exist
-    gone_runs : (value : Option (List ℕ)) (p : Point) (ks : List Frame) (s0 : State) (c : ℕ) (l : Log) (w : World) → step ask code s0 ≡ moved l (Table.gone ks w) → Gets 6 (allocator_steps value) s0 c0 p ks (Stops UseAfterFree 0 l)
+    gone_runs : (value : Option (List ℕ)) (p : Point) (ks : List Frame) (s0 : State) (c : ℕ) (l : Log) (w : World) → step ask code s0 ≡ moved l (Table.gone ks w) → Gets 6 (allocator_steps value) s0 c p ks (Stops UseAfterFree 0 l)
     gone_runs value p ks s0 c l w first = stop_step_to ask code (Allocates k code w0) 6 (allocator_steps value) s0 _ c 0 (returned_to (AfterFunction p) ks) UseAfterFree l (let enough = steps_enough value in omega (arith, enough)) first refl refl
 
     -- where storage is granted, or not

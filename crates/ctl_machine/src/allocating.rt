@@ -385,8 +385,8 @@ impl Engine {
         requires objects { self.old.numbered.objects + 1 < 2 ^ 64 }
         ensures ok { IfOk result (PlacesThere code.now self.old self.new «record» s) }
         ensures err { OnErr result (GoesOn self.old self.new self.old.mode self.old.cells.items) }
-        ensures control { OnOk result (IfOk result (λ answer. OnOk answer (vec_len self.new.control + 2 ≤ vec_capacity self.new.control))) }
-        ensures spots { OnOk result (IfOk result (λ answer. OnOk answer (vec_len self.new.spots < vec_capacity self.new.spots))) }
+        ensures control { IfOk result (λ answer. OnOk answer (vec_len self.new.control + 2 ≤ vec_capacity self.new.control)) }
+        ensures spots { IfOk result (λ answer. OnOk answer (vec_len self.new.spots < vec_capacity self.new.spots)) }
         ensures events { self.new.events ≡ self.old.events }
         ensures picks { self.new.picks ≡ self.old.picks }
     {
