@@ -291,7 +291,8 @@ impl Engine {
 
     /// Goes on with an assignment behind the finalization of its target, if the target is still there (RM 13.11.2): it takes the value, and
     /// is adjusted (RM 7.6); unchanged where memory is refused.
-    #[inline(always)]
+    // Apart from what hands on, into which all that is executed most often is inlined.
+    #[inline(never)]
     fn resume_taking(&mut self, code: &Code, record: usize, place: usize) -> Result<(), AllocError>
         ghost s: { State }
         requires valid { IsValid code.now }

@@ -135,6 +135,7 @@ impl Objects {
     }
 
     /// Answers whether an object exists. It takes the time to find the object.
+    #[inline(always)]
     pub fn exists(&self, number: u64) -> bool
         ensures { result ≡ is_some (object_in number self.now.objects) }
     {

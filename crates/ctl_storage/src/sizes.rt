@@ -71,8 +71,20 @@ impl PoolSizes {
         self.sizes.put(number, size);
     }
 
-    /// Answers the discriminants of a pool, where there is one of this number.
+    /// Answers the discriminants of a pool, where there is one of this number. Where no pool was ever
+    /// noted, it takes no look-up.
+    #[inline(always)]
     pub fn get(&self, number: u64) -> Option<&PoolSize>
+        ensures { option_copied result ≡ map.get self.now.values number }
+    {
+        if !self.are_used() {
+            return None;
+        }
+        self.noted(number)
+    }
+
+    /// Looks the discriminants of a pool up, where there is one of this number.
+    fn noted(&self, number: u64) -> Option<&PoolSize>
         ensures { option_copied result ≡ map.get self.now.values number }
     {
         self.sizes.get(number)
