@@ -1,12 +1,13 @@
 -- Discriminants of pools: one takes the place of the pool, the newest part (3.7, 13.11).
-use Rattle.std.proofs.Common.{◌≡◌, ℕ, ◌+◌, ◌<◌, List, [], Option, Some, None, drop, length, refl, sym, ap, ◌∙◌, subst, reverse}
-use Rattle.std.specs.Prelude.{slice_set}
+use Rattle.std.proofs.Common.{◌≡◌, ℕ, ◌+◌, ◌-◌, ◌<◌, List, Option, Some, None, drop, length, refl, sym, ap, ◌∙◌, subst, reverse}
+use Rattle.std.specs.Prelude.{slice_index_or, slice_set}
 use Rattle.std.specs.Option.{option_map}
 use Rattle.ctl_tree.specs.declared.ending.Stop.TheVariants.{UseAfterFree}
 use Rattle.ctl_program.specs.declared.types.Ty.TheVariants.{Count}
 use Rattle.ctl_meaning.specs.World as W
 use Rattle.ctl_meaning.specs.World.{BlockPool}
 use Rattle.ctl_meaning.specs.Pools.{block_pool_at}
+use Rattle.ctl_meaning.specs.Finalization.{Spot}
 use Rattle.ctl_code.specs.declared.kinds.Kind.{Kind}
 use Rattle.ctl_code.specs.declared.code.Code.{Code}
 use Rattle.ctl_code.specs.declared.code.Cell.{Cell}
@@ -27,6 +28,7 @@ use Rattle.ctl_machine.proofs.Located.{located_move, part_on_top}
 use Rattle.ctl_machine.proofs.Operands.{HasPart}
 use Rattle.ctl_machine.proofs.Plain.{put_makes, put_within}
 use Rattle.ctl_machine.proofs.Touched.{gone_makes, part_move}
+use Rattle.ctl_machine.proofs.Words.{newest_read}
 
 -- what is known of the pool of a number in these pools
 abbrev pub discriminant_at : PoolDiscriminant → ℕ → W.Pools → Option ℕ
@@ -56,6 +58,14 @@ discriminant_makes code old mid new place s t which to x valid b is mid_is event
     let made = put_makes code mid new place to Count below s.control (drop 1 s.operands) s.world x tt valid (subst (λ (e : Kept). Inside code e below s.control (drop 1 s.operands) s.world) (sym mid_is) p.left) b.fine.2 g in
     subst (λ (m : Move). Makes code old new m) (sym (discriminant_move code old place s below t' which to (Some x) p is))
     (makes_later code old mid new _ events picks made)
+
+-- the pool that is read is the newest part
+pub discriminant_read : (code : Code) (old : Engine) (place : ℕ) (s : State) (t : ℕ) (which : PoolDiscriminant) (to : Cell) → Before code old place (TakeDiscriminant t which to) s → (q : Spot) (count n : ℕ) → count ≡ length old.spots.items → q ≡ slice_index_or old.spots.items (count - 1) q → n ≡ q.object
+    → discriminant_at which n s.world.pools ≡ discriminant_at which (first_spot s.operands).object s.world.pools
+discriminant_read code old place s t which to b q count n many read is =
+    let p = part_on_top code old t b.stack b.fine.0 s b.inside b.fine.1 in
+    let newest = newest_read old.spots.items (standing s.control (drop 1 s.operands)) (first_spot s.operands) q count p.spots many read in
+    ap (λ (i : ℕ). discriminant_at which i s.world.pools) (is ∙ ap (λ (z : Spot). z.object) newest)
 
 pub discriminant_within : (code : Code) (old mid : Engine) (place : ℕ) (s : State) (t : ℕ) (which : PoolDiscriminant) (to : Cell) → IsValid code → Before code old place (TakeDiscriminant t which to) s → kept mid ≡ with_spots (kept old) (standing s.control (drop 1 s.operands))
     → first_window (reverse mid.masters.items) + to.at < length mid.cells.items
