@@ -1,4 +1,4 @@
-use Rattle.std.proofs.Common.{◌∙◌, List, Option, Some, None, ap, drop, refl, sym, ℕ}
+use Rattle.std.proofs.Common.{◌∙◌, List, ap, drop, refl, sym, ℕ}
 use Rattle.ctl_meaning.specs.Finalization.{Spot}
 use Rattle.ctl_machine.specs.declared.engine.Engine.{Engine}
 use Rattle.ctl_machine.specs.Shows.{kept, with_spots}
