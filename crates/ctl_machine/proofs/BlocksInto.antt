@@ -4,10 +4,8 @@ use Rattle.std.proofs.Common.{◌≡◌, ℕ, ◌+◌, ◌-◌, ◌≤◌, List,
 use Rattle.std.specs.Prelude.{slice_get, slice_index_or}
 use Rattle.ctl_program.specs.declared.types.Ty.TheVariants.{Count, Record}
 use Rattle.ctl_tree.specs.declared.ending.Stop.TheVariants.{UseAfterFree}
-use Rattle.ctl_meaning.specs.Changes.{object_at}
 use Rattle.ctl_meaning.specs.Finalization.{Spot}
 use Rattle.ctl_meaning.specs.Objects.{object_in}
-use Rattle.ctl_meaning.specs.Outcome.{ByRaise, storage_error}
 use Rattle.ctl_meaning.specs.Pools.{block_pool_at}
 use Rattle.ctl_meaning.specs.World as W
 use Rattle.ctl_meaning.specs.World.{InBlock, InSubpool, Standard, World}
@@ -19,8 +17,7 @@ use Rattle.ctl_code.specs.declared.code.Instr.TheVariants.{TakeBlockInto}
 use Rattle.ctl_code.specs.declared.code.Way.TheVariants as WayOf
 use Rattle.ctl_code.specs.Kinds.{stack_at}
 use Rattle.ctl_code.specs.States.{Located, Move, Scalar, State, Word}
-use Rattle.ctl_code.specs.States as T
-use Rattle.ctl_code.specs.Table.{AllocateOf, Exhausted, Grant, Granted, Here, UnknownPool, block_taken_into, by_take_block_into, pool_grant, store_into, stored}
+use Rattle.ctl_code.specs.Table.{AllocateOf, Exhausted, Grant, Granted, UnknownPool, block_taken_into, by_take_block_into, pool_grant, store_into, stored}
 use Rattle.ctl_code.specs.Windows.{height}
 use Rattle.ctl_machine.specs.declared.engine.Engine.{Engine}
 use Rattle.ctl_machine.specs.declared.frame.Mode.TheVariants as ModeOf

@@ -15,7 +15,7 @@ use Rattle.ctl_code.specs.declared.code.Code.{Code}
 use Rattle.ctl_code.specs.declared.code.Cell.{Cell}
 use Rattle.ctl_code.specs.declared.code.Instr.TheVariants.{StorePart}
 use Rattle.ctl_code.specs.States.{Word, State, Frame, Move, Stuck}
-use Rattle.ctl_code.specs.Table.{Here, by_instr, locating, offset_of, on, quiet, store_into, stored, taking}
+use Rattle.ctl_code.specs.Table.{Here, by_instr, locating, offset_of, quiet, store_into, stored, taking}
 use Rattle.ctl_code.specs.Valid.{Leads}
 use Rattle.ctl_machine.specs.declared.engine.Engine.{Engine}
 use Rattle.ctl_machine.specs.declared.frame.Mode.TheVariants as ModeOf

@@ -3,7 +3,7 @@ use Rattle.ctl_meaning.specs.Finalization.{Spot}
 use Rattle.ctl_meaning.specs.Objects.{change_in, object_in, with_cells}
 use Rattle.ctl_machine.specs.Shows.{kept, with_spots}
 use Rattle.ctl_machine.specs.Spots.{standing}
-use Rattle.ctl_machine.proofs.BlocksInto.{address_gone, address_stored, both_dropped, two_parts}
+use Rattle.ctl_machine.proofs.BlocksInto.{address_gone, address_stored, both_dropped}
 use Rattle.ctl_machine.proofs.Owned.{none_there, some_there}
 use Rattle.ctl_machine.proofs.Stocked.{stocked}
 use Rattle.ctl_machine.proofs.engine.Engine.store_address.Goals as goal
