@@ -1,5 +1,5 @@
 use Rattle.std.specs.Prelude.{◌<◌, ◌≤◌, OnOk, vec_capacity, vec_len}
-use Rattle.std.proofs.Common.{◌≡◌, ◌+◌, ◌∙◌, Err, Ok, Result, ap, refl, subst, sym, ℕ}
+use Rattle.std.proofs.Common.{◌+◌, Err, Ok, Result, ap, refl, subst, sym, ℕ}
 use Rattle.ctl_code.specs.Table.{member_begins}
 use Rattle.ctl_machine.specs.declared.frame.Mode.{Mode}
 use Rattle.ctl_machine.specs.Granting.{IsAdded, PlacesThere}

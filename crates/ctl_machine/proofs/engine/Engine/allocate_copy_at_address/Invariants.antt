@@ -1,5 +1,3 @@
-use Rattle.ctl_meaning.specs.World.{InBlock}
-use Rattle.ctl_machine.specs.Granting.{number_at}
 use Rattle.ctl_machine.proofs.CopyAllocated.{kept_state}
 use Rattle.ctl_machine.proofs.engine.Engine.allocate_copy_at_address.Given as goal
 

@@ -1,7 +1,6 @@
-use Rattle.std.proofs.Common.{◌+◌, ◌∙◌, ap, arith, reverse, subst, sym}
+use Rattle.std.proofs.Common.{◌+◌, ◌∙◌, ap, arith}
 use Rattle.ctl_meaning.specs.Objects.{object_in}
 use Rattle.ctl_code.specs.Windows.{height}
-use Rattle.ctl_machine.specs.Masters.{first_window}
 use Rattle.ctl_machine.proofs.Blocks.{stack_is}
 use Rattle.ctl_machine.proofs.Following.{makes_later}
 use Rattle.ctl_machine.proofs.UserAllocates.{asks_over}

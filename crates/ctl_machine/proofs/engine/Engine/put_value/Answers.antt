@@ -1,4 +1,4 @@
-use Rattle.std.proofs.Common.{◌∷◌, ◌++◌, ◌∙◌, [], List, ap, arith, sym}
+use Rattle.std.proofs.Common.{◌∷◌, ◌++◌, ◌∙◌, [], List, ap, sym}
 use Rattle.std.specs.Prelude.{slice_set}
 use Rattle.ctl_meaning.specs.Finalization.{Spot}
 use Rattle.ctl_machine.specs.Shows.{kept}
