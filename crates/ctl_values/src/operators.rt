@@ -61,54 +61,18 @@ fn held(ty: Ty, number: i64) -> Option<u64>
     }
 }
 
-/// Answers the cell of a sum, which may not fit a word.
-#[cold]
-#[inline(never)]
-fn wide_sum(ty: Ty, left: i64, right: i64) -> Option<u64>
+/// Answers the cell of a sum.
+fn sum(ty: Ty, left: i64, right: i64) -> Option<u64>
     ensures { result ≡ Numbers.held ty (left +ℤ right) }
 {
     held(ty, left.checked_add(right)?)
 }
 
-/// Answers the cell of a difference, which may not fit a word.
-#[cold]
-#[inline(never)]
-fn wide_difference(ty: Ty, left: i64, right: i64) -> Option<u64>
-    ensures { result ≡ Numbers.held ty (left -ℤ right) }
-{
-    held(ty, left.checked_sub(right)?)
-}
-
-/// Answers the cell of a sum. That both numbers are Integer's, so that it fits a word, is asked for faster than whether it does.
-#[inline(always)]
-#[tactic(auto)]
-fn sum(ty: Ty, left: i64, right: i64) -> Option<u64>
-    ensures { result ≡ Numbers.held ty (left +ℤ right) }
-{
-    if left < INTEGER_FIRST
-        || INTEGER_LAST < left
-        || right < INTEGER_FIRST
-        || INTEGER_LAST < right
-    {
-        return wide_sum(ty, left, right);
-    }
-    held(ty, left + right)
-}
-
-/// Answers the cell of a difference, as that of a sum.
-#[inline(always)]
-#[tactic(auto)]
+/// Answers the cell of a difference.
 fn difference(ty: Ty, left: i64, right: i64) -> Option<u64>
     ensures { result ≡ Numbers.held ty (left -ℤ right) }
 {
-    if left < INTEGER_FIRST
-        || INTEGER_LAST < left
-        || right < INTEGER_FIRST
-        || INTEGER_LAST < right
-    {
-        return wide_difference(ty, left, right);
-    }
-    held(ty, left - right)
+    held(ty, left.checked_sub(right)?)
 }
 
 /// Answers the cell of a product.
