@@ -25,7 +25,13 @@ fn is_called(code: &Code, place: usize, kind: SubprogramKind, number: usize, act
 }
 
 /// Checks the call of a procedure, which leaves so many numbers in the place of its actuals, at most as many as these (RM 6.4, 6.4.1).
-pub(crate) fn is_call_fine(code: &Code, place: usize, number: usize, actuals: usize, copies: usize) -> bool
+pub(crate) fn is_call_fine(
+    code: &Code,
+    place: usize,
+    number: usize,
+    actuals: usize,
+    copies: usize,
+) -> bool
     requires { place + 1 < 2 ^ 64 }
     ensures { IsTrue result ↔ IsFine code.now place (I.Call number actuals copies) (stack_at code.now.kinds place) }
 {
