@@ -265,6 +265,7 @@ plain_actuals zero ops e = record { cells = λ base row. refl; formals = refl }
 plain_actuals (suc n) [] e = record { cells = λ base row. refl; formals = refl }
 plain_actuals (suc n) (Scalar x ∷ ops) e = let p = plain_actuals n ops e in record { cells = λ base row. p.cells base row; formals = p.formals }
 plain_actuals (suc n) (Located s ∷ ops) e = absurd (none_behind (located (take n ops)) s e)
+plain_actuals (suc n) (Cells v ∷ ops) e = absurd (none_behind (located (take n ops)) (value_spot v) e)
 
 pub nothing_is : (spots : List Spot) → length spots ≡ 0 → spots ≡ []
 nothing_is [] e = refl
