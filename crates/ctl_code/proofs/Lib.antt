@@ -6,11 +6,13 @@ pub mod FittingInstructions
 pub mod FittingSteps
 pub mod FittingWorlds
 pub mod Declarable
+pub mod Raising
 pub mod Links
 pub mod Lists
 pub mod Logs
 pub mod Numbered
 pub mod Numbers
+pub mod Rows
 pub mod Shapes
 pub mod Small
 pub mod Storage

@@ -16,5 +16,7 @@ pub mod Steps
 pub mod Laws
 pub mod Stacks
 pub mod Windows
+pub mod Homes
 pub mod Valid
+pub mod Demands
 pub mod Fits

@@ -6,8 +6,10 @@ ghost use Rattle.ctl_code.specs.Kinds.{changed, stack_at};
 ghost use Rattle.ctl_code.specs.Valid.{HasCollection, HasVariable, IsAllocable, IsFine, IsGathered, Leads, MayHaveVariable, over_numbers};
 ghost use Rattle.ctl_code.specs.Windows.{depth};
 
+use crate::around::has_home;
 use crate::code::Code;
 use crate::fine::{has, is_operand, is_part, leads_on};
+use crate::homes::Declaration;
 use crate::kinds::Kind;
 use crate::layouts::is_declarable;
 use crate::types::is_scalar;
@@ -28,21 +30,21 @@ fn is_allocable(code: &Code, masters: usize, access: usize, record: usize) -> bo
     }
 }
 
-/// Tells whether the master of a variable stands around an instruction, and has its slot where the body has entered it (RM 7.6.1).
+/// Tells whether the master of a variable stands around an instruction, and has its slot (RM 7.6.1).
 fn has_variable(code: &Code, place: usize, variable: Var) -> bool
-    ensures { IsTrue result ↔ HasVariable (stack_at code.now.kinds place) variable }
+    ensures { IsTrue result ↔ HasVariable code.now.homes (stack_at code.now.kinds place) variable }
 {
     let depth = code.kinds.depth_at(place);
     1 <= variable.level
         && variable.level <= depth
         && code
             .kinds
-            .has_slot(place, depth - variable.level, variable.slot)
+            .has_slot(place, depth - variable.level, variable.slot, &code.homes)
 }
 
 /// Tells whether there is no variable, or its master stands around an instruction and has its slot.
 fn may_have_variable(code: &Code, place: usize, variable: Option<Var>) -> bool
-    ensures { IsTrue result ↔ MayHaveVariable (stack_at code.now.kinds place) variable }
+    ensures { IsTrue result ↔ MayHaveVariable code.now.homes (stack_at code.now.kinds place) variable }
 {
     match variable {
         Some(variable) => has_variable(code, place, variable),
@@ -70,7 +72,9 @@ fn is_gathered(code: &Code, place: usize, access: usize) -> bool
     match code.accesses.get(access) {
         Some(home) => {
             home.collection.level == code.kinds.depth_at(place)
-                && code.kinds.has_slot(place, 0, home.collection.slot)
+                && code
+                    .kinds
+                    .has_slot(place, 0, home.collection.slot, &code.homes)
         }
         None => false,
     }
@@ -128,6 +132,7 @@ pub(crate) fn is_new_fine(
         && leads_to_address(code, place, 0, None)
         && leads_behind_next(code, place, 0, Some(Kind::Operand(ty)))
         && has_collection(code, place, access)
+        && has_home(code, place, Declaration::Record(record))
 }
 
 /// Checks an allocator at the address that an Allocate gave (RM 4.8, 13.11).
@@ -160,6 +165,7 @@ pub(crate) fn is_new_copy_fine(
         && leads_to_address(code, place, 1, Some(Kind::RecordValue))
         && leads_behind_next(code, place, 1, Some(Kind::Operand(ty)))
         && has_collection(code, place, access)
+        && has_home(code, place, Declaration::Record(record))
 }
 
 /// Checks an allocator with the value of a record at the address that an Allocate gave (RM 4.8, 13.11).
@@ -195,7 +201,7 @@ pub(crate) fn is_free_fine(
     has_collection(code, place, access)
         && leads_on(code, place, 0, None)
         && leads_behind_next(code, place, 0, None)
-        && code.kinds.has_slot(place, out, slot)
+        && code.kinds.has_slot(place, out, slot, &code.homes)
 }
 
 /// Checks that an object is freed whose access value is in a component: the part that has it stands on top (RM 13.11.2).

@@ -6,22 +6,25 @@ ghost use Rattle.ctl_code.specs.declared.code.Instr.TheVariants as I;
 ghost use Rattle.ctl_code.specs.Kinds.{stack_at};
 ghost use Rattle.ctl_code.specs.Valid.{HasFormals, HaveOperands, IsCalled, IsFine, IsOperandAt};
 
+use crate::around::has_home;
 use crate::code::Code;
 use crate::fine::{is_bare, leads_on, puts_operand};
+use crate::homes::Declaration;
 use crate::kinds::Kind;
 use crate::layouts::is_in_scope;
 use crate::types::is_scalar;
 use ctl_program::operators::SubprogramKind;
 use ctl_program::types::Ty;
 
-/// Checks the call of a procedure or of a function (RM 6.4): it is declared in a master that is seen, has slots for its actuals, and these
-/// stand on top.
+/// Checks the call of a procedure or of a function (RM 6.4): it is declared in a master that is seen, has slots for its actuals, these
+/// stand on top, and the masters around its declaration stand around the call.
 fn is_called(code: &Code, place: usize, kind: SubprogramKind, number: usize, actuals: usize) -> bool
     ensures { IsTrue result ↔ IsCalled code.now kind number actuals (stack_at code.now.kinds place) }
 {
     is_in_scope(code, code.kinds.depth_at(place), Some(number))
         && has_formals(code, kind, number, actuals)
         && has_operands(code, place, actuals)
+        && has_home(code, place, Declaration::Subprogram(number))
 }
 
 /// Checks the call of a procedure, which leaves so many numbers in the place of its actuals, at most as many as these (RM 6.4, 6.4.1).
@@ -58,7 +61,7 @@ pub(crate) fn is_copy_back_fine(
         && code.kinds.has_numbers(place, depth)
         && code.kinds.height_at(place, depth) == at
         && leads_on(code, place, 0, None)
-        && code.kinds.has_slot(place, out, slot)
+        && code.kinds.has_slot(place, out, slot, &code.homes)
 }
 
 /// Checks that so many numbers are dropped.

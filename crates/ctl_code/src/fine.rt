@@ -11,16 +11,19 @@ ghost use Rattle.ctl_code.specs.declared.code.Operator.{Operator};
 ghost use Rattle.ctl_code.specs.declared.code.Instr.TheVariants as I;
 ghost use Rattle.ctl_code.specs.Kinds.{changed, stack_at};
 ghost use Rattle.ctl_code.specs.Valid.{Bounded, DropsPart, IsAtEnd, IsDeclarable, IsEntry, IsFine, IsScalar, IsText, Leads, Puts, Taken, Takes, Under};
-ghost use Rattle.ctl_code.specs.Windows.{HasSlot, depth, height, variable_at};
+ghost use Rattle.ctl_code.specs.declared.homes.Declaration.TheVariants as DeclarationOf;
+ghost use Rattle.ctl_code.specs.Windows.{HasHome, HasSlot, depth, height, variable_at};
 
 use crate::accesses::{
     is_free_fine, is_free_part_fine, is_gather_fine, is_new_copy_fine, is_new_copy_in_fine,
     is_new_fine, is_new_in_fine,
 };
+use crate::around::has_home;
 use crate::calls::{
     is_call_fine, is_copy_back_fine, is_discard_fine, is_evaluate_fine, is_start_fine,
 };
 use crate::code::{Cell, Code, Instr, Named, Operator, Way};
+use crate::homes::Declaration;
 use crate::images::count_images;
 use crate::kinds::{Kind, is_same_kind};
 use crate::layouts::is_declarable;
@@ -483,7 +486,8 @@ fn is_declare_fine(code: &Code, place: usize, slot: usize, number: usize) -> boo
 {
     is_declarable(code, code.kinds.depth_at(place), number)
         && leads_on(code, place, 0, None)
-        && code.kinds.has_slot(place, 0, slot)
+        && code.kinds.has_slot(place, 0, slot, &code.homes)
+        && has_home(code, place, Declaration::Record(number))
 }
 
 /// Checks the declaration of an object in a slot of the newest master with the value of a part (RM 3.3.1).
@@ -493,16 +497,19 @@ fn is_copy_fine(code: &Code, place: usize, slot: usize, number: usize) -> bool
 {
     is_declarable(code, code.kinds.depth_at(place), number)
         && drops_part(code, place, 0, number)
-        && code.kinds.has_slot(place, 0, slot)
+        && code.kinds.has_slot(place, 0, slot, &code.homes)
+        && has_home(code, place, Declaration::Record(number))
 }
 
 /// Checks that the value of a variable, whose master may stand around the body, that of a component of the object in such a slot, or an
 /// access value of this object is put (RM 4.1, 4.1.3, 3.10.2).
 fn is_fetch_fine(code: &Code, place: usize, out: usize, slot: usize, ty: Ty, to: Cell) -> bool
     requires { place + 1 < 2 ^ 64 }
-    ensures { let stack = stack_at code.now.kinds place in IsTrue result ↔ (IsScalar ty × Puts code.now place to ty stack × HasSlot stack out slot) }
+    ensures { let stack = stack_at code.now.kinds place in IsTrue result ↔ (IsScalar ty × Puts code.now place to ty stack × HasSlot code.now.homes stack out slot) }
 {
-    is_scalar(ty) && puts(code, place, 0, to, ty) && code.kinds.has_slot(place, out, slot)
+    is_scalar(ty)
+        && puts(code, place, 0, to, ty)
+        && code.kinds.has_slot(place, out, slot, &code.homes)
 }
 
 /// Checks that such a variable takes a value (RM 5.2).
@@ -510,7 +517,9 @@ fn is_store_fine(code: &Code, place: usize, from: Cell, ty: Ty, out: usize, slot
     requires { place + 1 < 2 ^ 64 }
     ensures { IsTrue result ↔ IsFine code.now place (I.Store from ty out slot) (stack_at code.now.kinds place) }
 {
-    is_scalar(ty) && drops(code, place, from, ty) && code.kinds.has_slot(place, out, slot)
+    is_scalar(ty)
+        && drops(code, place, from, ty)
+        && code.kinds.has_slot(place, out, slot, &code.homes)
 }
 
 /// Checks that the object in such a slot is put as a part of a record type, in this cell (RM 4.1).
@@ -525,16 +534,19 @@ fn is_locate_fine(
     requires { place + 1 < 2 ^ 64 }
     ensures { IsTrue result ↔ IsFine code.now place (I.Locate out slot «record» at) (stack_at code.now.kinds place) }
 {
-    puts_operand(code, place, 0, at, Ty::Record(record)) && code.kinds.has_slot(place, out, slot)
+    puts_operand(code, place, 0, at, Ty::Record(record))
+        && code.kinds.has_slot(place, out, slot, &code.homes)
 }
 
 /// Checks the assignment of the value of one part to another (RM 5.2).
 fn is_assign_fine(code: &Code, place: usize, number: usize) -> bool
     requires { place + 1 < 2 ^ 64 }
     ensures { let stack = stack_at code.now.kinds place in
-        IsTrue result ↔ (IsDeclarable code.now (depth stack) number × Under (Operand (Record number) ∷ []) stack (DropsPart code.now place number)) }
+        IsTrue result ↔ (IsDeclarable code.now (depth stack) number × Under (Operand (Record number) ∷ []) stack (DropsPart code.now place number) × HasHome code.now.homes stack (DeclarationOf.Record number)) }
 {
-    is_declarable(code, code.kinds.depth_at(place), number) && drops_parts(code, place, number)
+    is_declarable(code, code.kinds.depth_at(place), number)
+        && drops_parts(code, place, number)
+        && has_home(code, place, Declaration::Record(number))
 }
 
 /// Checks a dereference: a number stands on top, in this cell (RM 4.1).

@@ -1,11 +1,12 @@
 //! What stands in the windows of the machine before each instruction.
 
-ghost use Rattle.std.specs.Prelude.{◌≡◌, ◌↔◌, ℕ, ◌≤◌, [], ◌∷◌, ◌++◌, drop, length, reverse, slice_get, IsTrue, OnOk, MatchOption, List, Some};
+ghost use Rattle.std.specs.Prelude.{◌≡◌, ◌↔◌, ℕ, ◌<◌, ◌≤◌, [], ◌∷◌, ◌++◌, drop, length, reverse, slice_get, IsTrue, OnOk, MatchOption, List, Some};
 ghost use Rattle.ctl_code.specs.declared.kinds.Kind.{Kind};
 ghost use Rattle.ctl_code.specs.Kinds.{below_newest, changed, stack_at, stack_in, stacks_in};
 ghost use Rattle.ctl_code.specs.Valid.{HaveNumbers, images_of, over_numbers};
-ghost use Rattle.ctl_code.specs.Windows.{HasSlot, depth, height, variable_at};
+ghost use Rattle.ctl_code.specs.Windows.{HasSlot, depth, height, master_at, slots_at, variable_at};
 
+use crate::homes::{Declaration, Homes};
 use crate::images::has_images_on;
 use crate::stacks::Stacks;
 use crate::template::TextPart;
@@ -23,8 +24,20 @@ pub enum Kind {
     RecordValue,
     /// a block with so many slots (RM 5.6)
     Block(usize),
-    /// a body: how many masters stand around its declaration, and how many slots it has
-    Body { level: usize, slots: usize },
+    /// a body: how many masters stand around its declaration, how many slots it has, and its number in the table of subprograms
+    Body {
+        level: usize,
+        slots: usize,
+        number: usize,
+    },
+}
+
+/// Where it is said how many slots a master has that stands around an instruction: the body has entered it, with so many, or it stands
+/// around the declaration of the body of this number (RM 6.1, 3.10.2).
+#[derive(Clone, Copy)]
+pub enum MasterAt {
+    Entered(usize),
+    Around(usize),
 }
 
 /// Tells whether both are one kind.
@@ -35,8 +48,12 @@ pub fn is_same_kind(left: Kind, right: Kind) -> bool
         Kind::Operand(ty) => matches!(right, Kind::Operand(other) if is_same_type(ty, other)),
         Kind::RecordValue => matches!(right, Kind::RecordValue),
         Kind::Block(slots) => matches!(right, Kind::Block(other) if other == slots),
-        Kind::Body { level, slots } => {
-            matches!(right, Kind::Body { level: other, slots: others } if other == level && others == slots)
+        Kind::Body {
+            level,
+            slots,
+            number,
+        } => {
+            matches!(right, Kind::Body { level: other, slots: others, number: of_other } if other == level && others == slots && of_other == number)
         }
     }
 }
@@ -83,23 +100,28 @@ fn are_at_most(stacks: &Stacks, before: &[usize], room: usize) -> bool
     true
 }
 
-/// The table of kinds: what stands on the stacks before each instruction of a body, the newest first.
+/// The table of kinds: what stands on the stacks before each instruction of a body, the newest first. How high each of these stacks is stands
+/// beside them, since a block and a body begin behind it.
 ///
 /// A contract sees it as the list of these stacks, one for each instruction.
 #[derive(Drop)]
 pub struct Kinds {
     stacks: Stacks,
     before: Vec<usize>,
+    heights: Vec<usize>,
 }
 
 impl Model for Kinds {
-    ghost use Rattle.std.specs.Prelude.{List};
+    ghost use Rattle.std.specs.Prelude.{◌≡◌, List, map};
     ghost use Rattle.ctl_code.specs.declared.kinds.Kind.{Kind};
     ghost use Rattle.ctl_code.specs.Kinds.{stacks_in};
+    ghost use Rattle.ctl_code.specs.Windows.{height};
 
     ghost Value = { List (List Kind) };
 
     ghost view = { λ k. stacks_in k.stacks k.before.items };
+
+    ghost invariant = { λ k. k.heights.items ≡ map height (stacks_in k.stacks k.before.items) };
 }
 
 impl Kinds {
@@ -130,6 +152,15 @@ impl Kinds {
         self.stacks.height(stack)
     }
 
+    /// Answers how many cells of a window are in use before the instruction at a place.
+    #[inline(always)]
+    pub fn height_before(&self, place: usize) -> usize
+        requires { place < length self.now }
+        ensures { result ≡ height (stack_at self.now place) }
+    {
+        self.heights[place]
+    }
+
     /// Answers the cell of a slot of the master so many further out, before the instruction at a place, under so many newer ones; None
     /// where the body has none there.
     pub fn variable_at(&self, place: usize, under: usize, out: usize, slot: usize) -> Option<usize>
@@ -139,12 +170,30 @@ impl Kinds {
         self.stacks.variable_at(stack, out, slot)
     }
 
-    /// Tells whether the master so many further out stands around the instruction at a place, and has this slot where the body has entered it.
-    pub fn has_slot(&self, place: usize, out: usize, slot: usize) -> bool
-        ensures { IsTrue result ↔ HasSlot (stack_at self.now place) out slot }
+    /// Answers where the slots of the master at a level, the outermost at 0, are said that stands around the instruction at a place.
+    pub fn master_at(&self, place: usize, level: usize) -> MasterAt
+        ensures { result ≡ master_at (stack_at self.now place) level }
     {
         let stack = number_under(&self.stacks, self.before.as_slice(), place, 0);
-        self.stacks.has_slot(stack, out, slot)
+        self.stacks.master_at(stack, level)
+    }
+
+    /// Answers how many slots that master has at least, by what is said of the masters around bodies.
+    pub fn slots_at(&self, place: usize, level: usize, homes: &Homes) -> usize
+        ensures { result ≡ slots_at homes.now (stack_at self.now place) level }
+    {
+        match self.master_at(place, level) {
+            MasterAt::Entered(slots) => slots,
+            MasterAt::Around(number) => homes.at(Declaration::Subprogram(number), level),
+        }
+    }
+
+    /// Tells whether the master so many further out stands around the instruction at a place, and has this slot.
+    pub fn has_slot(&self, place: usize, out: usize, slot: usize, homes: &Homes) -> bool
+        ensures { IsTrue result ↔ HasSlot homes.now (stack_at self.now place) out slot }
+    {
+        let depth = self.depth_at(place);
+        out < depth && slot < self.slots_at(place, depth - 1 - out, homes)
     }
 
     /// Answers how many masters stand around the instruction at a place.
@@ -242,19 +291,21 @@ impl Kinds {
 pub struct KindNotes {
     stacks: Stacks,
     before: Vec<usize>,
+    heights: Vec<usize>,
     standing: usize,
 }
 
 impl Model for KindNotes {
-    ghost use Rattle.std.specs.Prelude.{◌≤◌, length};
+    ghost use Rattle.std.specs.Prelude.{◌≡◌, ◌≤◌, length, map};
     ghost use Rattle.std.specs.List.{All};
     ghost use Rattle.ctl_code.specs.Kinds.{Noted, stack_in, stacks_in};
+    ghost use Rattle.ctl_code.specs.Windows.{height};
 
     ghost Value = { Noted };
 
     ghost view = { λ k. record { before = stacks_in k.stacks k.before.items; standing = stack_in k.stacks k.standing } };
 
-    ghost invariant = { λ k. All (λ n. n ≤ length k.stacks) k.before.items × (k.standing ≤ length k.stacks) };
+    ghost invariant = { λ k. All (λ n. n ≤ length k.stacks) k.before.items × (k.standing ≤ length k.stacks) × (k.heights.items ≡ map height (stacks_in k.stacks k.before.items)) };
 }
 
 impl KindNotes {
@@ -265,6 +316,7 @@ impl KindNotes {
         KindNotes {
             stacks: Stacks::new(alloc),
             before: Vec::new(alloc),
+            heights: Vec::new(alloc),
             standing: 0,
         }
     }
@@ -289,7 +341,11 @@ impl KindNotes {
     pub fn note(&mut self) -> Result<(), AllocError>
         ensures { OnOk result (self.new ≡ record { before = self.old.before ++ self.old.standing ∷ []; standing = self.old.standing }) }
     {
-        self.before.push(self.standing)?;
+        let height = self.stacks.height(self.standing);
+        self.before.reserve(1)?;
+        self.heights.reserve(1)?;
+        self.before.push_reserved(self.standing);
+        self.heights.push_reserved(height);
         Ok(())
     }
 
@@ -328,8 +384,13 @@ impl KindNotes {
         let KindNotes {
             stacks,
             before,
+            heights,
             standing: _,
         } = self;
-        Kinds { stacks, before }
+        Kinds {
+            stacks,
+            before,
+            heights,
+        }
     }
 }

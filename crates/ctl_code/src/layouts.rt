@@ -9,6 +9,7 @@ ghost use Rattle.ctl_code.specs.Table as Table;
 ghost use Rattle.ctl_code.specs.Valid as valid;
 ghost use Rattle.ctl_code.specs.Valid.{AreBegunBy, AreInScope, IsBegunBy, IsDeclarable, IsInScope, IsLaid, IsStorageInScope, PositionsRise, told_before};
 
+use crate::around::{are_initials_within, are_operations_within};
 use crate::code::{Begun, Code, Initial, Layout, Parts};
 
 /// How many storage units a value of an elementary type takes (RM 13.3).
@@ -193,6 +194,9 @@ fn is_laid(code: &Code, number: usize, layout: &Layout) -> bool
         || !has_units(layout)
         || !is_storage_in_scope(code, layout.level, number)
     {
+        return false;
+    }
+    if !are_operations_within(code, number) || !are_initials_within(code, number, layout) {
         return false;
     }
     do_positions_rise(layout) && are_told_apart(code, layout)

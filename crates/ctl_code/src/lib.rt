@@ -2,13 +2,16 @@
 #![tactic(auto)]
 
 mod accesses;
+mod around;
 mod calls;
 pub mod code;
 mod fine;
+pub mod homes;
 mod images;
 pub mod kinds;
 pub mod laws;
 mod layouts;
+pub mod least;
 mod pools;
 mod stacks;
 pub mod template;

@@ -6,10 +6,13 @@ ghost use Rattle.ctl_code.specs.declared.code.Instr.TheVariants as I;
 ghost use Rattle.ctl_code.specs.declared.kinds.Kind.TheVariants.{Operand};
 ghost use Rattle.ctl_code.specs.Kinds.{stack_at};
 ghost use Rattle.ctl_code.specs.Valid.{DropsPart, IsDeclarable, IsFine, Leads, Under};
-ghost use Rattle.ctl_code.specs.Windows.{HasSlot, depth, height};
+ghost use Rattle.ctl_code.specs.declared.homes.Declaration.TheVariants as DeclarationOf;
+ghost use Rattle.ctl_code.specs.Windows.{HasHome, HasSlot, depth, height};
 
+use crate::around::has_home;
 use crate::code::Code;
 use crate::fine::{drops_part, has, is_operand, is_part, leads_on};
+use crate::homes::Declaration;
 use crate::kinds::Kind;
 use crate::layouts::is_declarable;
 use ctl_program::types::Ty;
@@ -49,7 +52,7 @@ pub(crate) fn is_taking_fine(
     requires { place + 1 < 2 ^ 64 }
     ensures { IsTrue result ↔ IsFine code.now place (I.TakeBlock «record» out slot) (stack_at code.now.kinds place) }
 {
-    takes_request(code, place, record) && code.kinds.has_slot(place, out, slot)
+    takes_request(code, place, record) && code.kinds.has_slot(place, out, slot, &code.homes)
 }
 
 /// Checks a call of the library's Allocate whose address a component takes: the part that has it stands below a size and an alignment, over
@@ -76,10 +79,11 @@ pub(crate) fn is_giving_fine(code: &Code, place: usize, record: usize) -> bool
 pub(crate) fn is_pool_fine(code: &Code, place: usize, slot: usize, number: usize, at: usize) -> bool
     requires { place + 1 < 2 ^ 64 }
     ensures { let stack = stack_at code.now.kinds place in
-        IsTrue result ↔ (IsDeclarable code.now (depth stack) number × Under (Operand Count ∷ Operand Count ∷ []) stack (λ below. (at ≡ height below) × Leads code.now (place + 1) below) × HasSlot stack 0 slot) }
+        IsTrue result ↔ (IsDeclarable code.now (depth stack) number × Under (Operand Count ∷ Operand Count ∷ []) stack (λ below. (at ≡ height below) × Leads code.now (place + 1) below) × HasSlot code.now.homes stack 0 slot × HasHome code.now.homes stack (DeclarationOf.Record number)) }
 {
     is_declarable(code, code.kinds.depth_at(place), number)
         && has_discriminants(code, place, at)
         && leads_on(code, place, 2, None)
-        && code.kinds.has_slot(place, 0, slot)
+        && code.kinds.has_slot(place, 0, slot, &code.homes)
+        && has_home(code, place, Declaration::Record(number))
 }

@@ -2,11 +2,12 @@
 
 ghost use Rattle.std.specs.Prelude.{◌≡◌, ◌↔◌, ◌+◌, ◌-◌, ◌<◌, ◌≤◌, ◌^◌, [], ◌∷◌, ◌++◌, drop, length, List, IsTrue, IfSome, MatchOption, OnErr, OnOk};
 ghost use Rattle.ctl_code.specs.declared.kinds.Kind.{Kind};
+ghost use Rattle.ctl_code.specs.declared.kinds.Kind.TheVariants.{Body};
 ghost use Rattle.ctl_code.specs.Kinds.{stack_in, with_top};
 ghost use Rattle.ctl_code.specs.Valid.{HaveNumbers, over_numbers};
-ghost use Rattle.ctl_code.specs.Windows.{HasSlot, depth, height, slot_over, variable_at};
+ghost use Rattle.ctl_code.specs.Windows.{depth, height, master_at, slot_over, variable_at};
 
-use crate::kinds::{Kind, is_same_kind};
+use crate::kinds::{Kind, MasterAt, is_same_kind};
 use ctl_program::types::Ty;
 use std::alloc::{AllocError, Global};
 use std::marker::Model;
@@ -27,7 +28,7 @@ fn height_with(kind: Kind, below: usize) -> Option<usize>
     match kind {
         Kind::Operand(_) | Kind::RecordValue => below.checked_add(1),
         Kind::Block(slots) => below.checked_add(slots),
-        Kind::Body { level: _, slots } => below.checked_add(slots),
+        Kind::Body { slots, .. } => below.checked_add(slots),
     }
 }
 
@@ -38,7 +39,7 @@ fn depth_with(kind: Kind, below: usize) -> Option<usize>
     match kind {
         Kind::Operand(_) | Kind::RecordValue => Some(below),
         Kind::Block(_) => below.checked_add(1),
-        Kind::Body { level, slots: _ } => level.checked_add(1),
+        Kind::Body { level, .. } => level.checked_add(1),
     }
 }
 
@@ -51,6 +52,19 @@ fn slot_below(height: usize, slots: usize, slot: usize) -> Option<usize>
         Some(height - slots + slot)
     } else {
         None
+    }
+}
+
+/// Answers where the slots of the master at a level are said, in a body of this number in so many masters, with so many slots.
+fn master_in(own: usize, slots: usize, number: usize, level: usize) -> MasterAt
+    ensures { (stack : List Kind) → result ≡ master_at (Body own slots number ∷ stack) level }
+{
+    if level < own {
+        MasterAt::Around(number)
+    } else if level == own {
+        MasterAt::Entered(slots)
+    } else {
+        MasterAt::Entered(0)
     }
 }
 
@@ -162,7 +176,7 @@ impl Stacks {
         let (mut left, mut out) = (stack, out);
         while let Some(link) = self.link(left) {
             match link.kind {
-                Kind::Block(slots) | Kind::Body { level: _, slots } if out == 0 => {
+                Kind::Block(slots) | Kind::Body { slots, .. } if out == 0 => {
                     return slot_below(link.height, slots, slot);
                 }
                 Kind::Operand(_) | Kind::RecordValue => {}
@@ -174,23 +188,25 @@ impl Stacks {
         None
     }
 
-    /// Tells whether the master so many further out than the newest stands there, and has this slot where the body has entered it.
-    pub fn has_slot(&self, stack: usize, out: usize, slot: usize) -> bool
-        ensures { IsTrue result ↔ HasSlot (stack_in self.now stack) out slot }
+    /// Answers where the slots of the master at a level, the outermost at 0, are said.
+    pub fn master_at(&self, stack: usize, level: usize) -> MasterAt
+        ensures { result ≡ master_at (stack_in self.now stack) level }
     {
-        let (mut left, mut out) = (stack, out);
+        let mut left = stack;
         while let Some(link) = self.link(left) {
             match link.kind {
-                Kind::Block(slots) | Kind::Body { level: _, slots } if out == 0 => {
-                    return slot < slots;
+                Kind::Block(slots) if level == self.depth(link.below) => {
+                    return MasterAt::Entered(slots);
                 }
-                Kind::Operand(_) | Kind::RecordValue => {}
-                Kind::Block(_) => out -= 1,
-                Kind::Body { level, slots: _ } => return out <= level,
+                Kind::Operand(_) | Kind::RecordValue | Kind::Block(_) => left = link.below,
+                Kind::Body {
+                    level: own,
+                    slots,
+                    number,
+                } => return master_in(own, slots, number, level),
             }
-            left = link.below;
         }
-        false
+        MasterAt::Entered(0)
     }
 
     /// Answers the stack without so many of its newest.

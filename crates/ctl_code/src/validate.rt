@@ -30,12 +30,13 @@ fn are_instructions_fine(code: &Code) -> bool
 
 /// Tells whether each body begins at a place of the code where its slots stand.
 fn are_entries_fine(code: &Code) -> bool
-    ensures { IsTrue result ↔ ((f : ℕ) (e : Entry) → slice_get code.now.entries.items f ≡ Some e → IsBegun code.now e) }
+    ensures { IsTrue result ↔ ((f : ℕ) (e : Entry) → slice_get code.now.entries.items f ≡ Some e → IsBegun code.now f e) }
 {
-    for entry in &code.entries {
+    for (number, entry) in code.entries.iter().enumerate() {
         let body = Kind::Body {
             level: entry.level,
             slots: entry.slots,
+            number,
         };
         if !code.kinds.stands_alone(entry.place, body) {
             return false;

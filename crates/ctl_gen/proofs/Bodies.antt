@@ -53,9 +53,9 @@ pub record Stands (k : Tables) (code : Code) (f : ℕ) (s : Subprogram) : Type 0
   pub place : ℕ
   pub before : ℕ
   pub entry : slice_get code.entries.items f ≡ Some (entry_at place s)
-  pub instructions : Laid code place ((body_code s).code nowhere before)
-  pub texts : HasAt code.texts.items before (body_code s).texts
-  pub runs : (body_code s).runs (outside k.records) ≡ true
+  pub instructions : Laid code place ((body_code f s).code nowhere before)
+  pub texts : HasAt code.texts.items before (body_code f s).texts
+  pub runs : (body_code f s).runs (outside k.records) ≡ true
 
 -- what is taken of a list is as long as was asked, where it has as many
 taken_length : (n : ℕ) (xs : List ℕ) → n ≤ length xs → length (take n xs) ≡ n
@@ -140,7 +140,7 @@ module _ (ask : Ask) (p : Meaning) (code : Code) (setting : Setting p.tables cod
       subst (λ o. Runs ask code (Told k code w0) 0 2 s0 c0 (returned_to after ks) o) (sym (ap (λ y. on_some y gone (run_routine (tools_with ask p call) env actuals) c l w) (meant f s here)))
       (subst (λ (b : SubprogramKind). Runs ask code (Told k code w0) 0 2 s0 c0 (returned_to after ks) (bind (in_master (tools_with ask p call) (take s.level env) (slots_for (body_of s.body) actuals) inner c l w) (on_goes (λ (y : Left). returned b y.slots y.result)))) (sym of_kind)
       (both ask code (Told k code w0) (Told k code w0) 0 2 0 0 0 2 s0 c0 (leaves after ks) (returned_to after ks) _ (on_goes (λ (y : Left). returned kind y.slots y.result)) (omega arith) (omega arith) (omega arith)
-      ((master_does ask k code setting call (default_in p.defaults (expression_tools ask p call)) (constants call) bound calls s.body).inside (s.level + 1, x.runs) x.before x.texts 0 (KindOf.Body s.level (master_code s.body).slots) [] w0 (take s.level env) (slots_for (body_of s.body) actuals) after ks c0 c l w s0 x.place le lo hi fits long (nested_taken w.ledger.next_master w.activations 0 s.level env nested) (plain_slots s actuals plain) x.instructions (first ∙ entered f s x env actuals after ks l w))
+      ((master_does ask k code setting call (default_in p.defaults (expression_tools ask p call)) (constants call) bound calls s.body).inside (s.level + 1, x.runs) x.before x.texts 0 (KindOf.Body s.level (master_code s.body).slots f) [] w0 (take s.level env) (slots_for (body_of s.body) actuals) after ks c0 c l w s0 x.place le lo hi fits long (nested_taken w.ledger.next_master w.activations 0 s.level env nested) (plain_slots s actuals plain) x.instructions (first ∙ entered f s x env actuals after ks l w))
       (λ r c1 l1 w1 lo1 fits1. behind_body w0 after ks kind ends r c1 l1 w1 fits1)))
 
   -- executions of less than so much on the clock behave

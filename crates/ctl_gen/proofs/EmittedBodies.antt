@@ -1,5 +1,5 @@
 -- What the emitter makes of the bodies of a program, one after another, is their layout.
-use Rattle.std.proofs.Common.{◌≡◌, ℕ, ◌+◌, List, [], ◌∷◌, ◌++◌, length, map, None, refl, ap, ◌∙◌, append_assoc}
+use Rattle.std.proofs.Common.{◌≡◌, ℕ, ◌+◌, List, [], ◌∷◌, ◌++◌, length, None, refl, ap, ◌∙◌, append_assoc}
 use Rattle.ctl_program.specs.declared.program.Checked.{Checked}
 use Rattle.ctl_program.specs.declared.program.Subprogram.{Subprogram}
 use Rattle.ctl_code.specs.declared.code.Entry.{Entry}
@@ -9,7 +9,7 @@ use Rattle.ctl_code.specs.declared.kinds.Kind.TheVariants.{Body}
 use Rattle.ctl_code.specs.Kinds.{below_newest}
 use Rattle.ctl_layout.specs.Around.{OutOfMaster}
 use Rattle.ctl_gen.specs.Emitted.{Emitted, appended, around, lined, none_emitted, one, standing, stated}
-use Rattle.ctl_layout.specs.Layout.{bodies, body_code, entries_from, entry_at, instructions_of, kinds_of, master_code, program_code}
+use Rattle.ctl_layout.specs.Layout.{bodies, body_code, entries_from, entry_at, instructions_of, kinds_of, master_code, numbered, program_code}
 use Rattle.ctl_gen.proofs.Emission.{count_more, nothing, stands, stands_before, stands_behind, standing_is, texts_more}
 use Rattle.ctl_gen.proofs.EmittedStatements.{next_statement}
 
@@ -18,20 +18,20 @@ unfolding standing
 texts_stand s e0 e1 a = ap (λ (e : Emitted). length e.texts) a
 
 -- a body, where nothing stands
-pub body_emitted : (s : Subprogram) (slots : ℕ) (e0 e1 e2 e3 : Emitted) → slots ≡ (master_code s.body).slots → e0.notes.standing ≡ [] → e1 ≡ standing (Body s.level slots ∷ e0.notes.standing) e0 → e2 ≡ stated (master_code s.body).inside None e1 → e3 ≡ standing (below_newest e2.notes.standing) e2 → e3 ≡ stated (body_code s) None e0
-body_emitted s slots e0 e1 e2 e3 same bare a b c =
+pub body_emitted : (f : ℕ) (s : Subprogram) (slots : ℕ) (e0 e1 e2 e3 : Emitted) → slots ≡ (master_code s.body).slots → e0.notes.standing ≡ [] → e1 ≡ standing (Body s.level slots f ∷ e0.notes.standing) e0 → e2 ≡ stated (master_code s.body).inside None e1 → e3 ≡ standing (below_newest e2.notes.standing) e2 → e3 ≡ stated (body_code f s) None e0
+body_emitted f s slots e0 e1 e2 e3 same bare a b c =
     let m = (master_code s.body).inside in
     let n = length e0.texts in
     let r = e0.notes.standing in
-    let top = Body s.level slots ∷ r in
+    let top = Body s.level slots f ∷ r in
     let lines = m.code (record { stack = top; landing = OutOfMaster }) n in
     let inner : e2 ≡ appended lines m.texts top e1 =
     b ∙ ap (λ x. appended (m.code (record { stack = x; landing = OutOfMaster }) (length e1.texts)) m.texts x e1) (stands top e0 e1 a)
     ∙ ap (λ k. appended (m.code (record { stack = top; landing = OutOfMaster }) k) m.texts top e1) (texts_stand top e0 e1 a) in
     stands_before lines m.texts r top e0 e1 e3 a
     (stands_behind lines m.texts top r e1 e2 e3 inner (c ∙ ap (λ x. standing (below_newest x) e2) (standing_is lines m.texts top e1 e2 inner)))
-    ∙ ap (λ k. appended (m.code (record { stack = Body s.level k ∷ r; landing = OutOfMaster }) n) m.texts r e0) same
-    ∙ ap (λ k. appended (m.code (record { stack = Body s.level (master_code s.body).slots ∷ k; landing = OutOfMaster }) n) m.texts r e0) bare
+    ∙ ap (λ k. appended (m.code (record { stack = Body s.level k f ∷ r; landing = OutOfMaster }) n) m.texts r e0) same
+    ∙ ap (λ k. appended (m.code (record { stack = Body s.level (master_code s.body).slots f ∷ k; landing = OutOfMaster }) n) m.texts r e0) bare
 
 -- the instruction that starts the main procedure
 abbrev pub begun : ℕ → Emitted
@@ -41,33 +41,33 @@ pub begun_place : (main : ℕ) → (length (begun main).instructions ≡ 1) × (
 unfolding appended
 begun_place main = (refl, refl, refl)
 
-pub next_body : (s : Subprogram) (ss : List Subprogram) (e0 e1 : Emitted) → e1 ≡ stated (body_code s) None e0 → stated (bodies ss) None e1 ≡ stated (bodies (s ∷ ss)) None e0
-next_body s ss e0 e1 a = next_statement (body_code s) (map body_code ss) None e0 e1 (λ at is. absurd (cc)) a
+pub next_body : (f : ℕ) (s : Subprogram) (ss : List Subprogram) (e0 e1 : Emitted) → e1 ≡ stated (body_code f s) None e0 → stated (bodies (f + 1) ss) None e1 ≡ stated (bodies f (s ∷ ss)) None e0
+next_body f s ss e0 e1 a = next_statement (body_code f s) (numbered (f + 1) ss) None e0 e1 (λ at is. absurd (cc)) a
 
-pub next_entry : (s : Subprogram) (ss : List Subprogram) (done : List Entry) (e0 e1 : Emitted) → e1 ≡ stated (body_code s) None e0 → (done ++ entry_at (length e0.instructions) s ∷ []) ++ entries_from (length e1.instructions) (length e1.texts) ss ≡ done ++ entries_from (length e0.instructions) (length e0.texts) (s ∷ ss)
-next_entry s ss done e0 e1 a =
-    let x = body_code s in
+pub next_entry : (f : ℕ) (s : Subprogram) (ss : List Subprogram) (done : List Entry) (e0 e1 : Emitted) → e1 ≡ stated (body_code f s) None e0 → (done ++ entry_at (length e0.instructions) s ∷ []) ++ entries_from (f + 1) (length e1.instructions) (length e1.texts) ss ≡ done ++ entries_from f (length e0.instructions) (length e0.texts) (s ∷ ss)
+next_entry f s ss done e0 e1 a =
+    let x = body_code f s in
     let lines = x.code (around None e0) (length e0.texts) in
     let here = entry_at (length e0.instructions) s in
-    append_assoc done (here ∷ []) (entries_from (length e1.instructions) (length e1.texts) ss)
-    ∙ ap (λ n. done ++ here ∷ entries_from n (length e1.texts) ss) (count_more lines x.texts e0.notes.standing e0 e1 a)
-    ∙ ap (λ n. done ++ here ∷ entries_from (length e0.instructions + length lines) n ss) (texts_more lines x.texts e0.notes.standing e0 e1 a)
+    append_assoc done (here ∷ []) (entries_from (f + 1) (length e1.instructions) (length e1.texts) ss)
+    ∙ ap (λ n. done ++ here ∷ entries_from (f + 1) n (length e1.texts) ss) (count_more lines x.texts e0.notes.standing e0 e1 a)
+    ∙ ap (λ n. done ++ here ∷ entries_from (f + 1) (length e0.instructions + length lines) n ss) (texts_more lines x.texts e0.notes.standing e0 e1 a)
 
-pub nothing_stands : (s : Subprogram) (e0 e1 : Emitted) → e1 ≡ stated (body_code s) None e0 → e0.notes.standing ≡ [] → e1.notes.standing ≡ []
-nothing_stands s e0 e1 a h = standing_is ((body_code s).code (around None e0) (length e0.texts)) (body_code s).texts e0.notes.standing e0 e1 a ∙ h
+pub nothing_stands : (f : ℕ) (s : Subprogram) (e0 e1 : Emitted) → e1 ≡ stated (body_code f s) None e0 → e0.notes.standing ≡ [] → e1.notes.standing ≡ []
+nothing_stands f s e0 e1 a h = standing_is ((body_code f s).code (around None e0) (length e0.texts)) (body_code f s).texts e0.notes.standing e0 e1 a ∙ h
 
 -- all of them
-pub all_emitted : (main : ℕ) (ss : List Subprogram) (e : Emitted) → stated (bodies []) None e ≡ stated (bodies ss) None (begun main) → e ≡ stated (bodies ss) None (begun main)
-all_emitted main ss e h = nothing e ∙ h
+pub all_emitted : (main f : ℕ) (ss : List Subprogram) (e : Emitted) → stated (bodies f []) None e ≡ stated (bodies 0 ss) None (begun main) → e ≡ stated (bodies 0 ss) None (begun main)
+all_emitted main f ss e h = nothing e ∙ h
 
-pub all_instructions : (p : Checked) (e : Emitted) → e ≡ stated (bodies p.subprograms) None (begun p.main) → e.instructions ≡ instructions_of (program_code p)
+pub all_instructions : (p : Checked) (e : Emitted) → e ≡ stated (bodies 0 p.subprograms) None (begun p.main) → e.instructions ≡ instructions_of (program_code p)
 unfolding appended
 all_instructions p e h = ap (λ (x : Emitted). x.instructions) h
 
-pub all_texts : (p : Checked) (e : Emitted) → e ≡ stated (bodies p.subprograms) None (begun p.main) → e.texts ≡ (bodies p.subprograms).texts
+pub all_texts : (p : Checked) (e : Emitted) → e ≡ stated (bodies 0 p.subprograms) None (begun p.main) → e.texts ≡ (bodies 0 p.subprograms).texts
 unfolding appended
 all_texts p e h = ap (λ (x : Emitted). x.texts) h
 
-pub all_kinds : (p : Checked) (e : Emitted) → e ≡ stated (bodies p.subprograms) None (begun p.main) → e.notes.before ≡ kinds_of (program_code p)
+pub all_kinds : (p : Checked) (e : Emitted) → e ≡ stated (bodies 0 p.subprograms) None (begun p.main) → e.notes.before ≡ kinds_of (program_code p)
 unfolding appended
 all_kinds p e h = ap (λ (x : Emitted). x.notes.before) h

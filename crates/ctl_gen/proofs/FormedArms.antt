@@ -21,11 +21,11 @@ module _ (code : Code) (env : W.Frames) where
   GoodArms (x ∷ more) = Turns code env x.body.texts (turn_code x) × GoodArms more
 
   -- an arm whose end is fine where it stands
-  arm_formed : (x : ArmCode) (end : Instr) (a : Around) (n p : ℕ) → Turns code env x.body.texts (turn_code x) → Agrees env a.stack → HasAt code.texts.items n x.body.texts → CanLeave code p a → IsFine code (p + length (turn_code x a n)) end a.stack → FormedAt code p (arm_with x end a n) a.stack (Some a.stack)
+  arm_formed : (x : ArmCode) (end : Instr) (a : Around) (n p : ℕ) → Turns code env x.body.texts (turn_code x) → Agrees code env a.stack → HasAt code.texts.items n x.body.texts → CanLeave code p a → IsFine code (p + length (turn_code x a n)) end a.stack → FormedAt code p (arm_with x end a n) a.stack (Some a.stack)
   arm_formed x end a n p turns agrees texts can fine = ended_formed code p (turn_code x a n) end a.stack (λ next. turns a n p agrees texts can next) (λ next. fine)
 
   -- further arms, whose ends lead back to the end of the first one
-  further_formed : (arms : List ArmCode) → GoodArms arms → (a : Around) (n back p first : ℕ) → Agrees env a.stack → HasAt code.texts.items n (arms_texts arms) → CanLeave code p a → first + back ≡ p → Leads code first a.stack → FormedAt code p (arms_code back arms a n) a.stack (Some a.stack)
+  further_formed : (arms : List ArmCode) → GoodArms arms → (a : Around) (n back p first : ℕ) → Agrees code env a.stack → HasAt code.texts.items n (arms_texts arms) → CanLeave code p a → first + back ≡ p → Leads code first a.stack → FormedAt code p (arms_code back arms a n) a.stack (Some a.stack)
   further_formed [] good a n back p first agrees texts can from lead = λ h. (h, tt)
   further_formed (x ∷ more) good a n back p first agrees texts can from lead =
       let s = a.stack in

@@ -20,7 +20,7 @@ use Rattle.ctl_well_typed.specs.Expressions as T
 use Rattle.ctl_code.specs.declared.kinds.Kind.TheVariants as KindOf
 use Rattle.ctl_code.specs.declared.code.Code.{Code}
 use Rattle.ctl_code.specs.Valid as Valid
-use Rattle.ctl_code.specs.Valid.{HasFormals, IsAllocable, IsRecord}
+use Rattle.ctl_code.specs.Valid.{HasFormals, IsAllocable}
 use Rattle.ctl_layout.specs.Records.{is_number, is_run_type}
 use Rattle.ctl_layout.specs.Around.{new_operand}
 use Rattle.ctl_layout.specs.Parts.{OfVariable, Reached, access_value, behind_steps, is_dereferenced}
@@ -29,7 +29,7 @@ use Rattle.ctl_layout.proofs.Extensions.{both_true}
 use Rattle.ctl_layout.proofs.Layers.{actual_copied, actual_part, actual_value, new_reached, part_source, reached_given, reached_variable, read_reached, value_access, value_call, value_chain, value_constant, value_convert, value_discriminant, value_new, value_read, value_short, value_subpool, value_unary}
 use Rattle.ctl_layout.proofs.TreeLayers.{operator_roll}
 use Rattle.ctl_gen.proofs.Formed.{none}
-use Rattle.ctl_gen.proofs.FormedAround.{IsHoused}
+use Rattle.ctl_gen.proofs.FormedAround.{IsCreatable, IsHoused}
 use Rattle.ctl_gen.proofs.FormedParts.{IsFound, steps_found}
 use Rattle.ctl_gen.proofs.Walked.{copy_reaches, part_begun, value_dereferenced}
 use Rattle.ctl_gen.proofs.FormedCalls.{GoodActual, GoodActuals, MayCall, MayNew, copy_good, function_own, good_as, kind_by, reference_good, value_good}
@@ -60,7 +60,7 @@ module _ (code : Code) (records : List RecordType) where
   not_missing x same h = absurd (let e = sym (ap (λ (z : ValueCode). z.runs records) same) ∙ h in cc)
 
   -- an allocator with the value of a part
-  copied_fine : (env : W.Frames) (a u : ℕ) (o : Option Reached) → IsAllocable code (length env) a u → IsHoused code env a → IsRecord code u → IsFound code env records o → (new_copy a u o).runs records ≡ true → Fine code env (new_copy a u o) (TyOf.Access a)
+  copied_fine : (env : W.Frames) (a u : ℕ) (o : Option Reached) → IsAllocable code (length env) a u → IsHoused code env a → IsCreatable code env u → IsFound code env records o → (new_copy a u o).runs records ≡ true → Fine code env (new_copy a u o) (TyOf.Access a)
   copied_fine env a u None allocable housed known found runs = absurd (cc)
   copied_fine env a u (Some x) allocable housed known found runs = inl (copied_own code env a u x found.0 (found.1 (part_begun records x (both_true _ _ runs).1)) allocable housed known)
 
@@ -70,7 +70,7 @@ module _ (code : Code) (records : List RecordType) where
   IsCopyFound env (Some x) = (u : ℕ) → IsFound code env records (copied u (value_code x))
 
   -- an allocator, which is run where it has no handle, and no value but that of a part
-  allocated_fine : (env : W.Frames) (a : ℕ) (t : Ty) (handle : Option ValueCode) (x : Option Expr) → ((u : ℕ) → t ≡ TyOf.Record u → IsAllocable code (length env) a u × IsHoused code env a × IsRecord code u) → IsCopyFound env x → (new a t handle (option_map value_code x)).runs records ≡ true → Fine code env (new a t handle (option_map value_code x)) (TyOf.Access a)
+  allocated_fine : (env : W.Frames) (a : ℕ) (t : Ty) (handle : Option ValueCode) (x : Option Expr) → ((u : ℕ) → t ≡ TyOf.Record u → IsAllocable code (length env) a u × IsHoused code env a × IsCreatable code env u) → IsCopyFound env x → (new a t handle (option_map value_code x)).runs records ≡ true → Fine code env (new a t handle (option_map value_code x)) (TyOf.Access a)
   allocated_fine env a (TyOf.Record u) None None may found runs = inl (new_own code env a u (may u refl).0 (may u refl).1 (may u refl).2)
   allocated_fine env a (TyOf.Record u) None (Some x) may found runs = copied_fine env a u (copied u (value_code x)) (may u refl).0 (may u refl).1 (may u refl).2 (found u) runs
   allocated_fine env a (TyOf.Record u) (Some h) x may found runs = absurd (cc)
@@ -116,7 +116,7 @@ module _ (code : Code) (records : List RecordType) where
           let same = value_call f actuals t in
           let e = both_true (is_run_type t) (not (goes_back (map actual_code actuals)) && actuals_run (map actual_code actuals) records) (runs_as _ _ same runs) in
           let g = both_true (not (goes_back (map actual_code actuals))) (actuals_run (map actual_code actuals) records) e.1 in
-          fine_as env _ _ t same (inl (function_own code env f (map actual_code actuals) t (run_scalar t e.0) (may_call env f is callable).0 (has_formals code k may_call callable gives fits) (actuals_good fits g.1)))
+          fine_as env _ _ t same (inl (function_own code env f (map actual_code actuals) t (run_scalar t e.0) (may_call env f is callable).0 (may_call env f is callable).2 (has_formals code k may_call callable gives fits) (actuals_good fits g.1)))
       typed_fine {env} (T.unary {o = o} {x = x} {t = t} takes h) runs =
           let same = value_unary o t x in
           let u = takes_unary o t takes in

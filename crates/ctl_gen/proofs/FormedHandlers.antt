@@ -75,7 +75,7 @@ module _ (code : Code) (env : W.Frames) where
       (good.1 (behind size a) n (p + length first) agrees texts (leave_behind code p size (p + length first) a there can))
 
   -- handlers, whose ends lead back to the end of the statements that they handle
-  handlers_formed : (hs : List HandlerCode) → GoodHandlers hs → (a : Around) (n back p first : ℕ) → Agrees env a.stack → HasAt code.texts.items n (handlers_texts hs) → CanLeave code p a → first + back ≡ p → Leads code first a.stack → FormedAt code p (handlers_code back hs a n) a.stack (Some a.stack)
+  handlers_formed : (hs : List HandlerCode) → GoodHandlers hs → (a : Around) (n back p first : ℕ) → Agrees code env a.stack → HasAt code.texts.items n (handlers_texts hs) → CanLeave code p a → first + back ≡ p → Leads code first a.stack → FormedAt code p (handlers_code back hs a n) a.stack (Some a.stack)
   handlers_formed [] good a n back p first agrees texts can from lead has = one code InstrOf.RaiseAgain a.stack (Some a.stack) (λ q next. tt) p has
   handlers_formed (h ∷ more) good a n back p first agrees texts can from lead has =
       let s = a.stack in
@@ -97,7 +97,7 @@ module _ (code : Code) (env : W.Frames) where
 
   -- lines of the statements of a master, over which no operand stands
   abbrev pub StaysAtEnd : List (List TextPart) → (Around → ℕ → List Line) → Type 0
-  StaysAtEnd texts lines = (a : Around) (n p : ℕ) → IsAtEnd a.stack → Agrees env a.stack → HasAt code.texts.items n texts → CanLeave code p a → FormedAt code p (lines a n) a.stack (Some a.stack)
+  StaysAtEnd texts lines = (a : Around) (n p : ℕ) → IsAtEnd a.stack → Agrees code env a.stack → HasAt code.texts.items n texts → CanLeave code p a → FormedAt code p (lines a n) a.stack (Some a.stack)
 
   pub handled_stays : (body : StatementCode) (hs : List HandlerCode) → GoodHandlers hs → Stays code env body.texts body.code → StaysAtEnd (handled body hs).texts (handled body hs).code
   handled_stays body [] good h a n p top agrees texts can has = h a n p agrees texts can has

@@ -1,8 +1,9 @@
 -- The layouts of the record types of a well-typed program are well formed: the type of a component is declared where the record type is, or
 -- around, and each cell has its storage units.
-use Rattle.std.proofs.Common.{◌≡◌, ℕ, zero, suc, ◌+◌, ◌<◌, ◌≤◌, List, [], ◌∷◌, ◌++◌, length, Bool, true, false, Option, Some, None, refl, sym, ap, ◌∙◌, subst, arith, take}
-use Rattle.std.specs.Prelude.{slice_get, if◌then◌else◌}
+use Rattle.std.proofs.Common.{◌≡◌, ℕ, zero, suc, ◌+◌, ◌<◌, ◌≤◌, List, [], ◌∷◌, ◌++◌, length, map, Bool, true, false, Option, Some, None, refl, sym, ap, ◌∙◌, subst, arith, take}
+use Rattle.std.specs.Prelude.{option_map, slice_get, if◌then◌else◌}
 use Rattle.std.proofs.lemmas.List.{length-take}
+use Rattle.std.proofs.lemmas.Option.{slice_get-map}
 use Rattle.ctl_program.specs.declared.types.Ty.{Ty}
 use Rattle.ctl_program.specs.declared.types.Ty.TheVariants.{Integer, Count, Boolean, Address, Handle, Access, Record}
 use Rattle.ctl_program.specs.declared.types.Root.{Root}
@@ -18,10 +19,15 @@ use Rattle.ctl_code.specs.declared.code.Initial.{Initial}
 use Rattle.ctl_code.specs.declared.code.Initial.TheVariants.{Constant, ByType}
 use Rattle.ctl_code.specs.declared.code.Layout.{Layout}
 use Rattle.ctl_code.specs.declared.code.Code.{Code}
+use Rattle.ctl_code.specs.declared.homes.Declaration.{Declaration}
+use Rattle.ctl_code.specs.declared.homes.Declaration.TheVariants.{Subprogram}
+use Rattle.ctl_code.specs.declared.homes.Declaration.TheVariants as DeclarationOf
+use Rattle.ctl_code.specs.Windows.{Counts, IsWithin, count_of, row_in, said}
 use Rattle.ctl_code.specs.Table as Table
-use Rattle.ctl_code.specs.Valid.{AreBegunBy, AreInScope, IsBegunBy, IsDeclarable, IsDeclaredIn, IsLaid, IsStorageInScope, is_finalized}
+use Rattle.ctl_code.specs.Valid.{AreBegunBy, AreInScope, AreInitialsWithin, AreOperationsWithin, IsBegunBy, IsDeclarable, IsDeclaredIn, IsInitialWithin, IsLaid, IsStorageInScope, is_finalized}
 use Rattle.ctl_layout.specs.Layout.{IsLaidOut, cells_by, next_position, parent_layout}
 use Rattle.ctl_layout.specs.Defaults.{begun_before, begun_from, by_type, constant_of, finalized_by, initial_by, initial_of, is_begun, is_finalized_by, type_if}
+use Rattle.ctl_gen.proofs.FormedAround.{Granted, size_around, size_at}
 use Rattle.ctl_gen.proofs.Layouts.{IsAt, Perhaps, at, controlled_are, rise_to, roomy, told, type_of}
 
 -- Tables -------------------------------------------------------------------------------------------
@@ -78,12 +84,72 @@ module _ (code : Code) where
       by (Constant n) = refl
       by (ByType u) = refl
 
+-- Masters around declarations ----------------------------------------------------------------------
+
+-- those around each declaration of a program
+abbrev pub around : W.Setting → Counts
+around k = record { subprograms = map (λ (is : W.Signature). map length is.home) k.subprograms; records = map (λ (home : W.Frames). map length home) k.record_homes }
+
+-- what code says of them is so
+pub record SaysAround (code : Code) (k : W.Setting) : Type 0 where
+  pub subprograms : code.homes.subprograms ≡ (around k).subprograms
+  pub records : code.homes.records ≡ (around k).records
+
+counted : (home : W.Frames) (level : ℕ) → count_of (slice_get (map length home) level) ≡ size_at home level
+counted [] level = refl
+counted (f ∷ home) zero = refl
+counted (f ∷ home) (suc level) = counted home level
+
+module _ (code : Code) (k : W.Setting) (says : SaysAround code k) where
+  pub said_of_subprogram : (f : ℕ) (is : W.Signature) → slice_get k.subprograms f ≡ Some is → (level : ℕ) → said code.homes (Subprogram f) level ≡ size_at is.home level
+  said_of_subprogram f is found level =
+      let g = λ (x : W.Signature). map length x.home in
+      let row : slice_get code.homes.subprograms f ≡ Some (map length is.home) = ap (λ rows. slice_get rows f) says.subprograms ∙ slice_get-map g k.subprograms f ∙ ap (option_map g) found in
+      ap (λ (o : Option (List ℕ)). count_of (slice_get (row_in o) level)) row ∙ counted is.home level
+
+  said_of_record : (t : ℕ) (home : W.Frames) → slice_get k.record_homes t ≡ Some home → (level : ℕ) → said code.homes (DeclarationOf.Record t) level ≡ size_at home level
+  said_of_record t home found level =
+      let g = λ (x : W.Frames). map length x in
+      let row : slice_get code.homes.records t ≡ Some (map length home) = ap (λ rows. slice_get rows t) says.records ∙ slice_get-map g k.record_homes t ∙ ap (option_map g) found in
+      ap (λ (o : Option (List ℕ)). count_of (slice_get (row_in o) level)) row ∙ counted home level
+
+  pub subprogram_granted : (env : W.Frames) (f : ℕ) (is : W.Signature) → W.Callable k env f is → Granted code env (Subprogram f)
+  subprogram_granted env f is c level = let told = said_of_subprogram f is c.found level in let least = size_around is.home env level c.encloses in omega (arith, told, least)
+
+  pub record_granted : (env : W.Frames) (t : ℕ) → W.HasRecord k env t → Granted code env (DeclarationOf.Record t)
+  record_granted env t h level = let told = said_of_record t h.home h.at_home level in let least = size_around h.home env level h.encloses in omega (arith, told, least)
+
+  -- what is granted where a record type is declared stands around that
+  pub granted_within : (t : ℕ) (home : W.Frames) (of : Declaration) → slice_get k.record_homes t ≡ Some home → Granted code home of → IsWithin code.homes (DeclarationOf.Record t) of
+  granted_within t home of found granted level = let told = said_of_record t home found level in let least = granted level in omega (arith, told, least)
+
+module _ (counts : Counts) where
+  within_later : (p t : ℕ) (xs : List Begun) → IsWithin counts (DeclarationOf.Record t) (DeclarationOf.Record p) → AreInitialsWithin counts p xs → AreInitialsWithin counts t xs
+  within_later p t [] inner h = tt
+  within_later p t (x ∷ xs) inner h = (by x.initial h.0, within_later p t xs inner h.1)
+    where
+      by : (i : Initial) → IsInitialWithin counts p i → IsInitialWithin counts t i
+      by (Constant n) g = tt
+      by (ByType u) g = λ level. let first = g level in let second = inner level in omega (arith, first, second)
+
+  within_both : (t : ℕ) (xs ys : List Begun) → AreInitialsWithin counts t xs → AreInitialsWithin counts t ys → AreInitialsWithin counts t (xs ++ ys)
+  within_both t [] ys h g = g
+  within_both t (x ∷ xs) ys h g = (h.0, within_both t xs ys h.1 g)
+
+  within_first : (t p n : ℕ) (o : Option Initial) (xs : List Begun) → Perhaps (IsInitialWithin counts t) o → AreInitialsWithin counts t xs → AreInitialsWithin counts t (begun_before p n o xs)
+  within_first t p n None xs h g = g
+  within_first t p n (Some i) xs h g = (h, g)
+
+  type_within : (t u : ℕ) (b : Bool) → IsWithin counts (DeclarationOf.Record t) (DeclarationOf.Record u) → Perhaps (IsInitialWithin counts t) (type_if u b)
+  type_within t u true h = h
+  type_within t u false h = tt
+
 -- Layouts ------------------------------------------------------------------------------------------
 
 pub home_of : (program : Checked) (typed : WellTyped program) (t : ℕ) (r : RecordType) → slice_get program.records t ≡ Some r → (home : W.Frames) × (slice_get typed.k.record_homes t ≡ Some home)
 home_of program typed t r e = alike RecordType W.Frames program.records typed.k.record_homes (sym typed.fits.record_homes) t r e
 
-module _ (program : Checked) (typed : WellTyped program) (code : Code) (laid : IsLaidOut program code) where
+module _ (program : Checked) (typed : WellTyped program) (code : Code) (laid : IsLaidOut program code) (says : SaysAround code typed.k) where
   layout_at : (t : ℕ) (r : RecordType) → slice_get program.records t ≡ Some r → IsAt code.layouts.items t r
   layout_at t r e = at program.records code.layouts.items laid.layouts t r e
 
@@ -98,6 +164,10 @@ module _ (program : Checked) (typed : WellTyped program) (code : Code) (laid : I
 
   pub declarable : (env : W.Frames) (t : ℕ) → W.HasRecord typed.k env t → IsDeclarable code (length env) t
   declarable env t h = declarable_in (length env) t h.is h.home (not_more h.home env h.encloses) (sym (ap (λ rs. slice_get rs t) typed.fits.records) ∙ h.found) h.at_home
+
+  -- where a type is in view, objects of it can be declared
+  pub creatable : (env : W.Frames) (t : ℕ) → W.HasRecord typed.k env t → IsDeclarable code (length env) t × Granted code env (DeclarationOf.Record t)
+  creatable env t h = (declarable env t h, record_granted code typed.k says env t h)
 
   -- the types of the components that a type adds are in view where it is
   by_type_begun : (home : W.Frames) (layouts : List Layout) (ty : Ty) → W.InView typed.k home ty → Perhaps (IsBegunBy code (length home)) (by_type layouts ty)
@@ -147,12 +217,60 @@ module _ (program : Checked) (typed : WellTyped program) (code : Code) (laid : I
   begun_within zero t lt = absurd (omega (arith, lt))
   begun_within (suc n) t lt = begun_by t (λ u less. begun_within n u (omega (arith, less, lt)))
 
+  -- the masters around the types of its components stand around a type
+  by_type_within : (t : ℕ) (home : W.Frames) (layouts : List Layout) (ty : Ty) → slice_get typed.k.record_homes t ≡ Some home → W.InView typed.k home ty → Perhaps (IsInitialWithin code.homes t) (by_type layouts ty)
+  by_type_within t home layouts (Record u) at_home view = type_within code.homes t u (is_begun (slice_get layouts u)) (granted_within code typed.k says t home (DeclarationOf.Record u) at_home (record_granted code typed.k says home u view))
+  by_type_within t home layouts Integer at_home view = tt
+  by_type_within t home layouts Count at_home view = tt
+  by_type_within t home layouts Boolean at_home view = tt
+  by_type_within t home layouts Address at_home view = tt
+  by_type_within t home layouts Handle at_home view = tt
+  by_type_within t home layouts (Access a) at_home view = tt
+
+  initial_within : (t : ℕ) (home : W.Frames) (layouts : List Layout) (c : Component) → slice_get typed.k.record_homes t ≡ Some home → W.InView typed.k home c.ty → Perhaps (IsInitialWithin code.homes t) (initial_of layouts c)
+  initial_within t home layouts c at_home view = by (constant_of c)
+    where
+      by : (o : Option ℕ) → Perhaps (IsInitialWithin code.homes t) (initial_by o (by_type layouts c.ty))
+      by None = by_type_within t home layouts c.ty at_home view
+      by (Some n) = tt
+
+  own_within : {home : W.Frames} {t : ℕ} {cs : List Component} (layouts : List Layout) (size : Ty → ℕ) (p n : ℕ) → slice_get typed.k.record_homes t ≡ Some home → Added typed.k home t cs → AreInitialsWithin code.homes t (begun_from layouts size p n cs)
+  own_within layouts size p n at_home P.no_more_components = tt
+  own_within {home} {t} layouts size p n at_home (P.one_more_component {c = c} view before perhaps rest) = within_first code.homes t p n (initial_of layouts c) _ (initial_within t home layouts c at_home view) (own_within layouts size (p + 1) (n + size c.ty) at_home rest)
+
+  -- and so do those around the components that it inherits
+  abbrev WithinAt : ℕ → Type 0
+  WithinAt t = (r : RecordType) (home : W.Frames) → slice_get program.records t ≡ Some r → slice_get typed.k.record_homes t ≡ Some home → AreInitialsWithin code.homes t (Table.begun_in (slice_get code.layouts.items t))
+
+  parent_within : {home : W.Frames} {t : ℕ} {root : Root} {o : Option ℕ} (z : List Layout) → slice_get typed.k.record_homes t ≡ Some home → ((p : ℕ) → p < t → slice_get code.layouts.items p ≡ slice_get z p) → ((u : ℕ) → u < t → WithinAt u) → P.Parent typed.k home t root o → AreInitialsWithin code.homes t (Table.begun_in (parent_layout z o))
+  parent_within z at_home same before P.none = tt
+  parent_within {home} {t} z at_home same before (P.extends {p = p} less has root) =
+      let there : slice_get program.records p ≡ Some has.is = sym (ap (λ rs. slice_get rs p) typed.fits.records) ∙ has.found in
+      within_later code.homes p t (Table.begun_in (slice_get z p)) (granted_within code typed.k says t home (DeclarationOf.Record p) at_home (record_granted code typed.k says home p has))
+      (subst (λ o. AreInitialsWithin code.homes p (Table.begun_in o)) (same p less) (before p less has.is has.home there has.at_home))
+
+  within_by : (t : ℕ) → ((u : ℕ) → u < t → WithinAt u) → WithinAt t
+  within_by t before r home e at_home =
+      let fine = typed.each_record t r home e at_home in
+      let z = layout_at t r e in
+      let o = parent_layout z.before r.parent in
+      let size = cells_by z.before in
+      subst (λ y. AreInitialsWithin code.homes t (Table.begun_in y)) (sym z.there)
+      (subst (AreInitialsWithin code.homes t) (sym z.is.begun)
+      (within_both code.homes t (Table.begun_in o) (begun_from z.before size (next_position o) (Table.size_in o) r.own)
+      (parent_within z.before at_home z.same before fine.parent)
+      (own_within z.before size (next_position o) (Table.size_in o) at_home fine.own)))
+
+  all_within : (n t : ℕ) → t < n → WithinAt t
+  all_within zero t lt = absurd (omega (arith, lt))
+  all_within (suc n) t lt = within_by t (λ u less. all_within n u (omega (arith, less, lt)))
+
   -- what holds of each type inside as many masters as are around it
   abbrev pub EachAtHome : (ℕ → ℕ → Type 0) → Type 0
   EachAtHome P = (t : ℕ) (r : RecordType) (home : W.Frames) → slice_get program.records t ≡ Some r → slice_get typed.k.record_homes t ≡ Some home → P (length home) t
 
-  pub layouts_laid : EachAtHome (AreInScope code) → EachAtHome (IsStorageInScope code) → (t : ℕ) (x : Layout) → slice_get code.layouts.items t ≡ Some x → IsLaid code t x
-  layouts_laid in_scope storage t x there =
+  pub layouts_laid : EachAtHome (AreInScope code) → EachAtHome (IsStorageInScope code) → EachAtHome (λ n t. AreOperationsWithin code t) → (t : ℕ) (x : Layout) → slice_get code.layouts.items t ≡ Some x → IsLaid code t x
+  layouts_laid in_scope storage within t x there =
       let r = type_of program.records code.layouts.items laid.layouts t x there in
       let home = home_of program typed t r.0 r.1 in
       let z = layout_at t r.0 r.1 in
@@ -162,6 +280,8 @@ module _ (program : Checked) (typed : WellTyped program) (code : Code) (laid : I
         operations = subst (λ n. AreInScope code n t) level (in_scope t r.0 home.0 r.1 home.1);
         storage = subst (λ n. IsStorageInScope code n t) level (storage t r.0 home.0 r.1 home.1);
         types = subst (λ n. AreBegunBy code n x.begun.items) level (subst (λ o. AreBegunBy code (length home.0) (Table.begun_in o)) there (begun_within (suc t) t (omega arith) r.0 home.0 r.1 home.1));
+        operations_within = within t r.0 home.0 r.1 home.1;
+        types_within = subst (λ o. AreInitialsWithin code.homes t (Table.begun_in o)) there (all_within (suc t) t (omega arith) r.0 home.0 r.1 home.1);
         units = (roomy program.records code.layouts.items laid.layouts t x there).units;
         rise = rise_to (length x.offsets.items) 0 x.begun.items (told program.records code.layouts.items laid.layouts t x there).rise;
         controlled = controlled_are program.records code.layouts.items laid.layouts t x there ∙ finalized_same code x.begun.items;

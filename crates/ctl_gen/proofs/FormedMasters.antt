@@ -28,6 +28,7 @@ use Rattle.ctl_code.specs.declared.code.DiscriminantOrder.{DiscriminantOrder}
 use Rattle.ctl_code.specs.declared.code.Instr.TheVariants as InstrOf
 use Rattle.ctl_code.specs.declared.code.Way.TheVariants as WayOf
 use Rattle.ctl_code.specs.declared.code.Code.{Code}
+use Rattle.ctl_code.specs.declared.homes.Declaration.TheVariants as DeclarationOf
 use Rattle.ctl_code.specs.Windows.{HasSlot}
 use Rattle.ctl_meaning.specs.Outcome.{program_error}
 use Rattle.ctl_code.specs.Valid.{IsAtEnd, IsDeclarable, IsException, IsScalar}
@@ -35,14 +36,14 @@ use Rattle.ctl_layout.specs.Around.{Site, among, behind, local_at, out_to}
 use Rattle.ctl_layout.specs.Parts.{Reached, Variable, Part, Object, part_runs, parts_run}
 use Rattle.ctl_layout.specs.Values.{ValueCode, actual_code, copied, sourced, value_code, value_type, reached_by}
 use Rattle.ctl_layout.specs.Records.{is_pool, is_run_type}
-use Rattle.ctl_layout.specs.Defaults.{is_assignable, is_declared_in}
+use Rattle.ctl_layout.specs.Defaults.{is_assignable}
 use Rattle.ctl_layout.specs.Layout as Layout
 use Rattle.ctl_layout.specs.Layout.{ArmCode, HandlerCode, ItemCode, MasterCode, StatementCode, all, all_items, arm_code, arms_run, assign, assign_record, block, call, exit, free, gathers_code, return, handled, handler_code, handlers_run, has_choice, in_master, inside, item_code, library_allocate, library_deallocate, master_code, missing_statement, order_of, ordered_pool, statement_code, tested, valued, with_value}
 use Rattle.ctl_layout.proofs.Extensions.{both_true}
 use Rattle.ctl_layout.proofs.TreeLayers.{arm_roll, layer_of, master_roll, handler_roll}
 use Rattle.ctl_gen.proofs.Place.{HasAt}
 use Rattle.ctl_gen.proofs.Formed.{both, both_at, Formed, FormedAt, none, one}
-use Rattle.ctl_gen.proofs.FormedAround.{Agrees, IsHoused, agrees_inside, leave_behind, leaves_formed, newest_slot, newest_there}
+use Rattle.ctl_gen.proofs.FormedAround.{Agrees, Granted, IsHoused, MayHold, agrees_inside, granted_home, leave_behind, leaves_formed, newest_slot, newest_there}
 use Rattle.ctl_gen.proofs.FormedArms.{GoodArms, branches_stay}
 use Rattle.ctl_gen.proofs.FormedHandlers.{AreChoices, AreExceptions, GoodHandlers, StaysAtEnd, handled_stays}
 use Rattle.ctl_gen.proofs.FormedCalls.{MayCall, MayNew, call_formed, named_level}
@@ -65,35 +66,40 @@ abbrev pub MaySee : Code → W.Setting → Type 0
 MaySee code k = (env : W.Frames) (a : ℕ) → (to : W.HasAccess k env a) → (slice_get code.accesses.items a ≡ Some (Layout.home_of to.is)) × IsHoused code env a
 
 -- the operations of each record type that is declared around a place are declared there too, and so is each subprogram that can be called
--- there, with slots for its formals; the collection of each access type stands in its slot of one of the masters around; the operations of a
--- record type are declared inside as many masters as its level says; and Program_Error is an exception of the table
-module _ (code : Code) (records : List RecordType) (k : W.Setting) (declarable : (env : W.Frames) (t : ℕ) → W.HasRecord k env t → IsDeclarable code (length env) t) (may_call : MayCall code k) (may_new : MayNew code k) (seen : MaySee code k) (assignable : (masters t : ℕ) → is_declared_in masters (slice_get records t) ≡ true → IsDeclarable code masters t) (raisable : (x : ℕ) → x < k.exceptions → x < length code.exceptions.items) (fails : IsException code program_error) where
+-- there, with slots for its formals; the collection of each access type stands in its slot of one of the masters around; and Program_Error is
+-- an exception of the table
+module _ (code : Code) (records : List RecordType) (k : W.Setting) (declarable : (env : W.Frames) (t : ℕ) → W.HasRecord k env t → IsDeclarable code (length env) t × Granted code env (DeclarationOf.Record t)) (may_call : MayCall code k) (may_new : MayNew code k) (seen : MaySee code k) (raisable : (x : ℕ) → x < k.exceptions → x < length code.exceptions.items) (fails : IsException code program_error) where
   -- Items ------------------------------------------------------------------------------------------
 
-  may_declare : (env : W.Frames) (ty : Ty) → W.InView k env ty → MayDeclare code (length env) ty
-  may_declare env (Record t) view = declarable env t view
-  may_declare env Integer view = tt
-  may_declare env Count view = tt
-  may_declare env Boolean view = tt
-  may_declare env Address view = tt
-  may_declare env Handle view = tt
-  may_declare env (Access a) view = tt
+  may_hold : (env : W.Frames) (t : ℕ) (s : List Kind) → Agrees code env s → W.HasRecord k env t → MayHold code s t
+  may_hold env t s agrees view =
+      let may = declarable env t view in
+      (subst (λ n. IsDeclarable code n t) (sym agrees.0) may.0, granted_home code env s (DeclarationOf.Record t) agrees may.1)
+
+  may_declare : (env : W.Frames) (ty : Ty) (s : List Kind) → Agrees code env s → W.InView k env ty → MayDeclare code s ty
+  may_declare env (Record t) s agrees view = may_hold env t s agrees view
+  may_declare env Integer s agrees view = tt
+  may_declare env Count s agrees view = tt
+  may_declare env Boolean s agrees view = tt
+  may_declare env Address s agrees view = tt
+  may_declare env Handle s agrees view = tt
+  may_declare env (Access a) s agrees view = tt
 
   abbrev GoodItem : W.Frames → ItemCode → Type 0
-  GoodItem env x = x.runs records ≡ true → (s : List Kind) → Agrees env s → Formed code (x.code s) s (Some s)
+  GoodItem env x = x.runs records ≡ true → (s : List Kind) → Agrees code env s → Formed code (x.code s) s (Some s)
 
   -- the slot that a declaration fills is there
-  filled : (env : W.Frames) (slot : ℕ) (h : W.Holding) (s : List Kind) → Fills env slot h → Agrees env s → HasSlot s 0 slot
-  filled env slot h s (D.fills names) agrees = newest_slot env s (record { level = length env; slot = slot }) h agrees names refl
+  filled : (env : W.Frames) (slot : ℕ) (h : W.Holding) (s : List Kind) → Fills env slot h → Agrees code env s → HasSlot code.homes s 0 slot
+  filled env slot h s (D.fills names) agrees = newest_slot code env s (record { level = length env; slot = slot }) h agrees names refl
 
-  valued_good : (env : W.Frames) (slot : ℕ) (ty : Ty) (x : ValueCode) (s : List Kind) → Agrees env s → HasSlot s 0 slot → (x.runs records ≡ true → Fine code env x ty) → (valued slot ty x).runs records ≡ true → Formed code ((valued slot ty x).code s) s (Some s)
+  valued_good : (env : W.Frames) (slot : ℕ) (ty : Ty) (x : ValueCode) (s : List Kind) → Agrees code env s → HasSlot code.homes s 0 slot → (x.runs records ≡ true → Fine code env x ty) → (valued slot ty x).runs records ≡ true → Formed code ((valued slot ty x).code s) s (Some s)
   valued_good env slot ty x s agrees there fine runs =
       let g = both_true (is_run_type ty) (x.runs records) runs in
       valued_formed code env slot ty x s agrees there (usable_as code env x ty (run_scalar ty g.0) (fine g.1))
 
   -- a declaration with a value
-  given_good : (env : W.Frames) (slot : ℕ) (ty : Ty) (e : Expr) {s : List Kind} → W.InView k env ty → HasSlot s 0 slot → ((t : ℕ) → IsFound code env records (copied t (value_code e))) → ((value_code e).runs records ≡ true → Fine code env (value_code e) ty) → (with_value slot ty (value_code e)).runs records ≡ true → Agrees env s → Formed code ((with_value slot ty (value_code e)).code s) s (Some s)
-  given_good env slot (Record t) e {s} view there found fine runs agrees = copy_formed code env records slot t (copied t (value_code e)) s agrees there (found t) runs (subst (λ n. IsDeclarable code n t) (sym agrees.0) (declarable env t view))
+  given_good : (env : W.Frames) (slot : ℕ) (ty : Ty) (e : Expr) {s : List Kind} → W.InView k env ty → HasSlot code.homes s 0 slot → ((t : ℕ) → IsFound code env records (copied t (value_code e))) → ((value_code e).runs records ≡ true → Fine code env (value_code e) ty) → (with_value slot ty (value_code e)).runs records ≡ true → Agrees code env s → Formed code ((with_value slot ty (value_code e)).code s) s (Some s)
+  given_good env slot (Record t) e {s} view there found fine runs agrees = copy_formed code env records slot t (copied t (value_code e)) s agrees there (found t) runs (may_hold env t s agrees view)
   given_good env slot Integer e {s} view there found fine runs agrees = valued_good env slot Integer (value_code e) s agrees there fine runs
   given_good env slot Count e {s} view there found fine runs agrees = valued_good env slot Count (value_code e) s agrees there fine runs
   given_good env slot Boolean e {s} view there found fine runs agrees = valued_good env slot Boolean (value_code e) s agrees there fine runs
@@ -103,17 +109,17 @@ module _ (code : Code) (records : List RecordType) (k : W.Setting) (declarable :
 
   object_good : (env : W.Frames) (slot : ℕ) (ty : Ty) (o : Option Expr) → Fills env slot (W.Declared ty) → W.InView k env ty → Perhaps k env o ty → GoodItem env (item_code (Object slot ty o))
   object_good env slot ty None fresh view T.left_out runs s agrees =
-      declaration_formed code records slot ty s runs (filled env slot (W.Declared ty) s fresh agrees) (subst (λ n. MayDeclare code n ty) (sym agrees.0) (may_declare env ty view))
+      declaration_formed code records slot ty s runs (filled env slot (W.Declared ty) s fresh agrees) (may_declare env ty s agrees view)
   object_good env slot ty (Some e) fresh view (T.given h) runs s agrees = given_good env slot ty e view (filled env slot (W.Declared ty) s fresh agrees) (λ t. copied_found code records k may_call may_new t h) (typed_fine code records k may_call may_new h) runs agrees
 
   -- each collection is made in the master of its access type
-  gathers_good : {env : W.Frames} {as' : List ℕ} → D.Gathers k env as' → (count : ℕ) (s : List Kind) → Agrees env s → Formed code (gathers_code as' count s) s (Some s)
+  gathers_good : {env : W.Frames} {as' : List ℕ} → D.Gathers k env as' → (count : ℕ) (s : List Kind) → Agrees code env s → Formed code (gathers_code as' count s) s (Some s)
   gathers_good D.no_more_collections count s agrees = none code s
   gathers_good {env} (D.one_more_collection {a = a} {more = more} of level names rest) count s agrees =
       let least = named_level names in
       let gather = InstrOf.Gather a (Layout.layer_of more (count + 1)) in
       both code ((gather, s) ∷ []) (gathers_code more (count + 1) s) s s (Some s)
-      (one code gather s (Some s) (λ p next. ((Layout.home_of of.is, (seen env a of).0, level ∙ sym agrees.0, newest_slot env s of.is.collection (W.Collection a) agrees names level), (let deep = agrees.0 in omega (arith, least, level, deep)), next)))
+      (one code gather s (Some s) (λ p next. ((Layout.home_of of.is, (seen env a of).0, level ∙ sym agrees.0, newest_slot code env s of.is.collection (W.Collection a) agrees names level), (let deep = agrees.0 in omega (arith, least, level, deep)), next)))
       (gathers_good rest (count + 1) s agrees)
 
   collections_good : {env : W.Frames} (as' : List ℕ) → D.Gathers k env as' → GoodItem env (item_code (Collections as'))
@@ -130,7 +136,7 @@ module _ (code : Code) (records : List RecordType) (k : W.Setting) (declarable :
       pool_formed code env slot t order (value_code x) (value_code y) s agrees (filled env slot (W.Declared (Record t)) s fresh agrees)
       (usable x (typed_fine code records k may_call may_new h each_runs.0))
       (usable y (typed_fine code records k may_call may_new g each_runs.1))
-      (subst (λ n. IsDeclarable code n t) (sym agrees.0) (declarable env t view))
+      (may_hold env t s agrees view)
 
   -- which are both of them, in one order or the other
   pool_good : {env : W.Frames} {r : Root} {ds : List Association} (slot t : ℕ) → Fills env slot (W.Declared (Record t)) → W.InView k env (Record t) → D.Given k env r ds → GoodItem env (item_code (Pool slot t ds))
@@ -174,13 +180,13 @@ module _ (code : Code) (records : List RecordType) (k : W.Setting) (declarable :
       assign_part_formed code env b steps u position x a.stack agrees found.0 (found.1 (both_true _ _ e.0).0) (value_usable code env x t (fine e.1)) p
   assign_good env (Some (Variable v)) x t found fine runs a n p agrees texts can = assign_formed code env (local_at a.stack v) v x a.stack agrees (found.1 refl) refl (value_usable code env x t (fine runs)) p
 
-  record_good : (env : W.Frames) (o : Option Reached) (t : ℕ) (q : Option Reached) → IsFound code env records o → IsFound code env records q → GoodStatement env (assign_record o t q)
-  record_good env None t q to from runs a n p agrees texts can = absurd (cc)
-  record_good env (Some target) t None to from runs a n p agrees texts can = absurd (cc)
-  record_good env (Some target) t (Some source) to from runs a n p agrees texts can =
+  record_good : (env : W.Frames) (o : Option Reached) (t : ℕ) (q : Option Reached) → W.HasRecord k env t → IsFound code env records o → IsFound code env records q → GoodStatement env (assign_record o t q)
+  record_good env None t q view to from runs a n p agrees texts can = absurd (cc)
+  record_good env (Some target) t None view to from runs a n p agrees texts can = absurd (cc)
+  record_good env (Some target) t (Some source) view to from runs a n p agrees texts can =
       let e = both_true (part_runs target records) (part_runs source records && is_assignable (site env) t) runs in
       let f = both_true (part_runs source records) (is_assignable (site env) t) e.1 in
-      record_formed code env records target source t a.stack agrees to from (part_begun records target e.0) (part_begun records source f.0) (subst (λ n. IsDeclarable code n t) (sym agrees.0) (assignable (length env) t (both_true _ _ f.1).1)) p
+      record_formed code env records target source t a.stack agrees to from (part_begun records target e.0) (part_begun records source f.0) (may_hold env t a.stack agrees view) p
 
   free_good : (env : W.Frames) (access : ℕ) (o : Option Reached) → IsFound code env records o → IsHoused code env access → GoodStatement env (free access o)
   free_good env access None found housed runs a n p agrees texts can = absurd (cc)
@@ -226,7 +232,7 @@ module _ (code : Code) (records : List RecordType) (k : W.Setting) (declarable :
 
   call_good : {env : W.Frames} {f : ℕ} {is : W.Signature} {actuals : List Actual} → W.Callable k env f is → is.result ≡ None → T.FitEach k env is.formals actuals → GoodStatement env (call f (map actual_code actuals))
   call_good {env} {f} {is} {actuals} can_call gives fits = λ runs a n p agrees texts can.
-      call_formed code env f (map actual_code actuals) a.stack agrees (may_call env f is can_call).0 (has_formals code k may_call can_call gives fits) (actuals_good code records k may_call may_new fits runs) p
+      call_formed code env f (map actual_code actuals) a.stack agrees (may_call env f is can_call).0 (may_call env f is can_call).2 (has_formals code k may_call can_call gives fits) (actuals_good code records k may_call may_new fits runs) p
 
   leaving_good : {env : W.Frames} (o : Option Expr) → Perhaps k env o Boolean → GoodStatement env (exit (option_map value_code o))
   leaving_good {env} None T.left_out runs = leaves_stay code env
@@ -242,7 +248,7 @@ module _ (code : Code) (records : List RecordType) (k : W.Setting) (declarable :
   -- Masters ------------------------------------------------------------------------------------------
 
   abbrev pub GoodMaster : W.Frames → StatementCode → Type 0
-  GoodMaster env x = x.runs (among records (length env)) ≡ true → (m : Kind) (below : List Kind) (n p : ℕ) → Agrees env (m ∷ below) → HasAt code.texts.items n x.texts → IsAtEnd (m ∷ below) → FormedAt code p (x.code (in_master m below) n) (m ∷ below) None
+  GoodMaster env x = x.runs (among records (length env)) ≡ true → (m : Kind) (below : List Kind) (n p : ℕ) → Agrees code env (m ∷ below) → HasAt code.texts.items n x.texts → IsAtEnd (m ∷ below) → FormedAt code p (x.code (in_master m below) n) (m ∷ below) None
 
   -- the statements of a master, with their handlers
   abbrev GoodHandled : W.Frames → StatementCode → Type 0
@@ -280,7 +286,7 @@ module _ (code : Code) (records : List RecordType) (k : W.Setting) (declarable :
       let s = a.stack in
       let inner = m.inside.code (in_master (Block m.slots) s) n in
       let size = length inner in
-      let over = subst (λ slots. Agrees (env ++ f ∷ []) (Block slots ∷ s)) (sym same) (agrees_inside env f s agrees) in
+      let over = subst (λ slots. Agrees code (env ++ f ∷ []) (Block slots ∷ s)) (sym same) (agrees_inside code env f s agrees) in
       let there : p + (size + 1) ≡ p + 1 + size = omega arith in
       block_formed code p m.slots inner (behind (size + 1) a)
       (h (subst (λ masters. m.inside.runs (among records masters) ≡ true) (sym (length-append env (f ∷ []))) runs) (Block m.slots) s n (p + 1) over texts tt)
@@ -315,12 +321,12 @@ module _ (code : Code) (records : List RecordType) (k : W.Setting) (declarable :
         let b = all (map statement_code body) in
         let e = both_true ((value_code low).runs records) ((value_code high).runs records && b.runs (site env)) runs in
         let g = both_true ((value_code high).runs records) (b.runs (site env)) e.1 in
-        for_stays code env v way (value_code low) (value_code high) b (λ s agrees. newest_there env s v W.LoopParameter agrees names refl)
+        for_stays code env v way (value_code low) (value_code high) b (λ s agrees. newest_there code env s v W.LoopParameter agrees names refl)
         (usable_as code env (value_code low) Integer tt (typed_fine code records k may_call may_new from e.0))
         (usable_as code env (value_code high) Integer tt (typed_fine code records k may_call may_new to g.0))
         (each_good h g.1))
     statement_good {env} (D.block {m = m} {f = f} h) = good_as env _ _ (layer_of _ (sym (rolls-Block m))) (block_good env f (master_code m) (slots_told h) (master_good h))
-    statement_good {env} (D.assign_record {x = x} {t = t} {v = v} denotes fits) = good_as env _ _ (layer_of _ (sym (rolls-AssignRecord x t v))) (record_good env (reached_by x) t (sourced v) (name_found code records k may_call may_new denotes) (source_found code records k may_call may_new fits))
+    statement_good {env} (D.assign_record {x = x} {t = t} {v = v} denotes view fits) = good_as env _ _ (layer_of _ (sym (rolls-AssignRecord x t v))) (record_good env (reached_by x) t (sourced v) view (name_found code records k may_call may_new denotes) (source_found code records k may_call may_new fits))
     statement_good {env} (D.call {s = f} {actuals = actuals} can_call gives fits) = good_as env _ _ (layer_of _ (sym (rolls-Call f actuals))) (call_good can_call gives fits)
     statement_good {env} (D.nothing_done {x = x} views) = not_missing env _ (layer_of _ (sym (rolls-Nothing x)))
     statement_good {env} (D.dispatch {o = o} {x = x} views) = not_missing env _ (layer_of _ (sym (rolls-Dispatch o x)))

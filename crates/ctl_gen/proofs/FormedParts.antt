@@ -13,14 +13,14 @@ use Rattle.ctl_code.specs.declared.kinds.Kind.TheVariants.{Operand}
 use Rattle.ctl_code.specs.declared.code.Cell.{Cell}
 use Rattle.ctl_code.specs.declared.code.Instr.TheVariants as InstrOf
 use Rattle.ctl_code.specs.declared.code.Code.{Code}
-use Rattle.ctl_code.specs.Windows.{HasSlot, depth, height}
+use Rattle.ctl_code.specs.Windows.{HasSlot, height}
 use Rattle.ctl_code.specs.Valid as Valid
-use Rattle.ctl_code.specs.Valid.{IsDeclarable, IsFine, Puts}
+use Rattle.ctl_code.specs.Valid.{IsFine, Puts}
 use Rattle.ctl_layout.specs.Around.{local_at, new_operand, out_to, read_from}
 use Rattle.ctl_layout.specs.Parts.{Start, OfVariable, OfValue, Reached, Variable, Part, Object, access_value, are_followed, are_walked, behind_steps, first_type, found, is_begun, is_dereferenced, located_code, part_code, selected, selects_code}
 use Rattle.ctl_layout.specs.Layout.{record_code, take_over_code}
 use Rattle.ctl_gen.proofs.Formed.{Formed, both, none, one}
-use Rattle.ctl_gen.proofs.FormedAround.{Agrees, IsNamed}
+use Rattle.ctl_gen.proofs.FormedAround.{Agrees, IsNamed, MayHold}
 use Rattle.ctl_gen.proofs.Walked.{behind_is, start_of, steps_before}
 
 -- what stands before these steps: an access value where they begin with a dereference, else the part whose component they select
@@ -30,7 +30,7 @@ before steps t s = (if is_dereferenced steps then Operand access_value else Oper
 -- inside these masters the code of what a name begins with is well formed, and puts an access value on top; a variable is named there
 abbrev pub IsBegun : Code → W.Frames → Start → Type 0
 IsBegun code env (OfVariable v) = IsNamed env v
-IsBegun code env (OfValue runs lines) = (s : List Kind) → Agrees env s → Formed code (lines s) s (Some (Operand access_value ∷ s))
+IsBegun code env (OfValue runs lines) = (s : List Kind) → Agrees code env s → Formed code (lines s) s (Some (Operand access_value ∷ s))
 
 -- so is that of what a name denotes, whose steps are run, where what it begins with is run
 abbrev pub IsFound : Code → W.Frames → List RecordType → Option Reached → Type 0
@@ -46,12 +46,12 @@ steps_found code env records b ss (Some x) is begun =
 
 module _ (code : Code) where
   -- the value of a variable goes where it is wanted
-  pub read_fine : (o : Option ℕ) (v : Var) (ty : Ty) (to : Cell) (s : List Kind) (p : ℕ) → local_at s v ≡ o → HasSlot s (out_to s v) v.slot → Valid.IsScalar ty → Puts code p to ty s → IsFine code p (read_from o v ty to s) s
+  pub read_fine : (o : Option ℕ) (v : Var) (ty : Ty) (to : Cell) (s : List Kind) (p : ℕ) → local_at s v ≡ o → HasSlot code.homes s (out_to s v) v.slot → Valid.IsScalar ty → Puts code p to ty s → IsFine code p (read_from o v ty to s) s
   read_fine (Some at) v ty to s p here slot scalar put = (scalar, (s, (refl, here), put))
   read_fine None v ty to s p here slot scalar put = (scalar, put, slot)
 
   -- the object in a variable, or the access value that is dereferenced
-  found_formed : (v : Var) (steps : List Step) (t : ℕ) (s : List Kind) → HasSlot s (out_to s v) v.slot → Formed code ((found v steps t s, s) ∷ []) s (Some (before steps t s))
+  found_formed : (v : Var) (steps : List Step) (t : ℕ) (s : List Kind) → HasSlot code.homes s (out_to s v) v.slot → Formed code ((found v steps t s, s) ∷ []) s (Some (before steps t s))
   found_formed v steps t s slot = by (is_dereferenced steps)
     where
       by : (b : Bool) → Formed code (((if b then read_from (local_at s v) v access_value (new_operand s) s else InstrOf.Locate (out_to s v) v.slot (first_type steps t) (height s)), s) ∷ []) s (Some ((if b then Operand access_value else Operand (Record (first_type steps t))) ∷ s))
@@ -95,7 +95,7 @@ module _ (code : Code) where
 
   -- inside these masters
   module _ (env : W.Frames) where
-    pub located_formed : (b : Start) (steps : List Step) (t : ℕ) (s : List Kind) → Agrees env s → are_followed b steps ≡ true → IsBegun code env b → Formed code (located_code b steps t s) s (Some (Operand (Record t) ∷ s))
+    pub located_formed : (b : Start) (steps : List Step) (t : ℕ) (s : List Kind) → Agrees code env s → are_followed b steps ≡ true → IsBegun code env b → Formed code (located_code b steps t s) s (Some (Operand (Record t) ∷ s))
     located_formed (OfVariable v) steps t s agrees followed begun =
         both code ((found v steps t s, s) ∷ []) (selects_code steps t s) s (before steps t s) (Some (Operand (Record t) ∷ s))
         (found_formed v steps t s (agrees.1 v begun.0 begun.1))
@@ -108,7 +108,7 @@ module _ (code : Code) where
     located_formed (OfValue runs lines) (Component u i ∷ steps) t s agrees followed begun = absurd (cc followed)
     located_formed (OfValue runs lines) (Narrow u ∷ steps) t s agrees followed begun = absurd (cc followed)
 
-    pub part_formed : (x : Reached) (t : ℕ) (s : List Kind) → Agrees env s → are_followed (start_of x) (steps_before x) ≡ true → IsBegun code env (start_of x) → Formed code (part_code x t s) s (Some (Operand (Record t) ∷ s))
+    pub part_formed : (x : Reached) (t : ℕ) (s : List Kind) → Agrees code env s → are_followed (start_of x) (steps_before x) ≡ true → IsBegun code env (start_of x) → Formed code (part_code x t s) s (Some (Operand (Record t) ∷ s))
     part_formed (Variable v) t s agrees followed begun = located_formed (OfVariable v) [] t s agrees followed begun
     part_formed (Object b steps) t s agrees followed begun = located_formed b steps t s agrees followed begun
     part_formed (Part b steps u position) t s agrees followed begun =
@@ -118,10 +118,10 @@ module _ (code : Code) where
 
     -- Assignments ------------------------------------------------------------------------------------
 
-    pub record_formed : (records : List RecordType) (target source : Reached) (t : ℕ) (s : List Kind) → Agrees env s → IsFound code env records (Some target) → IsFound code env records (Some source) → is_begun (start_of target) records ≡ true → is_begun (start_of source) records ≡ true → IsDeclarable code (depth s) t → Formed code (record_code target t source s) s (Some s)
-    record_formed records target source t s agrees to from begun begun1 declarable =
+    pub record_formed : (records : List RecordType) (target source : Reached) (t : ℕ) (s : List Kind) → Agrees code env s → IsFound code env records (Some target) → IsFound code env records (Some source) → is_begun (start_of target) records ≡ true → is_begun (start_of source) records ≡ true → MayHold code s t → Formed code (record_code target t source s) s (Some s)
+    record_formed records target source t s agrees to from begun begun1 may =
         let above = Operand (Record t) ∷ s in
         let top = Operand (Record t) ∷ above in
         both code (part_code target t s) (take_over_code t source above) s above (Some s) (part_formed target t s agrees to.0 (to.1 begun))
         (both code (part_code source t above) ((InstrOf.Assign t, top) ∷ []) above top (Some s) (part_formed source t above agrees from.0 (from.1 begun1))
-        (one code (InstrOf.Assign t) top (Some s) (λ p next. (declarable, (above, refl, (s, refl, next))))))
+        (one code (InstrOf.Assign t) top (Some s) (λ p next. (may.0, (above, refl, (s, refl, next)), may.1))))

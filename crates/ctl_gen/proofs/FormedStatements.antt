@@ -15,8 +15,8 @@ use Rattle.ctl_code.specs.declared.code.Instr.{Instr}
 use Rattle.ctl_code.specs.declared.code.Instr.TheVariants as InstrOf
 use Rattle.ctl_code.specs.declared.code.Code.{Code}
 use Rattle.ctl_code.specs.declared.template.TextPart.{TextPart}
-use Rattle.ctl_code.specs.Windows.{HasSlot, depth, height, variable_at}
-use Rattle.ctl_code.specs.Valid.{IsCellOf, IsDeclarable, IsException, IsFine, HasCollection, Leads}
+use Rattle.ctl_code.specs.Windows.{HasSlot, height, variable_at}
+use Rattle.ctl_code.specs.Valid.{IsCellOf, IsException, IsFine, HasCollection, Leads}
 use Rattle.ctl_layout.specs.Parts.{Start, Reached, Variable, are_followed, located_code, part_code, part_runs}
 use Rattle.ctl_layout.specs.Around.{Line, Around, behind, local_at, local_cell, new_operand, newest_at, newest_cell, out_to}
 use Rattle.ctl_layout.specs.Values.{ValueCode, held, value_type}
@@ -27,7 +27,7 @@ use Rattle.ctl_layout.proofs.Extensions.{both_true}
 use Rattle.ctl_gen.proofs.Place.{HasAt}
 use Rattle.ctl_gen.proofs.Place as Place
 use Rattle.ctl_gen.proofs.Formed.{both, both_at, Formed, FormedAt, has_end, leads_at, none, one}
-use Rattle.ctl_gen.proofs.FormedAround.{Agrees, CanLeave, IsNamed, cell_there, leave_behind, leaves_formed}
+use Rattle.ctl_gen.proofs.FormedAround.{Agrees, CanLeave, IsNamed, MayHold, cell_there, leave_behind, leaves_formed}
 use Rattle.ctl_gen.proofs.FormedLines.{loop_formed, test_formed, turns_formed}
 use Rattle.ctl_gen.proofs.FormedParts.{IsBegun, IsFound, located_formed, part_formed}
 use Rattle.ctl_gen.proofs.Walked.{part_begun}
@@ -37,30 +37,30 @@ module _ (code : Code) where
   -- Items ------------------------------------------------------------------------------------------
 
   -- an elementary variable without a value
-  scalar_formed : (slot : ℕ) (ty : Ty) (s : List Kind) → HasSlot s 0 slot → IsCellOf ty 0 → Formed code (scalar_code (variable_at s 0 slot) slot ty s) s (Some s)
+  scalar_formed : (slot : ℕ) (ty : Ty) (s : List Kind) → HasSlot code.homes s 0 slot → IsCellOf ty 0 → Formed code (scalar_code (variable_at s 0 slot) slot ty s) s (Some s)
   scalar_formed slot ty s there zero_cell =
-      let cell = cell_there s slot there in
+      let cell = cell_there code.homes s slot there in
       subst (λ o. Formed code (scalar_code o slot ty s) s (Some s)) (sym cell.1)
       (both code ((InstrOf.Set 0 ty (newest_cell slot cell.0), s) ∷ []) ((InstrOf.Number, s) ∷ []) s s (Some s)
       (one code (InstrOf.Set 0 ty (newest_cell slot cell.0)) s (Some s) (λ p next. (zero_cell, (cell.1, next))))
       (one code InstrOf.Number s (Some s) (λ p next. next)))
 
   -- and one with a value
-  pub valued_formed : (env : W.Frames) (slot : ℕ) (ty : Ty) (x : ValueCode) (s : List Kind) → Agrees env s → HasSlot s 0 slot → Usable code env x ty → Formed code (valued_code (variable_at s 0 slot) slot ty x s) s (Some s)
+  pub valued_formed : (env : W.Frames) (slot : ℕ) (ty : Ty) (x : ValueCode) (s : List Kind) → Agrees code env s → HasSlot code.homes s 0 slot → Usable code env x ty → Formed code (valued_code (variable_at s 0 slot) slot ty x s) s (Some s)
   valued_formed env slot ty x s agrees there usable =
-      let cell = cell_there s slot there in
+      let cell = cell_there code.homes s slot there in
       subst (λ o. Formed code (valued_code o slot ty x s) s (Some s)) (sym cell.1)
       (both code (x.code (newest_cell slot cell.0) ty s) ((InstrOf.Number, s) ∷ []) s s (Some s)
       (usable.formed (newest_cell slot cell.0) s agrees cell.1)
       (one code InstrOf.Number s (Some s) (λ p next. next)))
 
-  -- a declaration without a value, of a type whose operations are in scope if it is a record type
-  abbrev pub MayDeclare : ℕ → Ty → Type 0
-  MayDeclare masters (Record t) = IsDeclarable code masters t
-  MayDeclare masters ty = Unit {0}
+  -- a declaration without a value, of a type that can be declared there if it is a record type
+  abbrev pub MayDeclare : List Kind → Ty → Type 0
+  MayDeclare s (Record t) = MayHold code s t
+  MayDeclare s ty = Unit {0}
 
-  pub declaration_formed : (records : List RecordType) (slot : ℕ) (ty : Ty) (s : List Kind) → is_declared records ty ≡ true → HasSlot s 0 slot → MayDeclare (depth s) ty → Formed code (declaration slot ty s) s (Some s)
-  declaration_formed records slot (Record t) s runs there may = one code (InstrOf.Declare slot t) s (Some s) (λ p next. (may, next, there))
+  pub declaration_formed : (records : List RecordType) (slot : ℕ) (ty : Ty) (s : List Kind) → is_declared records ty ≡ true → HasSlot code.homes s 0 slot → MayDeclare s ty → Formed code (declaration slot ty s) s (Some s)
+  declaration_formed records slot (Record t) s runs there may = one code (InstrOf.Declare slot t) s (Some s) (λ p next. (may.0, next, there, may.1))
   declaration_formed records slot Integer s runs there may = scalar_formed slot Integer s there tt
   declaration_formed records slot Count s runs there may = scalar_formed slot Count s there tt
   declaration_formed records slot Boolean s runs there may = scalar_formed slot Boolean s there (omega arith)
@@ -69,38 +69,38 @@ module _ (code : Code) where
   declaration_formed records slot (Access a) s runs there may = scalar_formed slot (Access a) s there tt
 
   -- one with the value of a part of its record type
-  pub copy_formed : (env : W.Frames) (records : List RecordType) (slot t : ℕ) (o : Option Reached) (s : List Kind) → Agrees env s → HasSlot s 0 slot → IsFound code env records o → (copy slot t o).runs records ≡ true → IsDeclarable code (depth s) t → Formed code ((copy slot t o).code s) s (Some s)
+  pub copy_formed : (env : W.Frames) (records : List RecordType) (slot t : ℕ) (o : Option Reached) (s : List Kind) → Agrees code env s → HasSlot code.homes s 0 slot → IsFound code env records o → (copy slot t o).runs records ≡ true → MayHold code s t → Formed code ((copy slot t o).code s) s (Some s)
   copy_formed env records slot t None s agrees there found_so runs may = absurd (cc)
   copy_formed env records slot t (Some o) s agrees there found_so runs may =
       let over = Operand (Record t) ∷ s in
       let declare = InstrOf.DeclareCopy slot t in
       let begun = found_so.1 (part_begun records o (both_true (is_plain records t) (part_runs o records) runs).1) in
       both code (part_code o t s) ((declare, over) ∷ []) s over (Some s) (part_formed code env o t s agrees found_so.0 begun)
-      (one code declare over (Some s) (λ p next. (may, (s, refl, next), there)))
+      (one code declare over (Some s) (λ p next. (may.0, (s, refl, next), there, may.1)))
 
   -- two values of one type, one after the other
-  two_formed : (env : W.Frames) (ty : Ty) (x y : ValueCode) (s : List Kind) → Agrees env s → Usable code env x ty → Usable code env y ty → Formed code (x.code (new_operand s) ty s ++ y.code (new_operand (Operand ty ∷ s)) ty (Operand ty ∷ s)) s (Some (Operand ty ∷ Operand ty ∷ s))
+  two_formed : (env : W.Frames) (ty : Ty) (x y : ValueCode) (s : List Kind) → Agrees code env s → Usable code env x ty → Usable code env y ty → Formed code (x.code (new_operand s) ty s ++ y.code (new_operand (Operand ty ∷ s)) ty (Operand ty ∷ s)) s (Some (Operand ty ∷ Operand ty ∷ s))
   two_formed env ty x y s agrees from to =
       let one_up = Operand ty ∷ s in
       both code (x.code (new_operand s) ty s) (y.code (new_operand one_up) ty one_up) s one_up (Some (Operand ty ∷ one_up)) (from.formed (new_operand s) s agrees refl) (to.formed (new_operand one_up) one_up agrees refl)
 
   -- a block pool, with its discriminants (3.7.1, 13.11)
-  pub pool_formed : (env : W.Frames) (slot t : ℕ) (order : DiscriminantOrder) (x y : ValueCode) (s : List Kind) → Agrees env s → HasSlot s 0 slot → Usable code env x Count → Usable code env y Count → IsDeclarable code (depth s) t → Formed code (pool_code slot t order x y s) s (Some s)
+  pub pool_formed : (env : W.Frames) (slot t : ℕ) (order : DiscriminantOrder) (x y : ValueCode) (s : List Kind) → Agrees code env s → HasSlot code.homes s 0 slot → Usable code env x Count → Usable code env y Count → MayHold code s t → Formed code (pool_code slot t order x y s) s (Some s)
   pool_formed env slot t order x y s agrees there from to may =
       let two = with_discriminants s in
       let declare = InstrOf.DeclarePool slot t order (height s) in
       both code (discriminants_code x y s) ((declare, two) ∷ []) s two (Some s) (two_formed env Count x y s agrees from to)
-      (one code declare two (Some s) (λ p next. (may, (s, refl, (refl, next)), there)))
+      (one code declare two (Some s) (λ p next. (may.0, (s, refl, (refl, next)), there, may.1)))
 
   -- Statements -------------------------------------------------------------------------------------
 
   -- lines of statements inside these masters, with the texts that they print
   abbrev pub Stays : W.Frames → List (List TextPart) → (Around → ℕ → List Line) → Type 0
-  Stays env texts lines = (a : Around) (n p : ℕ) → Agrees env a.stack → HasAt code.texts.items n texts → CanLeave code p a → FormedAt code p (lines a n) a.stack (Some a.stack)
+  Stays env texts lines = (a : Around) (n p : ℕ) → Agrees code env a.stack → HasAt code.texts.items n texts → CanLeave code p a → FormedAt code p (lines a n) a.stack (Some a.stack)
 
   -- the same of lines that may lead to the second place behind them
   abbrev pub Turns : W.Frames → List (List TextPart) → (Around → ℕ → List Line) → Type 0
-  Turns env texts lines = (a : Around) (n p : ℕ) → Agrees env a.stack → HasAt code.texts.items n texts → CanLeave code p a → Leads code (p + length (lines a n) + 1) a.stack → FormedAt code p (lines a n) a.stack (Some a.stack)
+  Turns env texts lines = (a : Around) (n p : ℕ) → Agrees code env a.stack → HasAt code.texts.items n texts → CanLeave code p a → Leads code (p + length (lines a n) + 1) a.stack → FormedAt code p (lines a n) a.stack (Some a.stack)
 
   pub all_stay : (env : W.Frames) (x : StatementCode) (xs : List StatementCode) → Stays env x.texts x.code → Stays env (all xs).texts (all xs).code → Stays env (all (x ∷ xs)).texts (all (x ∷ xs)).code
   all_stay env x xs h rest a n p agrees texts can =
@@ -110,17 +110,17 @@ module _ (code : Code) where
       (h a n p agrees (Place.has_front code.texts.items n x.texts (all xs).texts texts) can)
       (rest (behind size a) n1 (p + size) agrees (Place.has_back code.texts.items n x.texts (all xs).texts texts) (leave_behind code p size (p + size) a refl can))
 
-  pub assign_formed : (env : W.Frames) (o : Option ℕ) (v : Var) (x : ValueCode) (s : List Kind) → Agrees env s → IsNamed env v → local_at s v ≡ o → Usable code env x (value_type x) → Formed code (assign_code o v x s) s (Some s)
+  pub assign_formed : (env : W.Frames) (o : Option ℕ) (v : Var) (x : ValueCode) (s : List Kind) → Agrees code env s → IsNamed env v → local_at s v ≡ o → Usable code env x (value_type x) → Formed code (assign_code o v x s) s (Some s)
   assign_formed env (Some at) v x s agrees named here usable = usable.formed (local_cell s v at) s agrees here
   assign_formed env None v x s agrees named here usable =
       let h = held x (value_type x) s in
       let f = found code env x (value_type x) s agrees usable in
       let store = InstrOf.Store h.cell (value_type x) (out_to s v) v.slot in
       both code h.code ((store, h.after) ∷ []) s h.after (Some s) f.formed
-      (one code store h.after (Some s) (λ p next. (usable.scalar, (s, f.taken, next), taken_slot h.cell (value_type x) h.after s (out_to s v) v.slot f.taken (agrees.1 v named.0 named.1))))
+      (one code store h.after (Some s) (λ p next. (usable.scalar, (s, f.taken, next), taken_slot code.homes h.cell (value_type x) h.after s (out_to s v) v.slot f.taken (agrees.1 v named.0 named.1))))
 
   -- a value goes into a component of a part
-  pub assign_part_formed : (env : W.Frames) (b : Start) (steps : List Step) (t position : ℕ) (x : ValueCode) (s : List Kind) → Agrees env s → are_followed b steps ≡ true → IsBegun code env b → Usable code env x (value_type x) → Formed code (assign_part_code b steps t position x s) s (Some s)
+  pub assign_part_formed : (env : W.Frames) (b : Start) (steps : List Step) (t position : ℕ) (x : ValueCode) (s : List Kind) → Agrees code env s → are_followed b steps ≡ true → IsBegun code env b → Usable code env x (value_type x) → Formed code (assign_part_code b steps t position x s) s (Some s)
   assign_part_formed env b steps t position x s agrees followed begun usable =
       let over = Operand (Record t) ∷ s in
       let h = held x (value_type x) over in
@@ -135,10 +135,10 @@ module _ (code : Code) where
   freed_formed i over s known fine p h = (h.0, (fine p h.1.0 h.1.1, (known, tt)))
 
   -- an object is freed whose access value is in a variable, or in a component of a part (13.11.2)
-  pub free_formed : (access out slot : ℕ) (s : List Kind) → IsException code program_error → HasCollection code s access → HasSlot s out slot → Formed code ((InstrOf.Free access out slot, s) ∷ failed_code s) s (Some s)
+  pub free_formed : (access out slot : ℕ) (s : List Kind) → IsException code program_error → HasCollection code s access → HasSlot code.homes s out slot → Formed code ((InstrOf.Free access out slot, s) ∷ failed_code s) s (Some s)
   free_formed access out slot s known seen there = freed_formed (InstrOf.Free access out slot) s s known (λ p next behind_it. (seen, next, behind_it, there))
 
-  pub free_part_formed : (env : W.Frames) (access : ℕ) (b : Start) (steps : List Step) (t position : ℕ) (s : List Kind) → Agrees env s → IsException code program_error → are_followed b steps ≡ true → IsBegun code env b → HasCollection code s access → Formed code (free_part_code access b steps t position s) s (Some s)
+  pub free_part_formed : (env : W.Frames) (access : ℕ) (b : Start) (steps : List Step) (t position : ℕ) (s : List Kind) → Agrees code env s → IsException code program_error → are_followed b steps ≡ true → IsBegun code env b → HasCollection code s access → Formed code (free_part_code access b steps t position s) s (Some s)
   free_part_formed env access b steps t position s agrees known followed begun seen =
       let over = Operand (Record t) ∷ s in
       let free = InstrOf.FreePart access t position in
@@ -151,29 +151,29 @@ module _ (code : Code) where
   AreUsable env [] = Unit {0}
   AreUsable env (x ∷ xs) = Usable code env x.0 x.1 × AreUsable env xs
 
-  values_formed : (env : W.Frames) (xs : List (ValueCode × Ty)) (s : List Kind) → Agrees env s → AreUsable env xs → Formed code (values_code xs s) s (Some (with_types xs s))
+  values_formed : (env : W.Frames) (xs : List (ValueCode × Ty)) (s : List Kind) → Agrees code env s → AreUsable env xs → Formed code (values_code xs s) s (Some (with_types xs s))
   values_formed env [] s agrees usable = none code s
   values_formed env (x ∷ xs) s agrees usable =
       let top = Operand x.1 ∷ s in
       both code (x.0.code (new_operand s) x.1 s) (values_code xs top) s top (Some (with_types xs top)) (usable.0.formed (new_operand s) s agrees refl) (values_formed env xs top agrees usable.1)
 
   -- an instruction on values and what is below them, which it takes
-  values_then_formed : (env : W.Frames) (xs : List (ValueCode × Ty)) (i : Instr) (over s : List Kind) → Agrees env over → AreUsable env xs → ((place : ℕ) → Leads code (place + 1) s → IsFine code place i (with_types xs over)) → Formed code (values_then xs i over) over (Some s)
+  values_then_formed : (env : W.Frames) (xs : List (ValueCode × Ty)) (i : Instr) (over s : List Kind) → Agrees code env over → AreUsable env xs → ((place : ℕ) → Leads code (place + 1) s → IsFine code place i (with_types xs over)) → Formed code (values_then xs i over) over (Some s)
   values_then_formed env xs i over s agrees usable fine =
       let top = with_types xs over in
       both code (values_code xs over) ((i, top) ∷ []) over top (Some s) (values_formed env xs over agrees usable) (one code i top (Some s) fine)
 
   -- an instruction on a pool and values
-  on_pool_formed : (env : W.Frames) (p : Var) (xs : List (ValueCode × Ty)) (i : Instr) (s : List Kind) → Agrees env s → IsNamed env p → AreUsable env xs → ((place : ℕ) → Leads code (place + 1) s → IsFine code place i (with_types xs (with_pool s))) → Formed code (on_pool p xs i s) s (Some s)
+  on_pool_formed : (env : W.Frames) (p : Var) (xs : List (ValueCode × Ty)) (i : Instr) (s : List Kind) → Agrees code env s → IsNamed env p → AreUsable env xs → ((place : ℕ) → Leads code (place + 1) s → IsFine code place i (with_types xs (with_pool s))) → Formed code (on_pool p xs i s) s (Some s)
   on_pool_formed env p xs i s agrees named usable fine =
       let pool = with_pool s in
       both code (pool_operand p s) (values_then xs i pool) s pool (Some s) (part_formed code env (Variable p) pool_type s agrees refl named) (values_then_formed env xs i pool s agrees usable fine)
 
-  pub allocate_formed : (env : W.Frames) (p : Var) (out slot : ℕ) (size alignment : ValueCode) (s : List Kind) → Agrees env s → IsNamed env p → HasSlot s out slot → Usable code env size Count → Usable code env alignment Count → Formed code (on_pool p (request size alignment) (InstrOf.TakeBlock pool_type out slot) s) s (Some s)
+  pub allocate_formed : (env : W.Frames) (p : Var) (out slot : ℕ) (size alignment : ValueCode) (s : List Kind) → Agrees code env s → IsNamed env p → HasSlot code.homes s out slot → Usable code env size Count → Usable code env alignment Count → Formed code (on_pool p (request size alignment) (InstrOf.TakeBlock pool_type out slot) s) s (Some s)
   allocate_formed env p out slot size alignment s agrees named there first second =
       on_pool_formed env p (request size alignment) (InstrOf.TakeBlock pool_type out slot) s agrees named (first, (second, tt)) (λ place next. ((with_pool s, refl, (s, refl, next)), there))
 
-  pub allocate_into_formed : (env : W.Frames) (p : Var) (b : Start) (steps : List Step) (t position : ℕ) (size alignment : ValueCode) (s : List Kind) → Agrees env s → IsNamed env p → are_followed b steps ≡ true → IsBegun code env b → Usable code env size Count → Usable code env alignment Count → Formed code (on_pool_and_part p b steps t (request size alignment) (InstrOf.TakeBlockInto pool_type t position) s) s (Some s)
+  pub allocate_into_formed : (env : W.Frames) (p : Var) (b : Start) (steps : List Step) (t position : ℕ) (size alignment : ValueCode) (s : List Kind) → Agrees code env s → IsNamed env p → are_followed b steps ≡ true → IsBegun code env b → Usable code env size Count → Usable code env alignment Count → Formed code (on_pool_and_part p b steps t (request size alignment) (InstrOf.TakeBlockInto pool_type t position) s) s (Some s)
   allocate_into_formed env p b steps t position size alignment s agrees named followed begun first second =
       let pool = with_pool s in
       let over = with_pool_and_part t s in
@@ -183,12 +183,12 @@ module _ (code : Code) where
       (both code (located_code b steps t pool) (values_then xs i over) pool over (Some s) (located_formed code env b steps t pool agrees followed begun)
       (values_then_formed env xs i over s agrees (first, (second, tt)) (λ place next. (pool, refl, (s, refl, next)))))
 
-  pub deallocate_formed : (env : W.Frames) (p : Var) (address size alignment : ValueCode) (s : List Kind) → Agrees env s → IsNamed env p → Usable code env address Address → Usable code env size Count → Usable code env alignment Count → Formed code (on_pool p ((address, Address) ∷ (size, Count) ∷ (alignment, Count) ∷ []) (InstrOf.GiveBlock pool_type) s) s (Some s)
+  pub deallocate_formed : (env : W.Frames) (p : Var) (address size alignment : ValueCode) (s : List Kind) → Agrees code env s → IsNamed env p → Usable code env address Address → Usable code env size Count → Usable code env alignment Count → Formed code (on_pool p ((address, Address) ∷ (size, Count) ∷ (alignment, Count) ∷ []) (InstrOf.GiveBlock pool_type) s) s (Some s)
   deallocate_formed env p address size alignment s agrees named first second third =
       on_pool_formed env p ((address, Address) ∷ (size, Count) ∷ (alignment, Count) ∷ []) (InstrOf.GiveBlock pool_type) s agrees named (first, (second, (third, tt))) (λ place next. (with_pool s, refl, (s, refl, next)))
 
   -- a return statement with a value (6.5)
-  pub returned_formed : (env : W.Frames) (x : ValueCode) (s : List Kind) → Agrees env s → Usable code env x (value_type x) → Formed code (return_held (value_type x) (held x (value_type x) s)) s (Some s)
+  pub returned_formed : (env : W.Frames) (x : ValueCode) (s : List Kind) → Agrees code env s → Usable code env x (value_type x) → Formed code (return_held (value_type x) (held x (value_type x) s)) s (Some s)
   returned_formed env x s agrees usable =
       let h = held x (value_type x) s in
       let f = found code env x (value_type x) s agrees usable in
@@ -237,7 +237,7 @@ module _ (code : Code) where
   loop_stays env x h a n p agrees texts can =
       loop_formed code p a.stack (x.code (in_loop a.stack) n) (λ lead behind_it. h (in_loop a.stack) n (p + 1 + 1) agrees texts (p + 1, refl, lead) behind_it)
 
-  pub for_stays : (env : W.Frames) (v : Var) (way : Direction) (low high : ValueCode) (body : StatementCode) → ((s : List Kind) → Agrees env s → (at : ℕ) × (newest_at s v ≡ Some at) × (variable_at s 0 v.slot ≡ Some at)) → Usable code env low Integer → Usable code env high Integer → Stays env body.texts body.code → Stays env (for v way low high body).texts (for v way low high body).code
+  pub for_stays : (env : W.Frames) (v : Var) (way : Direction) (low high : ValueCode) (body : StatementCode) → ((s : List Kind) → Agrees code env s → (at : ℕ) × (newest_at s v ≡ Some at) × (variable_at s 0 v.slot ≡ Some at)) → Usable code env low Integer → Usable code env high Integer → Stays env body.texts body.code → Stays env (for v way low high body).texts (for v way low high body).code
   for_stays env v way low high body parameter from to h a n p agrees texts can =
       let s = a.stack in
       let top = with_bounds s in

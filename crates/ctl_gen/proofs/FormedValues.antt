@@ -20,9 +20,10 @@ use Rattle.ctl_code.specs.declared.code.Named.TheVariants as NamedOf
 use Rattle.ctl_code.specs.declared.code.Cell.{Cell}
 use Rattle.ctl_code.specs.declared.code.Instr.TheVariants as InstrOf
 use Rattle.ctl_code.specs.declared.code.Code.{Code}
-use Rattle.ctl_code.specs.Windows.{HasSlot, height, variable_at}
+use Rattle.ctl_code.specs.declared.homes.Declaration.TheVariants as DeclarationOf
+use Rattle.ctl_code.specs.Windows.{Counts, HasSlot, height, variable_at}
 use Rattle.ctl_code.specs.Valid as Valid
-use Rattle.ctl_code.specs.Valid.{BinaryOf, IsAllocable, IsCellOf, IsNumber, IsRecord, Leads, Puts, Taken, UnaryOf, over_numbers}
+use Rattle.ctl_code.specs.Valid.{BinaryOf, IsAllocable, IsCellOf, IsNumber, Leads, Puts, Taken, UnaryOf, over_numbers}
 use Rattle.ctl_code.proofs.Numbered.{have_over}
 use Rattle.ctl_layout.specs.declared.right.Right.{Right}
 use Rattle.ctl_layout.specs.declared.right.Right.TheVariants as RightOf
@@ -32,7 +33,7 @@ use Rattle.ctl_layout.specs.Parts.{Start, OfVariable, OfValue, Reached, Variable
 use Rattle.ctl_layout.specs.Values.{Held, OperatorCode, ValueCode, address_numbers, applied, binary_code, chain, common_type, constant, designating, evaluated, first_type, held, held_by, in_cell, last_type, left_held, moved_to, new, new_copy, new_copy_code, next_target, operand_type, operator_by, operator_code, operator_for, operators_code, other_code, others_code, read, short, value_type, block_pool, discriminant, discriminant_at}
 use Rattle.ctl_layout.proofs.Extensions.{both_true}
 use Rattle.ctl_gen.proofs.Formed.{Formed, both, has_end, leads_at, none, one}
-use Rattle.ctl_gen.proofs.FormedAround.{Agrees, IsHoused, IsNamed}
+use Rattle.ctl_gen.proofs.FormedAround.{Agrees, IsCreatable, IsHoused, IsNamed, granted_home}
 use Rattle.ctl_gen.proofs.FormedParts.{IsBegun, IsFound, located_formed, part_formed, read_fine}
 use Rattle.ctl_gen.proofs.Walked.{start_of, steps_before, part_begun}
 use Rattle.ctl_gen.proofs.FormedTypes.{IsAccessType, IsLike, arithmetic_of, boolean_plain, cell_like, cell_of, equality_relates, is_relation, like_access, like_back, like_scalar, like_then, logical_of, number_of, number_plain, number_scalar, of_arithmetic, of_logical, of_relation, ordering_relates, relation_of, run_scalar, same_unless, unary_plain}
@@ -58,20 +59,20 @@ target_placed [] to s at = at
 target_placed (o ∷ os) to s at = refl
 
 -- what is taken from a cell is no master
-taken_agrees : (env : W.Frames) (cell : Cell) (ty : Ty) (s below : List Kind) → Taken cell ty s below → Agrees env below → Agrees env s
-taken_agrees env cell ty s below = by cell.named cell.at
+taken_agrees : (code : Code) (env : W.Frames) (cell : Cell) (ty : Ty) (s below : List Kind) → Taken cell ty s below → Agrees code env below → Agrees code env s
+taken_agrees code env cell ty s below = by cell.named cell.at
   where
-    by : (named : Named) (at : ℕ) → Taken (record { at = at; named = named }) ty s below → Agrees env below → Agrees env s
-    by NamedOf.Operand at h agrees = subst (Agrees env) (sym h.0) agrees
-    by (NamedOf.Variable out slot) at h agrees = subst (Agrees env) (sym h.0) agrees
+    by : (named : Named) (at : ℕ) → Taken (record { at = at; named = named }) ty s below → Agrees code env below → Agrees code env s
+    by NamedOf.Operand at h agrees = subst (Agrees code env) (sym h.0) agrees
+    by (NamedOf.Variable out slot) at h agrees = subst (Agrees code env) (sym h.0) agrees
 
 -- so a slot that is there below it is there
-pub taken_slot : (cell : Cell) (ty : Ty) (s below : List Kind) (out slot : ℕ) → Taken cell ty s below → HasSlot below out slot → HasSlot s out slot
-taken_slot cell ty s below out slot = by cell.named cell.at
+pub taken_slot : (counts : Counts) (cell : Cell) (ty : Ty) (s below : List Kind) (out slot : ℕ) → Taken cell ty s below → HasSlot counts below out slot → HasSlot counts s out slot
+taken_slot counts cell ty s below out slot = by cell.named cell.at
   where
-    by : (named : Named) (at : ℕ) → Taken (record { at = at; named = named }) ty s below → HasSlot below out slot → HasSlot s out slot
-    by NamedOf.Operand at h there = subst (λ x. HasSlot x out slot) (sym h.0) there
-    by (NamedOf.Variable o n) at h there = subst (λ x. HasSlot x out slot) (sym h.0) there
+    by : (named : Named) (at : ℕ) → Taken (record { at = at; named = named }) ty s below → HasSlot counts below out slot → HasSlot counts s out slot
+    by NamedOf.Operand at h there = subst (λ x. HasSlot counts x out slot) (sym h.0) there
+    by (NamedOf.Variable o n) at h there = subst (λ x. HasSlot counts x out slot) (sym h.0) there
 
 module _ (code : Code) where
   pub puts : (place : ℕ) (to : Cell) (ty : Ty) (s : List Kind) → Placed to s → Leads code (place + 1) (with_put to.named ty s) → Puts code place to ty s
@@ -101,7 +102,7 @@ module _ (code : Code) (env : W.Frames) where
   -- a value whose code is well formed where one of this type is expected
   pub record Usable (x : ValueCode) (ty : Ty) : Type 0 where
     pub scalar : Valid.IsScalar ty
-    pub formed : (to : Cell) (s : List Kind) → Agrees env s → Placed to s → Formed code (x.code to ty s) s (Some (with_put to.named ty s))
+    pub formed : (to : Cell) (s : List Kind) → Agrees code env s → Placed to s → Formed code (x.code to ty s) s (Some (with_put to.named ty s))
     pub constant : (n : ℕ) → x.right ≡ RightOf.Constant n → IsCellOf ty n
 
   -- a value of this type of its own. An access value is one of each access type that designates the same type (4.6), and stands as a number
@@ -178,14 +179,14 @@ module _ (code : Code) (env : W.Frames) where
 
   -- Operands ----------------------------------------------------------------------------------------
 
-  found_evaluated : (x : ValueCode) (ty : Ty) (s : List Kind) → Agrees env s → Usable x ty → Found code (evaluated x ty s) ty s
+  found_evaluated : (x : ValueCode) (ty : Ty) (s : List Kind) → Agrees code env s → Usable x ty → Found code (evaluated x ty s) ty s
   found_evaluated x ty s agrees usable = record { formed = usable.formed (new_operand s) s agrees refl; taken = (refl, refl) }
 
-  found_in_cell : (o : Option ℕ) (v : Var) (x : ValueCode) (ty : Ty) (s : List Kind) → Agrees env s → local_at s v ≡ o → Usable x ty → Found code (in_cell o v x ty s) ty s
+  found_in_cell : (o : Option ℕ) (v : Var) (x : ValueCode) (ty : Ty) (s : List Kind) → Agrees code env s → local_at s v ≡ o → Usable x ty → Found code (in_cell o v x ty s) ty s
   found_in_cell (Some at) v x ty s agrees here usable = record { formed = none code s; taken = (refl, here) }
   found_in_cell None v x ty s agrees here usable = found_evaluated x ty s agrees usable
 
-  pub found : (x : ValueCode) (ty : Ty) (s : List Kind) → Agrees env s → Usable x ty → Found code (held x ty s) ty s
+  pub found : (x : ValueCode) (ty : Ty) (s : List Kind) → Agrees code env s → Usable x ty → Found code (held x ty s) ty s
   found x ty s agrees usable = by x.right
     where
       by : (r : Right) → Found code (held_by r x ty s) ty s
@@ -193,7 +194,7 @@ module _ (code : Code) (env : W.Frames) where
       by (RightOf.Variable v) = found_in_cell (local_at s v) v x ty s agrees refl usable
       by RightOf.Evaluated = found_evaluated x ty s agrees usable
 
-  found_left : (r : Right) (x : ValueCode) (ty : Ty) (s : List Kind) → Agrees env s → Usable x ty → Found code (left_held r x ty s) ty s
+  found_left : (r : Right) (x : ValueCode) (ty : Ty) (s : List Kind) → Agrees code env s → Usable x ty → Found code (left_held r x ty s) ty s
   found_left (RightOf.Constant n) x ty s agrees usable = found x ty s agrees usable
   found_left (RightOf.Variable v) x ty s agrees usable = found x ty s agrees usable
   found_left RightOf.Evaluated x ty s agrees usable = found_evaluated x ty s agrees usable
@@ -206,7 +207,7 @@ module _ (code : Code) (env : W.Frames) where
       both code h.code ((InstrOf.Binary (operator_for o ty) left h.cell to, h.after) ∷ []) s h.after (Some (with_put to.named o.ty base)) right.formed
       (one code (InstrOf.Binary (operator_for o ty) left h.cell to) h.after (Some (with_put to.named o.ty base)) (λ p next. (has, (s, right.taken, (base, taken, puts code p to o.ty base at next)))))
 
-  operator_formed : (r : Right) (o : OperatorCode) (left : Cell) (ty : Ty) (to : Cell) (s base : List Kind) → Agrees env s → o.right.right ≡ r → BinaryOf o.op ty o.ty → Usable o.right ty → Taken left ty s base → Placed to base → Formed code (operator_by r o left ty to s) s (Some (with_put to.named o.ty base))
+  operator_formed : (r : Right) (o : OperatorCode) (left : Cell) (ty : Ty) (to : Cell) (s base : List Kind) → Agrees code env s → o.right.right ≡ r → BinaryOf o.op ty o.ty → Usable o.right ty → Taken left ty s base → Placed to base → Formed code (operator_by r o left ty to s) s (Some (with_put to.named o.ty base))
   operator_formed (RightOf.Constant n) o left ty to s base agrees is has usable taken at = one code (InstrOf.BinaryConstant (operator_for o ty) left n to) s (Some (with_put to.named o.ty base)) (λ p next. (has, usable.constant n is, (base, taken, puts code p to o.ty base at next)))
   operator_formed (RightOf.Variable v) o left ty to s base agrees is has usable taken at = binary_formed o left ty to (held o.right ty s) s base has (found o.right ty s agrees usable) taken at
   operator_formed RightOf.Evaluated o left ty to s base agrees is has usable taken at = binary_formed o left ty to (held o.right ty s) s base has (found o.right ty s agrees usable) taken at
@@ -215,17 +216,17 @@ module _ (code : Code) (env : W.Frames) where
   pub record Operating (os : List OperatorCode) (left ty : Ty) : Type 0 where
     pub gives : last_type left os ≡ ty
     pub scalar : Valid.IsScalar ty
-    pub formed : (to : Cell) (base : List Kind) → Agrees env base → Placed to base → Formed code (operators_code base (new_operand base) (KindOf.Operand left ∷ base) left os to) (with_put (next_target os to base).named left base) (Some (with_put to.named ty base))
+    pub formed : (to : Cell) (base : List Kind) → Agrees code env base → Placed to base → Formed code (operators_code base (new_operand base) (KindOf.Operand left ∷ base) left os to) (with_put (next_target os to base).named left base) (Some (with_put to.named ty base))
 
   pub none_operating : (left : Ty) → Valid.IsScalar left → Operating [] left left
   none_operating left scalar = record { gives = refl; scalar = scalar; formed = λ to base agrees at. none code (with_put to.named left base) }
 
   -- an operator whose left operand is in this cell, and further ones
-  first_operating : (o : OperatorCode) (os : List OperatorCode) (cell : Cell) (left ty : Ty) (s base : List Kind) (to : Cell) → Agrees env base → BinaryOf o.op left o.ty → Usable o.right left → Operating os o.ty ty → Taken cell left s base → Placed to base → Formed code (operators_code base cell s left (o ∷ os) to) s (Some (with_put to.named ty base))
+  first_operating : (o : OperatorCode) (os : List OperatorCode) (cell : Cell) (left ty : Ty) (s base : List Kind) (to : Cell) → Agrees code env base → BinaryOf o.op left o.ty → Usable o.right left → Operating os o.ty ty → Taken cell left s base → Placed to base → Formed code (operators_code base cell s left (o ∷ os) to) s (Some (with_put to.named ty base))
   first_operating o os cell left ty s base to agrees has usable rest taken at =
       let target = next_target os to base in
       both code (operator_code o cell left target s) (operators_code base (new_operand base) (KindOf.Operand o.ty ∷ base) o.ty os to) s (with_put target.named o.ty base) (Some (with_put to.named ty base))
-      (operator_formed o.right.right o cell left target s base (taken_agrees env cell left s base taken agrees) refl has usable taken (target_placed os to base at))
+      (operator_formed o.right.right o cell left target s base (taken_agrees code env cell left s base taken agrees) refl has usable taken (target_placed os to base at))
       (rest.formed to base agrees at)
 
   pub next_operating : (o : OperatorCode) (os : List OperatorCode) (left ty : Ty) → BinaryOf o.op left o.ty → Usable o.right left → Operating os o.ty ty → Operating (o ∷ os) left ty
@@ -293,7 +294,7 @@ module _ (code : Code) (env : W.Frames) where
   -- Short-circuit forms -----------------------------------------------------------------------------
 
   abbrev pub Conditions : Shortcut → List ValueCode → Type 0
-  Conditions form xs = (s : List Kind) → Agrees env s → Formed code (others_code form xs s) (KindOf.Operand Boolean ∷ s) (Some (KindOf.Operand Boolean ∷ s))
+  Conditions form xs = (s : List Kind) → Agrees code env s → Formed code (others_code form xs s) (KindOf.Operand Boolean ∷ s) (Some (KindOf.Operand Boolean ∷ s))
 
   -- an operand that may be skipped, behind what decides
   decided : (form : Shortcut) (s : List Kind) (ls : List Line) → Formed code ls s (Some (KindOf.Operand Boolean ∷ s)) → Formed code ((InstrOf.Decide form (height s) (length ls), KindOf.Operand Boolean ∷ s) ∷ ls) (KindOf.Operand Boolean ∷ s) (Some (KindOf.Operand Boolean ∷ s))
@@ -340,7 +341,7 @@ module _ (code : Code) (env : W.Frames) where
       })
 
   -- an allocator: behind the call of an Allocate there stand numbers (13.11)
-  allocated_formed : (access t : ℕ) (ty : Ty) (s : List Kind) → Valid.IsScalar ty → Agrees env s → IsAllocable code (length env) access t → IsHoused code env access → IsRecord code t → Formed code ((InstrOf.Skip 0, s) ∷ (InstrOf.New access t ty (height s), s) ∷ (InstrOf.NewIn t ty (height s), over_numbers address_numbers s) ∷ []) s (Some (KindOf.Operand ty ∷ s))
+  allocated_formed : (access t : ℕ) (ty : Ty) (s : List Kind) → Valid.IsScalar ty → Agrees code env s → IsAllocable code (length env) access t → IsHoused code env access → IsCreatable code env t → Formed code ((InstrOf.Skip 0, s) ∷ (InstrOf.New access t ty (height s), s) ∷ (InstrOf.NewIn t ty (height s), over_numbers address_numbers s) ∷ []) s (Some (KindOf.Operand ty ∷ s))
   allocated_formed access t ty s scalar agrees allocable housed known p h =
       let there : p + 1 ≡ p + 1 + 0 = omega arith in
       let may = subst (λ n. IsAllocable code n access t) (sym agrees.0) allocable in
@@ -348,21 +349,21 @@ module _ (code : Code) (env : W.Frames) where
         h.0,
         (
           leads_at code (p + 1) (p + 1 + 0) s there h.1.0,
-          ((scalar, may, refl, h.1.1.0, last, housed s agrees), ((scalar, known, have_over address_numbers s, refl, last), tt)),
+          ((scalar, may, refl, h.1.1.0, last, housed s agrees, granted_home code env s (DeclarationOf.Record t) agrees known.1), ((scalar, known.0, have_over address_numbers s, refl, last), tt)),
         ),
       )
 
   -- with the value of a part: behind the call of an Allocate they stand over that value (13.11)
-  behind_part_formed : (access t : ℕ) (ty : Ty) (s : List Kind) → Valid.IsScalar ty → Agrees env s → IsAllocable code (length env) access t → IsHoused code env access → IsRecord code t → Formed code ((InstrOf.NewCopy access t ty (height s), KindOf.Operand (TyOf.Record t) ∷ s) ∷ (InstrOf.NewCopyIn t ty (height s), over_numbers address_numbers (KindOf.RecordValue ∷ s)) ∷ []) (KindOf.Operand (TyOf.Record t) ∷ s) (Some (KindOf.Operand ty ∷ s))
+  behind_part_formed : (access t : ℕ) (ty : Ty) (s : List Kind) → Valid.IsScalar ty → Agrees code env s → IsAllocable code (length env) access t → IsHoused code env access → IsCreatable code env t → Formed code ((InstrOf.NewCopy access t ty (height s), KindOf.Operand (TyOf.Record t) ∷ s) ∷ (InstrOf.NewCopyIn t ty (height s), over_numbers address_numbers (KindOf.RecordValue ∷ s)) ∷ []) (KindOf.Operand (TyOf.Record t) ∷ s) (Some (KindOf.Operand ty ∷ s))
   behind_part_formed access t ty s scalar agrees allocable housed known p h =
       let may = subst (λ n. IsAllocable code n access t) (sym agrees.0) allocable in
       let last = h.1.1 in (
         h.0,
-        ((scalar, may, (s, refl, (refl, h.1.0, last)), housed s agrees), ((scalar, known, have_over address_numbers (KindOf.RecordValue ∷ s), refl, refl, last), tt)),
+        ((scalar, may, (s, refl, (refl, h.1.0, last)), housed s agrees, granted_home code env s (DeclarationOf.Record t) agrees known.1), ((scalar, known.0, have_over address_numbers (KindOf.RecordValue ∷ s), refl, refl, last), tt)),
       )
 
   -- the value of an allocator is a new operand, and then goes where it is wanted
-  pub new_own : (access t : ℕ) → IsAllocable code (length env) access t → IsHoused code env access → IsRecord code t → Own (new access (TyOf.Record t) None None) (TyOf.Access access)
+  pub new_own : (access t : ℕ) → IsAllocable code (length env) access t → IsHoused code env access → IsCreatable code env t → Own (new access (TyOf.Record t) None None) (TyOf.Access access)
   new_own access t allocable housed known =
       own_as (new access (TyOf.Record t) None None) (TyOf.Access access) refl tt
       (λ ty scalar. record {
@@ -376,7 +377,7 @@ module _ (code : Code) (env : W.Frames) where
       })
 
   -- and the part itself is found before, behind an instruction that does nothing
-  copy_formed : (access t : ℕ) (x : Reached) (ty : Ty) (s : List Kind) → Valid.IsScalar ty → Agrees env s → are_followed (start_of x) (steps_before x) ≡ true → IsBegun code env (start_of x) → IsAllocable code (length env) access t → IsHoused code env access → IsRecord code t → Formed code (new_copy_code access t x ty s) s (Some (KindOf.Operand ty ∷ s))
+  copy_formed : (access t : ℕ) (x : Reached) (ty : Ty) (s : List Kind) → Valid.IsScalar ty → Agrees code env s → are_followed (start_of x) (steps_before x) ≡ true → IsBegun code env (start_of x) → IsAllocable code (length env) access t → IsHoused code env access → IsCreatable code env t → Formed code (new_copy_code access t x ty s) s (Some (KindOf.Operand ty ∷ s))
   copy_formed access t x ty s scalar agrees followed begun allocable housed known =
       let part = KindOf.Operand (TyOf.Record t) ∷ s in
       let top = KindOf.Operand ty ∷ s in
@@ -388,7 +389,7 @@ module _ (code : Code) (env : W.Frames) where
       (behind_part_formed access t ty s scalar agrees allocable housed known))
 
   -- and its value goes where it is wanted, too
-  pub copied_own : (access t : ℕ) (x : Reached) → are_followed (start_of x) (steps_before x) ≡ true → IsBegun code env (start_of x) → IsAllocable code (length env) access t → IsHoused code env access → IsRecord code t → Own (new_copy access t (Some x)) (TyOf.Access access)
+  pub copied_own : (access t : ℕ) (x : Reached) → are_followed (start_of x) (steps_before x) ≡ true → IsBegun code env (start_of x) → IsAllocable code (length env) access t → IsHoused code env access → IsCreatable code env t → Own (new_copy access t (Some x)) (TyOf.Access access)
   copied_own access t x followed begun allocable housed known =
       own_as (new_copy access t (Some x)) (TyOf.Access access) refl tt
       (λ ty scalar. record {
@@ -403,7 +404,7 @@ module _ (code : Code) (env : W.Frames) where
 
   module _ (records : List RecordType) where
     -- the value of a component goes where it is wanted
-    taken_formed : (b : Start) (steps : List Step) (t position : ℕ) (ty : Ty) (to : Cell) (s : List Kind) → Valid.IsScalar ty → Agrees env s → are_followed b steps ≡ true → IsBegun code env b → Placed to s → Formed code (taken_code b steps t position ty to s) s (Some (with_put to.named ty s))
+    taken_formed : (b : Start) (steps : List Step) (t position : ℕ) (ty : Ty) (to : Cell) (s : List Kind) → Valid.IsScalar ty → Agrees code env s → are_followed b steps ≡ true → IsBegun code env b → Placed to s → Formed code (taken_code b steps t position ty to s) s (Some (with_put to.named ty s))
     taken_formed b steps t position ty to s scalar agrees followed begun at =
         let part = KindOf.Operand (TyOf.Record t) ∷ s in
         let after = Some (with_put to.named ty s) in
@@ -411,7 +412,7 @@ module _ (code : Code) (env : W.Frames) where
         (located_formed code env b steps t s agrees followed begun)
         (one code (InstrOf.TakePart t position ty to) part after (λ p next. (scalar, (s, refl, puts code p to ty s at next))))
 
-    component_formed : (b : Start) (steps : List Step) (t position : ℕ) (ty : Ty) (to : Cell) (s : List Kind) → Valid.IsScalar ty → Agrees env s → are_followed b steps ≡ true → IsBegun code env b → Placed to s → Formed code (component_code b steps t position ty to s) s (Some (with_put to.named ty s))
+    component_formed : (b : Start) (steps : List Step) (t position : ℕ) (ty : Ty) (to : Cell) (s : List Kind) → Valid.IsScalar ty → Agrees code env s → are_followed b steps ≡ true → IsBegun code env b → Placed to s → Formed code (component_code b steps t position ty to s) s (Some (with_put to.named ty s))
     component_formed (OfVariable v) [] t position ty to s scalar agrees followed begun at = one code (InstrOf.FetchPart (out_to s v) v.slot t position ty to) s (Some (with_put to.named ty s)) (λ p next. (scalar, puts code p to ty s at next, agrees.1 v begun.0 begun.1))
     component_formed (OfVariable v) (step ∷ steps) t position ty to s scalar agrees followed begun at = taken_formed (OfVariable v) (step ∷ steps) t position ty to s scalar agrees followed begun at
     component_formed (OfValue runs lines) steps t position ty to s scalar agrees followed begun at = taken_formed (OfValue runs lines) steps t position ty to s scalar agrees followed begun at

@@ -2,7 +2,6 @@
 use Rattle.std.proofs.Common.{◌<◌, ◌≡◌, ℕ, zero, suc, ◌+◌, ◌≤◌, List, [], ◌∷◌, ◌++◌, length, map, Option, Some, None, true, refl, sym, ap, ◌∙◌, subst, arith, length-append}
 use Rattle.std.specs.Prelude.{option_map, slice_get}
 use Rattle.std.proofs.lemmas.List.{length-map}
-use Rattle.std.proofs.lemmas.Bool.{leb-true}
 use Rattle.std.proofs.lemmas.Option.{slice_get-map}
 use Rattle.ctl_program.specs.declared.types.RecordType.{RecordType}
 use Rattle.ctl_program.specs.declared.types.Root.{Root}
@@ -23,20 +22,22 @@ use Rattle.ctl_code.specs.declared.code.Instr.{Instr}
 use Rattle.ctl_code.specs.declared.code.Entry.{Entry}
 use Rattle.ctl_code.specs.declared.code.Operations.{Operations}
 use Rattle.ctl_code.specs.declared.code.Code.{Code}
+use Rattle.ctl_code.specs.declared.homes.Declaration.TheVariants as DeclarationOf
+use Rattle.ctl_code.specs.Demands.{with_counts}
+use Rattle.ctl_code.specs.Windows.{Counts}
 use Rattle.ctl_meaning.specs.Outcome.{program_error}
-use Rattle.ctl_code.specs.Valid.{AreInScope, IsBegun, IsDeclarable, IsEntry, IsException, IsFine, IsInScope, IsStorageInScope, IsValid, Leads, MayBeEntry, MayHaveVariable, TakesObject, TakesStorage, storage_formals}
+use Rattle.ctl_code.specs.Valid.{AreInScope, AreOperationsWithin, IsBegun, IsDeclarable, IsEntry, IsException, IsFine, IsInScope, IsOperationWithin, IsStorageInScope, IsValid, Leads, MayBeEntry, MayHaveVariable, TakesObject, TakesStorage, storage_formals}
 use Rattle.ctl_layout.specs.Around.{Line, Around, among, behind}
 use Rattle.ctl_layout.specs.Layout as Layout
 use Rattle.ctl_layout.specs.Layout.{bodies, body_code, entries_from, entry_at, HasKinds, in_body, instructions_of, IsLaidOut, kinds_of, master_code, nowhere, outside, operations_in, operations_of, program_code}
-use Rattle.ctl_layout.specs.Defaults.{is_declared_in}
 use Rattle.ctl_layout.specs.Records.{adjust_by}
 use Rattle.ctl_layout.specs.Run.{AreLinked, IsBody, IsRun, IsWritten}
 use Rattle.ctl_gen.proofs.Known.{both_true}
 use Rattle.ctl_gen.proofs.Place.{HasAt, has_all}
 use Rattle.ctl_gen.proofs.Place as Place
 use Rattle.ctl_gen.proofs.Formed.{AreFine, fine_both, FormedAt, Has, has_back, has_front}
-use Rattle.ctl_gen.proofs.FormedAround.{Agrees, IsHoused, agrees_body, named_around, variable_there}
-use Rattle.ctl_gen.proofs.FormedLayouts.{EachAtHome, alike, declarable, declarable_in, home_of, layouts_laid, not_more}
+use Rattle.ctl_gen.proofs.FormedAround.{Agrees, IsHoused, agrees_body, named_around, size_around, variable_there}
+use Rattle.ctl_gen.proofs.FormedLayouts.{EachAtHome, SaysAround, alike, around, creatable, declarable, granted_within, home_of, layouts_laid, not_more, record_granted, said_of_subprogram, subprogram_granted}
 use Rattle.ctl_gen.proofs.FormedCalls.{MayCall, MayNew, kind_by, named_level}
 use Rattle.ctl_gen.proofs.FormedMasters.{MaySee, master_good, slots_told}
 
@@ -62,10 +63,10 @@ operations_from (x ∷ rs) zero o e = let same : operations_in x ≡ o = cc e in
 operations_from (x ∷ rs) (suc t) o e = operations_from rs t o e
 
 -- each subprogram has its entry
-entry_there : (place n : ℕ) (ss : List Subprogram) (f : ℕ) (s : Subprogram) → slice_get ss f ≡ Some s → (at : ℕ) × (slice_get (entries_from place n ss) f ≡ Some (entry_at at s))
-entry_there place n [] f s h = absurd (cc)
-entry_there place n (x ∷ ss) zero s h = let same : x ≡ s = cc h in (place, ap (λ (y : Subprogram). Some (entry_at place y)) same)
-entry_there place n (x ∷ ss) (suc f) s h = entry_there (place + length ((body_code x).code nowhere n)) (n + length (body_code x).texts) ss f s h
+entry_there : (first place n : ℕ) (ss : List Subprogram) (f : ℕ) (s : Subprogram) → slice_get ss f ≡ Some s → (at : ℕ) × (slice_get (entries_from first place n ss) f ≡ Some (entry_at at s))
+entry_there first place n [] f s h = absurd (cc)
+entry_there first place n (x ∷ ss) zero s h = let same : x ≡ s = cc h in (place, ap (λ (y : Subprogram). Some (entry_at place y)) same)
+entry_there first place n (x ∷ ss) (suc f) s h = entry_there (first + 1) (place + length ((body_code first x).code nowhere n)) (n + length (body_code first x).texts) ss f s h
 
 -- each formal has a slot
 formals_first : (formals : List W.Formal) (others : W.Frame) → length formals ≤ length (map W.OfFormal formals ++ others)
@@ -96,6 +97,8 @@ module _ (program : Checked) (typed : WellTyped program) where
 
   -- an operation of a type: a procedure that is declared among the masters around the type, with slots for so many formals
   record Operation (count f : ℕ) (home : W.Frames) : Type 0 where
+    is : W.Signature
+    callable : W.Callable typed.k home f is
     body : Subprogram
     found : slice_get program.subprograms f ≡ Some body
     kind : body.kind ≡ Procedure
@@ -115,6 +118,8 @@ module _ (program : Checked) (typed : WellTyped program) where
       let least = not_more is.home home c.encloses in
       let slots = slots_told s.fine.body in
       record {
+        is = is;
+        callable = c;
         body = s.body;
         found = s.found;
         kind = kind_told s.fine.result ∙ ap kind_by gives;
@@ -163,34 +168,40 @@ module _ (program : Checked) (typed : WellTyped program) where
 -- Bodies ---------------------------------------------------------------------------------------------
 
 module _ (code : Code) (records : List RecordType) where
-  -- the body of a subprogram is well formed wherever it stands, and its slots stand before it
-  abbrev GoodBody : Subprogram → Type 0
-  GoodBody s = (body_code s).runs (outside records) ≡ true → (a : Around) (n p : ℕ) → HasAt code.texts.items n (body_code s).texts → FormedAt code p ((body_code s).code a n) (in_body s).stack None
+  -- the body of the subprogram of a number is well formed wherever it stands, and its slots stand before it
+  abbrev GoodBody : ℕ → Subprogram → Type 0
+  GoodBody f s = (body_code f s).runs (outside records) ≡ true → (a : Around) (n p : ℕ) → HasAt code.texts.items n (body_code f s).texts → FormedAt code p ((body_code f s).code a n) (in_body f s).stack None
 
-  -- bodies that stand from a place on are fine, and before the first instruction of each there stand its slots
-  record BodiesFormed (a : Around) (place n : ℕ) (ss : List Subprogram) : Type 0 where
-    fine : AreFine code place ((bodies ss).code a n)
-    begin : (f : ℕ) (e : Entry) → slice_get (entries_from place n ss) f ≡ Some e → IsBegun code e
+  -- bodies that stand from a place on are fine, and before the first instruction of each there stand its slots; the first has this number
+  record BodiesFormed (first : ℕ) (a : Around) (place n : ℕ) (ss : List Subprogram) : Type 0 where
+    fine : AreFine code place ((bodies first ss).code a n)
+    begin : (i : ℕ) (e : Entry) → slice_get (entries_from first place n ss) i ≡ Some e → IsBegun code (first + i) e
 
-  begins : (place : ℕ) (s : Subprogram) (rest : List Entry) → Leads code place (in_body s).stack → ((f : ℕ) (e : Entry) → slice_get rest f ≡ Some e → IsBegun code e) → (f : ℕ) (e : Entry) → slice_get (entry_at place s ∷ rest) f ≡ Some e → IsBegun code e
-  begins place s rest here more zero e h = let same : entry_at place s ≡ e = cc h in subst (λ (y : Entry). IsBegun code y) same here
-  begins place s rest here more (suc f) e h = more f e h
+  begins : (first place : ℕ) (s : Subprogram) (rest : List Entry) → Leads code place (in_body first s).stack → ((i : ℕ) (e : Entry) → slice_get rest i ≡ Some e → IsBegun code (first + 1 + i) e) → (i : ℕ) (e : Entry) → slice_get (entry_at place s ∷ rest) i ≡ Some e → IsBegun code (first + i) e
+  begins first place s rest here more zero e h =
+      let same : entry_at place s ≡ e = cc h in
+      let own : first ≡ first + 0 = omega arith in
+      subst (λ f. IsBegun code f e) own (subst (λ (y : Entry). IsBegun code first y) same here)
+  begins first place s rest here more (suc i) e h = let next : first + 1 + i ≡ first + suc i = omega arith in subst (λ f. IsBegun code f e) next (more i e h)
 
-  bodies_formed : (ss : List Subprogram) → (bodies ss).runs (outside records) ≡ true → ((f : ℕ) (s : Subprogram) → slice_get ss f ≡ Some s → GoodBody s) → (a : Around) (place n : ℕ) → HasAt code.texts.items n (bodies ss).texts → Has code place ((bodies ss).code a n) None → BodiesFormed a place n ss
-  bodies_formed [] runs good a place n texts h = record { fine = tt; begin = λ f e e1. absurd (cc) }
-  bodies_formed (s ∷ ss) runs good a place n texts h =
-      let x = body_code s in
-      let first = x.code a n in
-      let size = length first in
+  bodies_formed : (first : ℕ) (ss : List Subprogram) → (bodies first ss).runs (outside records) ≡ true → ((i : ℕ) (s : Subprogram) → slice_get ss i ≡ Some s → GoodBody (first + i) s) → (a : Around) (place n : ℕ) → HasAt code.texts.items n (bodies first ss).texts → Has code place ((bodies first ss).code a n) None → BodiesFormed first a place n ss
+  bodies_formed first [] runs good a place n texts h = record { fine = tt; begin = λ i e e1. absurd (cc) }
+  bodies_formed first (s ∷ ss) runs good a place n texts h =
+      let x = body_code first s in
+      let lines = x.code a n in
+      let size = length lines in
       let n1 = n + length x.texts in
       let b : Around = behind size a in
-      let more = (bodies ss).code b n1 in
-      let both = both_true (x.runs (outside records)) ((bodies ss).runs (outside records)) runs in
-      let g = good 0 s refl both.0 a n place (Place.has_front code.texts.items n x.texts (bodies ss).texts texts) (has_front code place first more None None h tt) in
-      let rest = bodies_formed ss both.1 (λ f t e. good (suc f) t e) b (place + size) n1 (Place.has_back code.texts.items n x.texts (bodies ss).texts texts) (has_back code place first more None h) in
+      let rest = bodies (first + 1) ss in
+      let more = rest.code b n1 in
+      let both = both_true (x.runs (outside records)) (rest.runs (outside records)) runs in
+      let own : first + 0 ≡ first = omega arith in
+      let g = subst (λ f. GoodBody f s) own (good 0 s refl) both.0 a n place (Place.has_front code.texts.items n x.texts rest.texts texts) (has_front code place lines more None None h tt) in
+      let later : (i : ℕ) (t : Subprogram) → slice_get ss i ≡ Some t → GoodBody (first + 1 + i) t = λ i t e. let next : first + suc i ≡ first + 1 + i = omega arith in subst (λ f. GoodBody f t) next (good (suc i) t e) in
+      let z = bodies_formed (first + 1) ss both.1 later b (place + size) n1 (Place.has_back code.texts.items n x.texts rest.texts texts) (has_back code place lines more None h) in
       record {
-        fine = fine_both code place first more g.1 rest.fine;
-        begin = begins place s (entries_from (place + size) n1 ss) g.0 rest.begin;
+        fine = fine_both code place lines more g.1 z.fine;
+        begin = begins first place s (entries_from (first + 1) (place + size) n1 ss) g.0 z.begin;
       }
 
 -- Whole code -----------------------------------------------------------------------------------------
@@ -216,14 +227,14 @@ as_long : (ls : List Line) → length (kinds_of ls) ≡ length (instructions_of 
 as_long [] = refl
 as_long (l ∷ ls) = let e = as_long ls in omega (arith, e)
 
-module _ (program : Checked) (code : Code) (laid : IsLaidOut program code) (kinds : HasKinds program code) (run_it : IsRun program) (typed : WellTyped program) where
+module _ (program : Checked) (code : Code) (laid : IsLaidOut program code) (kinds : HasKinds program code) (run_it : IsRun program) (typed : WellTyped program) (says : SaysAround code typed.k) where
   linked : AreLinked program
   linked = linked_of program typed
 
   -- Tables -------------------------------------------------------------------------------------------
 
   entry_of : (f : ℕ) (s : Subprogram) → slice_get program.subprograms f ≡ Some s → (at : ℕ) × (slice_get code.entries.items f ≡ Some (entry_at at s))
-  entry_of f s h = subst (λ es. (at : ℕ) × (slice_get es f ≡ Some (entry_at at s))) (sym laid.entries) (entry_there 1 0 program.subprograms f s h)
+  entry_of f s h = subst (λ es. (at : ℕ) × (slice_get es f ≡ Some (entry_at at s))) (sym laid.entries) (entry_there 0 1 0 program.subprograms f s h)
 
   is_entry : (f : ℕ) → IsBody program.subprograms f → IsEntry code f
   is_entry f body = let e = entry_of f body.0 body.1 in (entry_at e.0 body.0, e.1)
@@ -274,7 +285,7 @@ module _ (program : Checked) (code : Code) (laid : IsLaidOut program code) (kind
       let level = h.level in
       (entry_at x.0 h.body, x.1, omega (arith, least, level))
 
-  operations_in_scope : EachAtHome program typed code laid (AreInScope code)
+  operations_in_scope : EachAtHome program typed code laid says (AreInScope code)
   operations_in_scope t r home e at =
       let masters = length home in
       let least : masters ≤ masters = omega arith in (
@@ -285,7 +296,7 @@ module _ (program : Checked) (code : Code) (laid : IsLaidOut program code) (kind
         adjust_has (IsInScope code masters) r.root r.operations.adjust tt (in_scope 1 home masters r.operations.adjust least (adjust_written program typed t r home e at)),
       )
 
-  storage_in_scope : EachAtHome program typed code laid (IsStorageInScope code)
+  storage_in_scope : EachAtHome program typed code laid says (IsStorageInScope code)
   storage_in_scope t r home e at =
       let masters = length home in
       let least : masters ≤ masters = omega arith in (
@@ -295,6 +306,22 @@ module _ (program : Checked) (code : Code) (laid : IsLaidOut program code) (kind
         in_scope storage_formals home masters r.operations.deallocate least (deallocate_written program typed t r home e at),
       )
 
+  -- and the masters around it stand around the type
+  within : (count t : ℕ) (home : W.Frames) (o : Option ℕ) → slice_get typed.k.record_homes t ≡ Some home → MayBeOperation program typed count home o → IsOperationWithin code.homes t o
+  within count t home None at h = tt
+  within count t home (Some f) at h = granted_within code typed.k says t home (DeclarationOf.Subprogram f) at (subprogram_granted code typed.k says home f h.is h.callable)
+
+  operations_within : EachAtHome program typed code laid says (λ n t. AreOperationsWithin code t)
+  operations_within t r home e at = (
+    operations_in r,
+    operations_there t r e,
+    within 1 t home r.operations.initialize at (initialize_written program typed t r home e at),
+    within 1 t home r.operations.finalize at (finalize_written program typed t r home e at),
+    adjust_has (IsOperationWithin code.homes t) r.root r.operations.adjust tt (within 1 t home r.operations.adjust at (adjust_written program typed t r home e at)),
+    within storage_formals t home r.operations.allocate at (allocate_written program typed t r home e at),
+    within storage_formals t home r.operations.deallocate at (deallocate_written program typed t r home e at),
+  )
+
   -- a subprogram that can be called there is in scope there, and has a slot for each formal
   may_call : MayCall code typed.k
   may_call env f is c =
@@ -303,7 +330,7 @@ module _ (program : Checked) (code : Code) (laid : IsLaidOut program code) (kind
       let e = entry_at x.0 s.body in
       let level = s.fine.level in
       let least = not_more is.home env c.encloses in
-      ((e, x.1, omega (arith, level, least)), (e, x.1, kind_told s.fine.result, subst (λ m. length is.formals ≤ m) (sym (slots_told s.fine.body)) (formals_first is.formals s.fine.others)))
+      ((e, x.1, omega (arith, level, least)), (e, x.1, kind_told s.fine.result, subst (λ m. length is.formals ≤ m) (sym (slots_told s.fine.body)) (formals_first is.formals s.fine.others)), subprogram_granted code typed.k says env f is c)
 
   -- the table has the collection of each access type in view, which stands in one of the masters around
   collection_there : (env : W.Frames) (a : ℕ) → (to : W.HasAccess typed.k env a) → slice_get code.accesses.items a ≡ Some (Layout.home_of to.is)
@@ -315,16 +342,16 @@ module _ (program : Checked) (code : Code) (laid : IsLaidOut program code) (kind
   access_fine env a to = typed.each_access a to.is to.home (sym (ap (λ xs. slice_get xs a) typed.fits.accesses) ∙ to.found) to.at_home
 
   -- so each stands in its slot, and the pool of the type does too
-  pool_there : (env home : W.Frames) (s : List Kind) (o : Option Var) → W.Encloses home env → Agrees env s → Pooled typed.k home o → MayHaveVariable s o
+  pool_there : (env home : W.Frames) (s : List Kind) (o : Option Var) → W.Encloses home env → Agrees code env s → Pooled typed.k home o → MayHaveVariable code.homes s o
   pool_there env home s None encloses agrees P.standard = tt
-  pool_there env home s (Some v) encloses agrees (P.from_pool {t = t} names rooted pool) = variable_there env s v (W.Declared (Record t)) agrees (named_around home env v (W.Declared (Record t)) encloses names)
+  pool_there env home s (Some v) encloses agrees (P.from_pool {t = t} names rooted pool) = variable_there code env s v (W.Declared (Record t)) agrees (named_around home env v (W.Declared (Record t)) encloses names)
 
   housed : (env : W.Frames) (a : ℕ) → W.HasAccess typed.k env a → IsHoused code env a
   housed env a to s agrees =
       let fine = access_fine env a to in (
         Layout.home_of to.is,
         collection_there env a to,
-        variable_there env s to.is.collection (W.Collection a) agrees (named_around to.home env to.is.collection (W.Collection a) to.encloses fine.collection),
+        variable_there code env s to.is.collection (W.Collection a) agrees (named_around to.home env to.is.collection (W.Collection a) to.encloses fine.collection),
         pool_there env to.home s to.is.pool to.encloses agrees fine.pool,
       )
 
@@ -338,22 +365,10 @@ module _ (program : Checked) (code : Code) (laid : IsLaidOut program code) (kind
       let level = fine.level in
       let least = not_more to.home env to.encloses in
       let view : W.HasRecord typed.k to.home t = subst (W.InView typed.k to.home) designates fine.designated in (
-        (Layout.home_of to.is, collection_there env a to, named_level fine.collection, omega (arith, level, least), subst (λ n. IsDeclarable code n t) (sym level) (declarable program typed code laid to.home t view)),
+        (Layout.home_of to.is, collection_there env a to, named_level fine.collection, omega (arith, level, least), subst (λ n. IsDeclarable code n t) (sym level) (declarable program typed code laid says to.home t view)),
         housed env a to,
-        (operations_in view.is, operations_there t view.is (sym (ap (λ rs. slice_get rs t) typed.fits.records) ∙ view.found)),
+        ((operations_in view.is, operations_there t view.is (sym (ap (λ rs. slice_get rs t) typed.fits.records) ∙ view.found)), λ level. let inner = record_granted code typed.k says to.home t view level in let outer = size_around to.home env level to.encloses in omega (arith, inner, outer)),
       )
-
-  -- the level of a type says how many masters are around it
-  assignable : (masters t : ℕ) → is_declared_in masters (slice_get program.records t) ≡ true → IsDeclarable code masters t
-  assignable masters t e = by (slice_get program.records t) refl e
-    where
-      by : (o : Option RecordType) → slice_get program.records t ≡ o → is_declared_in masters o ≡ true → IsDeclarable code masters t
-      by None there inside = absurd (cc)
-      by (Some r) there inside =
-          let home = home_of program typed t r there in
-          let level = (typed.each_record t r home.0 there home.1).level in
-          let few : r.level ≤ masters = leb-true r.level masters inside in
-          declarable_in program typed code laid masters t r home.0 (omega (arith, level, few)) there home.1
 
   raisable : (x : ℕ) → x < typed.k.exceptions → x < length code.exceptions.items
   raisable x known = let all = ap (λ (names : List (List ℕ)). length names) laid.exceptions in omega (arith, known, typed.fits.exceptions, all)
@@ -368,32 +383,33 @@ module _ (program : Checked) (code : Code) (laid : IsLaidOut program code) (kind
   stands : Has code 0 (program_code program) None
   stands = table_has code (program_code program) 0 (subst (λ xs. HasAt xs 0 (kinds_of (program_code program))) (sym kinds.kinds) (has_all (kinds_of (program_code program)) []))
 
-  printed : HasAt code.texts.items 0 (bodies program.subprograms).texts
-  printed = subst (λ xs. HasAt xs 0 (bodies program.subprograms).texts) (sym laid.texts) (has_all (bodies program.subprograms).texts [])
+  printed : HasAt code.texts.items 0 (bodies 0 program.subprograms).texts
+  printed = subst (λ xs. HasAt xs 0 (bodies 0 program.subprograms).texts) (sym laid.texts) (has_all (bodies 0 program.subprograms).texts [])
 
-  good_body : (s : Subprogram) (is : W.Signature) → SubprogramFine typed.k s is → GoodBody code program.records s
-  good_body s is h runs a n p texts =
+  good_body : (f : ℕ) (s : Subprogram) (is : W.Signature) → slice_get typed.k.subprograms f ≡ Some is → SubprogramFine typed.k s is → GoodBody code program.records f s
+  good_body f s is there h runs a n p texts =
       let frame = map W.OfFormal is.formals ++ h.others in
       let slots = (master_code s.body).slots in
       let deep : s.level + 1 ≡ length (is.home ++ frame ∷ []) = (let level = h.level in omega (arith, level, length-append is.home (frame ∷ []))) in
       let inside = subst (λ masters. (master_code s.body).inside.runs (among program.records masters) ≡ true) deep runs in
-      let over = subst (λ m. Agrees (is.home ++ frame ∷ []) (Body s.level m ∷ [])) (sym (slots_told h.body)) (agrees_body is.home frame s.level h.level) in
-      master_good code program.records typed.k (declarable program typed code laid) may_call may_new seen assignable raisable failing h.body inside (Body s.level slots) [] n p over texts tt
+      let over = subst (λ m. Agrees code (is.home ++ frame ∷ []) (Body s.level m f ∷ [])) (sym (slots_told h.body)) (agrees_body code is.home frame s.level f h.level (said_of_subprogram code typed.k says f is there)) in
+      master_good code program.records typed.k (creatable program typed code laid says) may_call may_new seen raisable failing h.body inside (Body s.level slots f) [] n p over texts tt
 
-  good : (f : ℕ) (s : Subprogram) → slice_get program.subprograms f ≡ Some s → GoodBody code program.records s
+  good : (f : ℕ) (s : Subprogram) → slice_get program.subprograms f ≡ Some s → GoodBody code program.records (0 + f) s
   good f s e =
       let is = alike Subprogram W.Signature program.subprograms typed.k.subprograms (sym typed.fits.subprograms) f s e in
-      good_body s is.0 (typed.each_subprogram f s is.0 e is.1)
+      let own : f ≡ 0 + f = omega arith in
+      subst (λ n. GoodBody code program.records n s) own (good_body f s is.0 is.1 (typed.each_subprogram f s is.0 e is.1))
 
-  formed : BodiesFormed code program.records nowhere 1 0 program.subprograms
-  formed = bodies_formed code program.records program.subprograms run_it good nowhere 1 0 printed stands.1
+  formed : BodiesFormed code program.records 0 nowhere 1 0 program.subprograms
+  formed = bodies_formed code program.records 0 program.subprograms run_it good nowhere 1 0 printed stands.1
 
   -- the main procedure is declared in no master, and has no formals
   all_fine : AreFine code 0 (program_code program)
   all_fine = let main = may_call [] program.main _ typed.main in ((refl, main.0, main.1), formed.fine)
 
-  pub is_valid : IsValid code
-  is_valid = record {
+  said_valid : IsValid code
+  said_valid = record {
     long = ap length kinds.kinds ∙ as_long (program_code program) ∙ sym (ap length laid.instructions);
     start = (stands.0, (program.main, ap (λ xs. slice_get xs 0) laid.instructions));
     each = λ place i stack here standing.
@@ -401,9 +417,27 @@ module _ (program : Checked) (code : Code) (laid : IsLaidOut program code) (kind
         subst (λ p. IsFine code p i stack) from_zero
         (fine_at code 0 (program_code program) all_fine place i stack (sym (ap (λ xs. slice_get xs place) laid.instructions) ∙ here) (sym (ap (λ xs. slice_get xs place) kinds.kinds) ∙ standing));
     room = kinds.room;
-    entries = λ f e h. formed.begin f e (sym (ap (λ es. slice_get es f) laid.entries) ∙ h);
+    entries = λ f e h. let own : 0 + f ≡ f = omega arith in subst (λ n. IsBegun code n e) own (formed.begin f e (sym (ap (λ es. slice_get es f) laid.entries) ∙ h));
     records = records_of;
     formals = formals_of;
     storage = storage_of;
-    layouts = layouts_laid program typed code laid operations_in_scope storage_in_scope;
+    layouts = layouts_laid program typed code laid says operations_in_scope storage_in_scope operations_within;
   }
+
+-- Code that says of the masters around declarations as little as it can -----------------------------
+
+pub is_valid : (program : Checked) (code : Code) → IsLaidOut program code → HasKinds program code → ((most : Counts) → IsValid (with_counts most code) → IsValid code) → IsRun program → WellTyped program → IsValid code
+is_valid program code laid kinds least run_it typed =
+    let counts = around typed.k in
+    least counts (said_valid program (with_counts counts code) (laid_so counts) (record { kinds = kinds.kinds; room = kinds.room }) run_it typed (record { subprograms = refl; records = refl }))
+  where
+    laid_so : (counts : Counts) → IsLaidOut program (with_counts counts code)
+    laid_so counts = record {
+      instructions = laid.instructions;
+      entries = laid.entries;
+      records = laid.records;
+      layouts = laid.layouts;
+      accesses = laid.accesses;
+      texts = laid.texts;
+      exceptions = laid.exceptions;
+    }

@@ -46,22 +46,27 @@ use Rattle.ctl_meaning.specs.Outcome.{ByRaise}
 -- Where everything stands ----------------------------------------------------------------------
 
 -- a body among those that stand from a place on
-record Found (code : Code) (texts : List (List TextPart)) (entries : List Entry) (f : ℕ) (s : Subprogram) : Type 0 where
+record Found (code : Code) (texts : List (List TextPart)) (entry : Option Entry) (f : ℕ) (s : Subprogram) : Type 0 where
   place : ℕ
   before : ℕ
-  entry : slice_get entries f ≡ Some (entry_at place s)
-  instructions : Laid code place ((body_code s).code nowhere before)
-  printed : HasAt texts before (body_code s).texts
+  is : entry ≡ Some (entry_at place s)
+  instructions : Laid code place ((body_code f s).code nowhere before)
+  printed : HasAt texts before (body_code f s).texts
 
-find : (code : Code) (texts : List (List TextPart)) (ss : List Subprogram) (place n : ℕ) → Laid code place ((bodies ss).code nowhere n) → HasAt texts n (bodies ss).texts → (f : ℕ) (s : Subprogram) → slice_get ss f ≡ Some s → Found code texts (entries_from place n ss) f s
-find code texts [] place n has prints f s e = absurd (cc)
-find code texts (x ∷ ss) place n has prints zero s e =
+find : (code : Code) (texts : List (List TextPart)) (ss : List Subprogram) (first place n : ℕ) → Laid code place ((bodies first ss).code nowhere n) → HasAt texts n (bodies first ss).texts → (i : ℕ) (s : Subprogram) → slice_get ss i ≡ Some s → Found code texts (slice_get (entries_from first place n ss) i) (first + i) s
+find code texts [] first place n has prints i s e = absurd (cc)
+find code texts (x ∷ ss) first place n has prints zero s e =
     let same : x ≡ s = cc e in
-    subst (λ (y : Subprogram). Found code texts (entries_from place n (x ∷ ss)) 0 y) same
-    (record { place = place; before = n; entry = refl; instructions = laid_front code place ((body_code x).code nowhere n) ((bodies ss).code nowhere (n + length (body_code x).texts)) has; printed = has_front texts n (body_code x).texts (bodies ss).texts prints })
-find code texts (x ∷ ss) place n has prints (suc f) s e =
-    let y = find code texts ss (place + length ((body_code x).code nowhere n)) (n + length (body_code x).texts) (laid_back code place ((body_code x).code nowhere n) ((bodies ss).code nowhere (n + length (body_code x).texts)) has) (has_back texts n (body_code x).texts (bodies ss).texts prints) f s e in
-    record { place = y.place; before = y.before; entry = y.entry; instructions = y.instructions; printed = y.printed }
+    let body = body_code first x in
+    let here : first ≡ first + 0 = omega arith in
+    subst (λ f. Found code texts (slice_get (entries_from first place n (x ∷ ss)) 0) f s) here
+    (subst (λ (y : Subprogram). Found code texts (slice_get (entries_from first place n (x ∷ ss)) 0) first y) same
+    (record { place = place; before = n; is = refl; instructions = laid_front code place (body.code nowhere n) ((bodies (first + 1) ss).code nowhere (n + length body.texts)) has; printed = has_front texts n body.texts (bodies (first + 1) ss).texts prints }))
+find code texts (x ∷ ss) first place n has prints (suc i) s e =
+    let body = body_code first x in
+    let y = find code texts ss (first + 1) (place + length (body.code nowhere n)) (n + length body.texts) (laid_back code place (body.code nowhere n) ((bodies (first + 1) ss).code nowhere (n + length body.texts)) has) (has_back texts n body.texts (bodies (first + 1) ss).texts prints) i s e in
+    let next : first + 1 + i ≡ first + suc i = omega arith in
+    subst (λ f. Found code texts (slice_get (entries_from first place n (x ∷ ss)) (suc i)) f s) next y
 
 -- lines whose instructions and kinds stand in the code
 laid_by : (code : Code) (place : ℕ) (lines : List Line) → HasAt code.instructions.items place (instructions_of lines) → HasAt code.kinds place (kinds_of lines) → Laid code place lines
@@ -69,10 +74,10 @@ laid_by code place [] h g = tt
 laid_by code place (x ∷ xs) h g = (h.0, g.0, laid_by code (place + 1) xs h.1 g.1)
 
 -- each of them is run
-pub body_is_run : (records : List RecordType) (ss : List Subprogram) → (bodies ss).runs (outside records) ≡ true → (f : ℕ) (s : Subprogram) → slice_get ss f ≡ Some s → (body_code s).runs (outside records) ≡ true
-body_is_run records [] runs f s e = absurd (cc)
-body_is_run records (x ∷ ss) runs zero s e = let same : x ≡ s = cc e in subst (λ (y : Subprogram). (body_code y).runs (outside records) ≡ true) same (both_true _ _ runs).0
-body_is_run records (x ∷ ss) runs (suc f) s e = body_is_run records ss (both_true _ _ runs).1 f s e
+pub body_is_run : (records : List RecordType) (ss : List Subprogram) (first : ℕ) → (bodies first ss).runs (outside records) ≡ true → (i n : ℕ) (s : Subprogram) → slice_get ss i ≡ Some s → (body_code n s).runs (outside records) ≡ true
+body_is_run records [] first runs i n s e = absurd (cc)
+body_is_run records (x ∷ ss) first runs zero n s e = let same : x ≡ s = cc e in subst (λ (y : Subprogram). (body_code n y).runs (outside records) ≡ true) same (both_true _ _ runs).0
+body_is_run records (x ∷ ss) first runs (suc i) n s e = body_is_run records ss (first + 1) (both_true _ _ runs).1 i n s e
 
 -- what each of them means
 routine_at : (ss : List Subprogram) (f : ℕ) (s : Subprogram) → slice_get ss f ≡ Some s → slice_get (map routine_of ss) f ≡ Some (routine_of s)
@@ -81,10 +86,10 @@ routine_at (x ∷ ss) zero s e = let same : x ≡ s = cc e in ap (λ (y : Subpro
 routine_at (x ∷ ss) (suc f) s e = routine_at ss f s e
 
 -- one that has an entry is among them
-entry_body : (place n : ℕ) (ss : List Subprogram) (f : ℕ) (e : Entry) → slice_get (entries_from place n ss) f ≡ Some e → IsBody ss f
-entry_body place n [] f e h = absurd (cc)
-entry_body place n (s ∷ ss) zero e h = (s, refl)
-entry_body place n (s ∷ ss) (suc f) e h = entry_body (place + length ((body_code s).code nowhere n)) (n + length (body_code s).texts) ss f e h
+entry_body : (first place n : ℕ) (ss : List Subprogram) (f : ℕ) (e : Entry) → slice_get (entries_from first place n ss) f ≡ Some e → IsBody ss f
+entry_body first place n [] f e h = absurd (cc)
+entry_body first place n (s ∷ ss) zero e h = (s, refl)
+entry_body first place n (s ∷ ss) (suc f) e h = entry_body (first + 1) (place + length ((body_code first s).code nowhere n)) (n + length (body_code first s).texts) ss f e h
 
 -- an operation that the user wrote is among them
 initialize_written : (subprograms : List Subprogram) (o : Option RecordType) → ((r : RecordType) → o ≡ Some r → IsWritten subprograms r.operations.initialize) → (f : ℕ) → operation_in (λ x. x.initialize) o ≡ Some f → IsBody subprograms f
@@ -189,8 +194,8 @@ module _ (program : Checked) (code : Code) (laid : IsLaidOut program code) (kind
       (subst (λ is. HasAt is 0 (instructions_of (program_code program))) (sym laid.instructions) (has_all (instructions_of (program_code program)) []))
       (subst (λ ks. HasAt ks 0 (kinds_of (program_code program))) (sym kinds.kinds) (has_all (kinds_of (program_code program)) []))
 
-  has_texts : HasAt code.texts.items 0 (bodies program.subprograms).texts
-  has_texts = subst (λ ts. HasAt ts 0 (bodies program.subprograms).texts) (sym laid.texts) (has_all (bodies program.subprograms).texts [])
+  has_texts : HasAt code.texts.items 0 (bodies 0 program.subprograms).texts
+  has_texts = subst (λ ts. HasAt ts 0 (bodies 0 program.subprograms).texts) (sym laid.texts) (has_all (bodies 0 program.subprograms).texts [])
 
   setting : Setting (tables_of program) code
   unfolding tables_of operation
@@ -207,7 +212,7 @@ module _ (program : Checked) (code : Code) (laid : IsLaidOut program code) (kind
     finalize = λ t. ap (λ xs. Table.operation_in (λ x. x.finalize) (slice_get xs t)) laid.records ∙ finalize_in program.records t;
     allocate = λ t. ap (λ xs. Table.operation_in (λ x. x.allocate) (slice_get xs t)) laid.records ∙ allocate_in program.records t;
     deallocate = λ t. ap (λ xs. Table.operation_in (λ x. x.deallocate) (slice_get xs t)) laid.records ∙ deallocate_in program.records t;
-    body = λ f e h. entry_body 1 0 program.subprograms f e (sym (ap (λ es. slice_get es f) laid.entries) ∙ h);
+    body = λ f e h. entry_body 0 1 0 program.subprograms f e (sym (ap (λ es. slice_get es f) laid.entries) ∙ h);
     initialize_body = λ t f e. initialize_written program.subprograms (slice_get program.records t) (linked.initialize t) f e;
     adjust_body = λ t f e. adjust_written program.subprograms (slice_get program.records t) (linked.adjust t) f e;
     finalize_body = λ t f e. finalize_written program.subprograms (slice_get program.records t) (linked.finalize t) f e;
@@ -218,8 +223,9 @@ module _ (program : Checked) (code : Code) (laid : IsLaidOut program code) (kind
   stands : (f : ℕ) (s : Subprogram) → slice_get program.subprograms f ≡ Some s → Stands (tables_of program) code f s
   unfolding tables_of
   stands f s here =
-      let x = find code code.texts.items program.subprograms 1 0 has_whole.2 has_texts f s here in
-      record { place = x.place; before = x.before; entry = ap (λ es. slice_get es f) laid.entries ∙ x.entry; instructions = x.instructions; texts = x.printed; runs = body_is_run program.records program.subprograms run_it f s here }
+      let own : 0 + f ≡ f = omega arith in
+      let x = subst (λ n. Found code code.texts.items (slice_get (entries_from 0 1 0 program.subprograms) f) n s) own (find code code.texts.items program.subprograms 0 1 0 has_whole.2 has_texts f s here) in
+      record { place = x.place; before = x.before; entry = ap (λ es. slice_get es f) laid.entries ∙ x.is; instructions = x.instructions; texts = x.printed; runs = body_is_run program.records program.subprograms 0 run_it f f s here }
 
   -- the main procedure can be called where no master is around
   start_callable : slice_get code.instructions.items 0 ≡ Some (InstrOf.Start program.main) → kinds_at code 0 ≡ Some [] → IsCallable code Procedure 0 program.main 0

@@ -25,13 +25,17 @@ use ctl_program::types::{Ty, Var};
 use std::alloc::AllocError;
 
 impl Emitter {
-    /// Emits the body of a subprogram, whose window begins with its slots.
-    pub fn body(&mut self, subprogram: &Subprogram) -> Result<(), AllocError>
+    /// Emits the body of the subprogram of a number, whose window begins with its slots.
+    pub fn body(&mut self, number: usize, subprogram: &Subprogram) -> Result<(), AllocError>
         requires { self.old.notes.standing ≡ [] }
-        ensures { OnOk result (self.new ≡ stated (spec.body_code subprogram.now) None self.old) }
+        ensures { OnOk result (self.new ≡ stated (spec.body_code number subprogram.now) None self.old) }
     {
         let (level, slots) = (subprogram.level, subprogram.body.slots);
-        self.enter(Kind::Body { level, slots })?;
+        self.enter(Kind::Body {
+            level,
+            slots,
+            number,
+        })?;
         self.master(&subprogram.body)?;
         self.leave();
         Ok(())

@@ -9,6 +9,9 @@ ghost use Rattle.ctl_meaning.specs.Types.{total};
 ghost use Rattle.ctl_meaning.specs.Types as sizes;
 ghost use Rattle.ctl_code.specs.Table.{begun_in, size_in};
 ghost use Rattle.ctl_code.specs.Table as table;
+ghost use Rattle.ctl_code.specs.Demands.{with_counts};
+ghost use Rattle.ctl_code.specs.Valid.{IsValid};
+ghost use Rattle.ctl_code.specs.Windows.{Counts};
 ghost use Rattle.ctl_layout.specs.Defaults as starts;
 ghost use Rattle.ctl_layout.specs.Defaults.{begun_before, begun_from, finalized_by};
 ghost use Rattle.ctl_layout.specs.Records as types;
@@ -18,6 +21,8 @@ ghost use Rattle.ctl_layout.specs.Layout.{AreLayouts, HasKinds, IsLaidOut, IsLay
 
 use crate::emit::Emitter;
 use ctl_code::code::{AccessHome, Begun, Code, Entry, Initial, Instr, Layout, Operations, Parts};
+use ctl_code::homes::Homes;
+use ctl_code::least::least_homes;
 use ctl_code::valid::ValidCode;
 use ctl_layout::right::constant;
 use ctl_program::program::{Checked, Subprogram};
@@ -65,8 +70,22 @@ fn left_out() -> Fault
     }
 }
 
-/// Makes the instructions, and the tables that they name.
+/// Makes the instructions, and the tables that they name. Of the masters around declarations it says as little as it can, and enough, if
+/// anything is enough.
 fn assemble(alloc: Global, program: &Checked) -> Result<Code, Fault>
+    ensures laid_out { IfOk result (λ code. IsLaidOut program.now code) }
+    ensures kinds { IfOk result (λ code. HasKinds program.now code) }
+    ensures homes { IfOk result (λ code. (most : Counts) → IsValid (with_counts most code) → IsValid code) }
+    ensures memory { IfErr result (λ fault. fault ≡ record { code = Memory; line = 1; column = 1 }) }
+{
+    let mut code = tables_of(alloc, program)?;
+    let homes = least_homes(alloc, &code)?;
+    code.homes = homes;
+    Ok(code)
+}
+
+/// Makes the instructions, and the tables that they name. Nothing is said of the masters around declarations.
+fn tables_of(alloc: Global, program: &Checked) -> Result<Code, Fault>
     ensures laid_out { IfOk result (λ code. IsLaidOut program.now code) }
     ensures kinds { IfOk result (λ code. HasKinds program.now code) }
     ensures memory { IfErr result (λ fault. fault ≡ record { code = Memory; line = 1; column = 1 }) }
@@ -75,8 +94,9 @@ fn assemble(alloc: Global, program: &Checked) -> Result<Code, Fault>
     emitter.put(Instr::Start(program.main))?;
     let mut entries = Vec::new(alloc);
     for subprogram in program.subprograms.as_slice() {
+        let number = entries.len();
         entries.push(entry_of(&emitter, subprogram))?;
-        emitter.body(subprogram)?;
+        emitter.body(number, subprogram)?;
     }
     let records = records_of(alloc, program.records.as_slice())?;
     let layouts = layouts_of(alloc, program.records.as_slice())?;
@@ -92,6 +112,7 @@ fn assemble(alloc: Global, program: &Checked) -> Result<Code, Fault>
         records,
         layouts,
         accesses,
+        homes: Homes::new(alloc),
         texts,
         exceptions,
     })

@@ -16,7 +16,7 @@ use Rattle.ctl_layout.specs.Layout.{bodies, outside}
 
 -- whether this version runs each construct of a program
 abbrev pub is_run : Checked → Bool
-is_run program = (bodies program.subprograms).runs (outside program.records)
+is_run program = (bodies 0 program.subprograms).runs (outside program.records)
 
 abbrev pub IsRun : Checked → Type 0
 IsRun program = IsTrue (is_run program)

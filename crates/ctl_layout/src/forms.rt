@@ -66,7 +66,8 @@ fn have_constants(components: &[Component]) -> bool
     true
 }
 
-/// Tells whether a type descends from Controlled or Limited_Controlled (RM 7.6), or is not tagged and has none of their operations.
+/// Tells whether objects of a type with this root are run: of one that descends from Controlled, Limited_Controlled or Block_Pool (RM 7.6, 13.11),
+/// or that is not tagged and has no Initialize and no Finalize.
 fn is_root_run(entry: &RecordType) -> bool
     ensures { result ≡ types.is_root_run entry.now.root entry.now.operations }
 {

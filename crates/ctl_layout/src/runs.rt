@@ -36,7 +36,7 @@ pub fn is_run(alloc: Global, program: &Checked) -> Result<bool, AllocError>
 
 /// Tells whether the bodies of these subprograms are run.
 fn bodies(table: &Table, subprograms: &[Subprogram]) -> Result<bool, AllocError>
-    ensures { IfOk result (λ runs. runs ≡ (spec.bodies subprograms.now).runs (spec.outside table.now.records.now)) }
+    ensures { IfOk result (λ runs. runs ≡ (spec.bodies 0 subprograms.now).runs (spec.outside table.now.records.now)) }
 {
     for subprogram in subprograms {
         if !master(&subprogram.body, table, subprogram.level)? {

@@ -24,9 +24,9 @@ pub inside_master : (code : Code) (stack : List Kind) (k : List T.Frame) (ops : 
 inside_master code (Operand ty ∷ stack) k (x ∷ ops) stands = inside_master code stack k ops stands.1
 inside_master code (RecordValue ∷ stack) k (T.Cells v ∷ ops) stands = inside_master code stack k ops stands
 inside_master code (Block slots ∷ stack) (InMaster n g (AfterBlock p) ∷ k) [] stands = (n, g, AfterBlock p, k, refl)
-inside_master code (Body level slots ∷ []) (InMaster n g (AfterProcedure copies p) ∷ k) [] stands = (n, g, (AfterProcedure copies p), k, refl)
-inside_master code (Body level slots ∷ []) (InMaster n g (AfterFunction p) ∷ k) [] stands = (n, g, (AfterFunction p), k, refl)
-inside_master code (Body level slots ∷ []) (InMaster n g AfterBody ∷ k) [] stands = (n, g, AfterBody, k, refl)
+inside_master code (Body level slots number ∷ []) (InMaster n g (AfterProcedure copies p) ∷ k) [] stands = (n, g, (AfterProcedure copies p), k, refl)
+inside_master code (Body level slots number ∷ []) (InMaster n g (AfterFunction p) ∷ k) [] stands = (n, g, (AfterFunction p), k, refl)
+inside_master code (Body level slots number ∷ []) (InMaster n g AfterBody ∷ k) [] stands = (n, g, AfterBody, k, refl)
 inside_master code _ _ _ stands = elim stands [ ]
 
 last_is : (d : List ℕ) (n : ℕ) → last_of (d ++ n ∷ []) ≡ n

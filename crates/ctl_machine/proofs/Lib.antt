@@ -71,6 +71,8 @@ pub mod Initialized
 pub mod Stages
 pub mod AfterInitialize
 pub mod MadeAtOnce
+pub mod Living
+pub mod GoingOn
 pub mod Reached
 pub mod Objects
 pub mod Granted

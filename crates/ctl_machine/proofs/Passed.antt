@@ -160,7 +160,7 @@ below_actuals code zero stack k ops hs h stands sized = record { enough = omega 
 below_actuals code (suc n) [] k ops hs h stands sized = absurd h
 below_actuals code (suc n) (RecordValue ∷ stack) k ops hs h stands sized = absurd h
 below_actuals code (suc n) (Block slots ∷ stack) k ops hs h stands sized = absurd h
-below_actuals code (suc n) (Body level slots ∷ stack) k ops hs h stands sized = absurd h
+below_actuals code (suc n) (Body level slots number ∷ stack) k ops hs h stands sized = absurd h
 below_actuals code (suc n) (Operand ty ∷ stack) k [] hs h stands sized = absurd stands
 below_actuals code (suc n) (Operand ty ∷ stack) k (x ∷ ops) hs h stands sized =
     let b = below_actuals code n stack k ops hs h stands.1 sized in
@@ -173,7 +173,7 @@ are_actuals code zero stack k ops h stands = tt
 are_actuals code (suc n) [] k ops h stands = absurd h
 are_actuals code (suc n) (RecordValue ∷ stack) k ops h stands = absurd h
 are_actuals code (suc n) (Block slots ∷ stack) k ops h stands = absurd h
-are_actuals code (suc n) (Body level slots ∷ stack) k ops h stands = absurd h
+are_actuals code (suc n) (Body level slots number ∷ stack) k ops h stands = absurd h
 are_actuals code (suc n) (Operand ty ∷ stack) k [] h stands = absurd stands
 are_actuals code (suc n) (Operand ty ∷ stack) k (x ∷ ops) h stands = (stands.0, are_actuals code n stack k ops h stands.1)
 

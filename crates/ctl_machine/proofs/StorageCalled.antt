@@ -42,7 +42,7 @@ linked_storage code e entry master base after t c = linked_in code e t.control t
 -- its slots have cells
 pub storage_within : (code : Code) (e : Engine) (entry : Entry) (master base : ℕ) (after : After) (t : StorageCall) → IsValid code → CallsStorage code e entry master base after t → HasRoom code e base → base + entry.slots ≤ length e.cells.items
 storage_within code e entry master base after t valid c room =
-    let fits : 0 + entry.slots ≤ code.room = valid.room entry.place (Body entry.level entry.slots ∷ []) (valid.entries t.body entry c.body) in
+    let fits : 0 + entry.slots ≤ code.room = valid.room entry.place (Body entry.level entry.slots t.body ∷ []) (valid.entries t.body entry c.body) in
     let cells = room.cells in
     omega (arith, fits, cells)
 

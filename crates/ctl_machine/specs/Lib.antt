@@ -18,6 +18,7 @@ pub mod Initializing
 pub mod Variables
 pub mod Declaring
 pub mod Windows
+pub mod Several
 pub mod Parts
 pub mod Holders
 pub mod Passing

@@ -1,6 +1,6 @@
 //! Calls of the bodies of operations: room is made, and the call for an owned object of whichever active master.
 
-ghost use Rattle.std.specs.Prelude.{◌≡◌, ◌+◌, ◌^◌, ◌<◌, ◌≤◌, [], ◌∷◌, ◌++◌, List, ℕ, OnErr, OnOk, Some, drop, length, reverse, slice_get, slice_set, take, vec_capacity, vec_len};
+ghost use Rattle.std.specs.Prelude.{◌≡◌, ◌+◌, ◌^◌, ◌<◌, ◌≤◌, [], ◌∷◌, ◌++◌, List, ℕ, IsTrue, OnErr, OnOk, Some, drop, length, reverse, slice_get, slice_set, take, vec_capacity, vec_len};
 ghost use Rattle.ctl_code.specs.Table as Table;
 ghost use Rattle.ctl_machine.specs.declared.frame.Frame.TheVariants as FrameOf;
 ghost use Rattle.ctl_code.specs.Valid.{IsValid};
@@ -107,6 +107,7 @@ impl Engine {
     }
 
     /// Answers the master that a body of this level is declared in, where the newest master sees it: it is the newest of so many.
+    #[inline(always)]
     pub(crate) fn around(&self, level: usize) -> usize
         ghost hs: { List Head }
         requires { AreLinked self.now.masters.items hs }
@@ -185,6 +186,59 @@ impl Engine {
         reserve(&mut self.events, 1)?;
         reserve(&mut self.formals, formals)?;
         make_room(&mut self.cells, wanted)
+    }
+
+    /// Tells whether there is room for a body whose window begins with this cell and has so many, and for so many formals.
+    #[inline(always)]
+    fn has_room_for(&self, base: usize, room: usize, formals: usize) -> bool
+        requires { base ≤ length self.now.cells.items }
+        ensures cells { IsTrue result → base + room ≤ length self.now.cells.items }
+        ensures masters { IsTrue result → vec_len self.now.masters < vec_capacity self.now.masters }
+        ensures control { IsTrue result → vec_len self.now.control < vec_capacity self.now.control }
+        ensures formals { IsTrue result → vec_len self.now.formals + formals ≤ vec_capacity self.now.formals }
+    {
+        room <= self.cells.len() - base
+            && self.has_room()
+            && formals <= self.formals.capacity() - self.formals.len()
+    }
+
+    /// Makes room for the body of a subprogram whose window begins with this cell and has so many, and for so many formals, where there is none
+    /// yet; nothing else changes.
+    #[inline(always)]
+    pub(crate) fn prepare_body(
+        &mut self,
+        base: usize,
+        room: usize,
+        formals: usize,
+    ) -> Result<(), AllocError>
+        requires { base ≤ length self.old.cells.items }
+        ensures ok { OnOk result ((more : List ℕ) × GoesOn self.old self.new self.old.mode (self.old.cells.items ++ more)) }
+        ensures err { OnErr result (GoesOn self.old self.new self.old.mode self.old.cells.items) }
+        ensures cells { OnOk result (base + room ≤ length self.new.cells.items) }
+        ensures masters { OnOk result (vec_len self.new.masters < vec_capacity self.new.masters) }
+        ensures control { OnOk result (vec_len self.new.control < vec_capacity self.new.control) }
+        ensures formals { OnOk result (vec_len self.new.formals + formals ≤ vec_capacity self.new.formals) }
+        ensures number { self.new.given_masters ≡ self.old.given_masters }
+    {
+        if self.has_room_for(base, room, formals) {
+            return Ok(());
+        }
+        self.prepare_more(base, room, formals)
+    }
+
+    /// Makes room for the body of a subprogram, as `prepare_body` does, where there is none yet.
+    #[cold]
+    #[inline(never)]
+    fn prepare_more(&mut self, base: usize, room: usize, formals: usize) -> Result<(), AllocError>
+        ensures ok { OnOk result ((more : List ℕ) × GoesOn self.old self.new self.old.mode (self.old.cells.items ++ more)) }
+        ensures err { OnErr result (GoesOn self.old self.new self.old.mode self.old.cells.items) }
+        ensures cells { OnOk result (base + room ≤ length self.new.cells.items) }
+        ensures masters { OnOk result (vec_len self.new.masters < vec_capacity self.new.masters) }
+        ensures control { OnOk result (vec_len self.new.control < vec_capacity self.new.control) }
+        ensures formals { OnOk result (vec_len self.new.formals + formals ≤ vec_capacity self.new.formals) }
+        ensures number { self.new.given_masters ≡ self.old.given_masters }
+    {
+        self.prepare(base, room, formals)
     }
 
     /// Enters the master of an operation's body, whose first slot is the formal that stands for this part; there is room for it, and its

@@ -11,6 +11,7 @@ use ctl_tree::event::Cause;
 
 impl Engine {
     /// Closes the pool that the object of this number is, if it is one: the objects in it are gone (RM 13.11).
+    #[inline(always)]
     fn close_if_pool(&mut self, number: u64)
         ensures closed { ClosesIfPool number self.old.stock self.new.stock }
         ensures same { self.new ≡ record self.old { stock = self.new.stock } }

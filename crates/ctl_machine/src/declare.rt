@@ -71,7 +71,7 @@ impl Engine {
     /// Creates an object of the newest master with so many cells of 0, for which there is room among the owned ones, and clears the cell of
     /// its slot (RM 3.3.1); unchanged where memory is refused.
     #[inline(always)]
-    fn create(
+    pub(crate) fn create(
         &mut self,
         newest: Master,
         slot: usize,

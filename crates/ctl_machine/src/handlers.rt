@@ -1,7 +1,11 @@
 //! Handlers of exceptions (RM 11.2 to 11.4): the statements whose exceptions go to handlers begin, an exception goes there, one of the
 //! handlers is chosen, and `raise;` raises again what is handled.
 
-ghost use Rattle.std.specs.Prelude.{◌≡◌, ◌+◌, ◌^◌, ◌<◌, OnErr, OnOk, Some, reverse};
+ghost use Rattle.std.specs.Prelude.{◌≡◌, ◌+◌, ◌-◌, ◌^◌, ◌<◌, ℕ, IfNone, IfSome, None, OnErr, OnOk, Some, length, reverse, slice_get};
+ghost use Rattle.ctl_machine.specs.declared.frame.After.{After};
+ghost use Rattle.ctl_machine.specs.declared.frame.Frame.TheVariants as FrameOf;
+ghost use Rattle.ctl_machine.specs.declared.frame.Handling.{Handling};
+ghost use Rattle.ctl_machine.specs.declared.frame.Mode.TheVariants as ModeOf;
 ghost use Rattle.ctl_code.specs.declared.code.Instr.TheVariants as InstrOf;
 ghost use Rattle.ctl_code.specs.States.{State};
 ghost use Rattle.ctl_code.specs.Table as Table;
@@ -25,6 +29,18 @@ impl Engine {
         match self.control.as_slice() {
             [.., Frame::InMaster(handling, _)] => handling.caught,
             _ => 0,
+        }
+    }
+
+    /// Answers the exception that the innermost handler around handles, as `caught` does, where the newest frame is a master's.
+    #[inline(always)]
+    pub(crate) fn caught_inside(&self) -> usize
+        requires { (handling : Handling) × (after : After) × (slice_get self.now.control.items (length self.now.control.items - 1) ≡ Some (FrameOf.InMaster handling after)) }
+        ensures { result ≡ first_caught (reverse self.now.control.items) }
+    {
+        match self.control.as_slice() {
+            [.., Frame::InMaster(handling, _)] => handling.caught,
+            _ => unreachable!(),
         }
     }
 
@@ -57,7 +73,9 @@ impl Engine {
         ghost s: { State }
         requires before { Before code.now self.old place (InstrOf.Handle length) s }
         requires place { place + 1 + length < 2 ^ 64 }
-        ensures { Makes code.now self.old self.new (Table.by_instr code.now (Some (InstrOf.Handle length)) s.operands (here_of place s)) }
+        ensures makes { Makes code.now self.old self.new (Table.by_instr code.now (Some (InstrOf.Handle length)) s.operands (here_of place s)) }
+        ensures at { (at : ℕ) × (self.new.mode ≡ ModeOf.At at) }
+        ensures masters { reverse self.new.masters.items ≡ reverse self.old.masters.items }
     {
         let _ = code;
         let handling = Handling {
@@ -72,7 +90,9 @@ impl Engine {
         ghost s: { State }
         requires before { Before code.now self.old place (InstrOf.Catch exception length) s }
         requires place { place + 1 + length < 2 ^ 64 }
-        ensures { Makes code.now self.old self.new (Table.by_instr code.now (Some (InstrOf.Catch exception length)) s.operands (here_of place s)) }
+        ensures makes { Makes code.now self.old self.new (Table.by_instr code.now (Some (InstrOf.Catch exception length)) s.operands (here_of place s)) }
+        ensures at { (at : ℕ) × (self.new.mode ≡ ModeOf.At at) }
+        ensures masters { reverse self.new.masters.items ≡ reverse self.old.masters.items }
     {
         let _ = code;
         let is_handled = self.caught() == exception;
@@ -89,6 +109,22 @@ impl Engine {
         let _ = place;
         let exception = self.caught();
         self.go_on(Mode::Transfers(Way::Raise(exception)));
+    }
+
+    /// Takes an exception to the handlers of the newest master, if its frame is the newest and it has some that have not begun; answers their
+    /// place (RM 11.4). Unchanged where there are none.
+    #[inline(always)]
+    pub(crate) fn handle_at_once(&mut self, exception: usize) -> Option<usize>
+        ensures some { IfSome result (λ place. (first_handlers (reverse self.old.control.items) ≡ Some place) × ChangesHandling self.old self.new (record { handlers = None; caught = exception }) (ModeOf.At place)) }
+        ensures none { IfNone result (GoesOn self.old self.new self.old.mode self.old.cells.items) }
+    {
+        let place = self.handlers()?;
+        let handling = Handling {
+            handlers: None,
+            caught: exception,
+        };
+        self.set_handling(handling, Mode::At(place));
+        Some(place)
     }
 
     /// Transfers control out of the statements of the newest master: an exception goes to its handlers, if it has some that have not begun

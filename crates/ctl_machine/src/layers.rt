@@ -115,6 +115,7 @@ fn forget_gathered(owned: &[Owned], start: usize, stock: &mut Objects, master: u
 
 /// Forgets what a master owned, which is what came last: its objects, and its collections with theirs (RM 7.6.1). No declared object has a
 /// greater master.
+#[inline(always)]
 pub(crate) fn forget_owned(owned: &mut Vec<Owned>, stock: &mut Objects, master: &Master)
     requires bound { master.now.owned ≤ length owned.old.items }
     requires come { (given : ℕ) × HaveCome 0 owned.old.items given }
@@ -199,6 +200,7 @@ impl Engine {
 
     /// Notes that the finalization of the object of this number, for this cause, has ended, and hands on whether it failed (RM 7.6.1). A
     /// declared object that is a pool closes (RM 13.11).
+    #[inline(always)]
     pub(crate) fn resume_finalizing(&mut self, code: &Code, ended: Ended, cause: Cause, number: u64)
         ghost s: { State }
         requires valid { IsValid code.now }

@@ -11,7 +11,7 @@ ghost use Rattle.ctl_machine.specs.Turns as Turns;
 ghost use Rattle.ctl_machine.specs.Windows.{Comes, IsGoing, IsWindow, Moment};
 
 use crate::frame::Mode;
-use crate::window::read;
+use crate::window::{read, write};
 use ctl_code::code::{Code, Instr};
 use ctl_program::operators::Direction;
 use ctl_values::operators::{cell_of, signed};
@@ -77,8 +77,8 @@ fn begin_turn(
 {
     match value {
         Some(value) => {
-            cells[window + bound] = value;
-            cells[window + parameter] = value;
+            write(cells, window, bound, value);
+            write(cells, window, parameter, value);
             Mode::At(inside)
         }
         None => Mode::At(behind),

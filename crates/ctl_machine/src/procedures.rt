@@ -1,18 +1,20 @@
 //! Procedures and functions are called (RM 6.4).
 
-ghost use Rattle.std.specs.Prelude.{◌≡◌, ◌+◌, ◌^◌, ◌<◌, ◌≤◌, ◌∷◌, ◌++◌, [], IsTrue, List, OnErr, OnOk, drop, length, reverse, take, vec_capacity, vec_len};
+ghost use Rattle.std.specs.Prelude.{◌≡◌, ◌+◌, ◌^◌, ◌<◌, ◌≤◌, ◌∷◌, ◌++◌, [], ℕ, IfOk, IsTrue, List, OnErr, OnOk, drop, length, reverse, take, vec_capacity, vec_len};
 ghost use Rattle.ctl_code.specs.Kinds.{stack_at};
 ghost use Rattle.ctl_code.specs.Table as Table;
 ghost use Rattle.ctl_code.specs.States.{State, Word};
 ghost use Rattle.ctl_meaning.specs.Finalization as S;
-ghost use Rattle.ctl_code.specs.Valid.{IsValid};
+ghost use Rattle.ctl_code.specs.Valid.{HaveOperands, IsValid};
 ghost use Rattle.ctl_code.specs.Windows.{height};
 ghost use Rattle.ctl_machine.specs.Calling as Calling;
 ghost use Rattle.ctl_machine.specs.Calling.{BeforeCall};
+ghost use Rattle.ctl_machine.specs.Masters.{first_window};
 ghost use Rattle.ctl_machine.specs.Moves.{GoesOn, Makes, here_of};
 ghost use Rattle.ctl_machine.specs.Passing.{AreActuals, bound, cell_passed, formal_if, is_located, is_part_at, passed, with_actuals};
 ghost use Rattle.ctl_machine.specs.Spots.{located};
 ghost use Rattle.ctl_machine.specs.Shows.{kept};
+ghost use Rattle.ctl_machine.specs.declared.frame.Mode.TheVariants as ModeOf;
 ghost use Rattle.ctl_machine.specs.Windows.{IsGoing};
 
 use crate::engine::{Engine, clear};
@@ -60,6 +62,7 @@ fn pass(
 
 /// Lets the formals of a body stand for the parts that are passed to it, the last one first: the cells from one on are the actuals of a
 /// call, so many, and those of parts become 0 (RM 6.2, 6.4.1).
+#[inline(never)]
 fn bind(
     code: &Code,
     place: usize,
@@ -112,16 +115,15 @@ fn bind_parts(
     bind(code, place, cells, spots, formals, base, actuals);
 }
 
-/// Counts the cells of a window below the values that a call has left as operands, at the place where it goes on.
+/// Counts the cells of a window below the actuals of a call, which stands at this place with so many.
 #[inline(always)]
-fn height_below(code: &Code, kind: SubprogramKind, copies: usize, place: usize) -> usize
-    requires { Calling.HasValue kind (stack_at code.now.kinds place) }
-    ensures { result ≡ height (drop (Calling.count_values kind copies) (stack_at code.now.kinds place)) }
+#[tactic(auto, using(crate::proofs::SubprogramCalled::height_over))]
+fn height_below(code: &Code, actuals: usize, place: usize) -> usize
+    requires before { place < length code.now.kinds }
+    requires actuals { HaveOperands actuals (stack_at code.now.kinds place) }
+    ensures { result ≡ height (drop actuals (stack_at code.now.kinds place)) }
 {
-    match kind {
-        SubprogramKind::Procedure => code.kinds.height_at(place, copies),
-        SubprogramKind::Function => code.kinds.height_at(place, 0) - 1,
-    }
+    code.kinds.height_before(place) - actuals
 }
 
 /// Answers where the end of a body of this kind leads, whose call goes on at this place with so many copies (RM 6.4).
@@ -138,6 +140,7 @@ fn after_for(kind: SubprogramKind, copies: usize, place: usize) -> After
 impl Engine {
     /// Begins the slots of a body, whose first cells are the actuals of its call: the formals stand for parts of objects or have values,
     /// and all other slots are cleared (RM 6.4.1).
+    #[inline(always)]
     fn begin_slots(&mut self, code: &Code, place: usize, base: usize, slots: usize, actuals: usize)
         ghost t: { List Word × List S.Spot }
         requires cells { base + slots ≤ length self.old.cells.items }
@@ -165,10 +168,7 @@ impl Engine {
         clear(&mut self.cells, base + actuals, slots - actuals);
     }
 
-    /// Calls the procedure or the function whose body has this number, with so many of the newest operands as its actuals: the body is
-    /// entered inside the masters around it that this place sees, and the call goes on at the next place, where what so many of the first
-    /// formals of a procedure hold in the end are new operands, and so is the value of a function (RM 6.4, 6.4.1). Unchanged where memory
-    /// is refused.
+    /// Calls the procedure or the function whose body has this number, as `call_from` does, from the newest window.
     #[inline(never)]
     pub(crate) fn call(
         &mut self,
@@ -186,14 +186,46 @@ impl Engine {
         requires number { self.old.given_masters + 1 < 2 ^ 64 }
         ensures ok { OnOk result (Makes code.now self.old self.new (Table.call_body code.now body actuals (Calling.leading_to kind copies) s.operands (here_of place s))) }
         ensures going { OnOk result (IsGoing self.new.mode) }
+        ensures at { OnOk result ((at : ℕ) × (self.new.mode ≡ ModeOf.At at)) }
+        ensures err { OnErr result (GoesOn self.old self.new self.old.mode self.old.cells.items) }
+    {
+        self.call_from(self.window(), code, kind, body, actuals, copies, place)?;
+        Ok(())
+    }
+
+    /// Calls the procedure or the function whose body has this number, with so many of the newest operands as its actuals: the body is
+    /// entered inside the masters around it that this place sees, and the call goes on at the next place, where what so many of the first
+    /// formals of a procedure hold in the end are new operands, and so is the value of a function (RM 6.4, 6.4.1). The newest window begins
+    /// with this cell; answers where that of the body begins. Unchanged where memory is refused.
+    #[inline(always)]
+    pub(crate) fn call_from(
+        &mut self,
+        window: usize,
+        code: &Code,
+        kind: SubprogramKind,
+        body: usize,
+        actuals: usize,
+        copies: usize,
+        place: usize,
+    ) -> Result<usize, AllocError>
+        ghost s: { State }
+        requires valid { IsValid code.now }
+        requires before { BeforeCall code.now self.old kind place body actuals copies s }
+        requires place { place + 1 < 2 ^ 64 }
+        requires window { window ≡ first_window (reverse self.old.masters.items) }
+        requires number { self.old.given_masters + 1 < 2 ^ 64 }
+        ensures ok { OnOk result (Makes code.now self.old self.new (Table.call_body code.now body actuals (Calling.leading_to kind copies) s.operands (here_of place s))) }
+        ensures going { OnOk result (IsGoing self.new.mode) }
+        ensures at { OnOk result ((at : ℕ) × (self.new.mode ≡ ModeOf.At at)) }
+        ensures window { IfOk result (λ base. base ≡ first_window (reverse self.new.masters.items)) }
         ensures err { OnErr result (GoesOn self.old self.new self.old.mode self.old.cells.items) }
     {
         let entry = code.entries[body];
-        let base = self.window() + height_below(code, kind, copies, place + 1);
+        let base = window + height_below(code, actuals, place);
         let link = self.around(entry.level);
         let depth = self.depth_at(link) + 1;
         let outer_formals = self.count_formals();
-        self.prepare(base, code.room, actuals)?;
+        self.prepare_body(base, code.room, actuals)?;
         self.begin_slots(code, place, base, entry.slots, actuals);
         let master = Master {
             number: self.given_masters + 1,
@@ -208,6 +240,6 @@ impl Engine {
             spots: self.count_spots(),
         };
         self.stand(master, 0, after_for(kind, copies, place + 1), entry.place);
-        Ok(())
+        Ok(base)
     }
 }

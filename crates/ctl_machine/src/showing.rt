@@ -18,6 +18,7 @@ pub(crate) fn whole(alloc: Global, object: u64) -> Part
 }
 
 /// Shows that a part of an object of this owner has come to life, where the user wrote a Finalize for its type (RM 7.6).
+#[inline(always)]
 pub(crate) fn show_life(events: &mut Vec<Event>, part: Part, owner: Owner, finalize: Option<usize>)
     requires { vec_len events.old < vec_capacity events.old }
     ensures { events.new.items ≡ events.old.items ++ Table.birth finalize part owner }

@@ -300,7 +300,8 @@ impl Allocations {
     }
 
     /// Takes a step of an object. It answers whether the object exists.
-    #[inline(always)]
+    // Apart from what is done for a declared object, which takes less.
+    #[inline(never)]
     pub fn step(&mut self, number: u64, step: Step) -> bool
         ensures exists { result ≡ is_some (object_in number self.old.objects) }
         ensures stepped { self.new.objects ≡ change_in number (with_step step) self.old.objects }
@@ -340,6 +341,7 @@ impl Allocations {
     }
 
     /// Forgets the objects of these collections (RM 7.6.1). It takes time in how many they are.
+    #[inline(always)]
     pub fn close_sets(&mut self, sets: &[u64])
         ensures objects { (master : ℕ) → self.new.objects ≡ keep (λ o. not (ends_with_master master sets.now o.origin)) self.old.objects }
         ensures needs { self.new.needs ≡ self.old.needs }

@@ -27,6 +27,7 @@ ghost use Rattle.ctl_storage.specs.Storage.{ArePools};
 use crate::allocations::Allocations;
 use crate::cells::{add_zeros, copy_cells, read_cell, save_cells, write_cell, write_cells};
 use crate::existing::{Existing, Origin};
+use crate::room::reserve;
 use ctl_program::types::Ty;
 use ctl_storage::{PoolSize, Stage, Step};
 use std::alloc::{AllocError, Global};
@@ -92,8 +93,8 @@ impl Declarations {
         ensures ok { OnOk result (self.new ≡ self.old ++ new_object number (Record «record») (replicate cells 0) (W.Declared master) ∷ []) }
         ensures err { OnErr result (self.new ≡ self.old) }
     {
-        self.objects.reserve(1)?;
-        self.cells.reserve(cells)?;
+        reserve(&mut self.objects, 1)?;
+        reserve(&mut self.cells, cells)?;
         let first = self.cells.len();
         self.objects.push_reserved(Declaration {
             number,
@@ -132,8 +133,8 @@ impl Declarations {
         ensures pools { OnOk result ((next : ℕ) (x : W.Pools) → number < next → ArePools next x (storage_of allocated.old) → ArePools next (push_block_pool number size.block_size size.block_count x) (storage_of allocated.new)) }
         ensures err { OnErr result ((self.new ≡ self.old) × (allocated.new ≡ allocated.old)) }
     {
-        self.objects.reserve(1)?;
-        self.cells.reserve(cells)?;
+        reserve(&mut self.objects, 1)?;
+        reserve(&mut self.cells, cells)?;
         // After this nothing can be refused.
         allocated.open_pool(number, size)?;
         let first = self.cells.len();
@@ -306,6 +307,7 @@ impl Declarations {
 
     /// Forgets the objects of a master, which are the last ones: no object has a greater master (RM
     /// 7.6.1). It takes time in their number.
+    #[inline(always)]
     pub fn close_master(&mut self, master: u64)
         requires { AreUpTo master self.old }
         ensures { (sets : List ℕ) → self.new ≡ keep (λ o. not (ends_with_master master sets o.origin)) self.old }
@@ -335,6 +337,7 @@ impl Declaration {
 
 /// Counts the objects before those of a master, which are the last ones. It takes time in the
 /// number of those of the master.
+#[inline(always)]
 fn count_before(objects: &[Declaration], master: u64) -> usize
     requires rise { MastersRise 0 objects.now }
     requires within { AreWithin master objects.now }

@@ -9,6 +9,7 @@ mod existing;
 mod groups;
 mod needs;
 mod object_list;
+pub mod room;
 
 pub use ctl_storage::{BlockReturn, Life, Place, Placing, Pool, PoolSize, PoolState, Spot, Stage};
 pub use existing::{Existing, Origin};

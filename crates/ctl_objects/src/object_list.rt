@@ -252,6 +252,7 @@ impl Objects {
 
     /// Begins the finalization of an object, where it exists (RM 7.6.1). It takes the time to find
     /// the object.
+    #[inline(always)]
     pub fn begin_finalization(&mut self, number: u64)
         ensures objects { self.new.objects ≡ change_in number with_begun self.old.objects }
         ensures needs { self.new.needs ≡ self.old.needs }
@@ -345,6 +346,7 @@ impl Objects {
     /// them (RM 7.6.1, 13.11): no declared object has a greater master. It takes the time to
     /// forget the objects that go, and time in the number of the collections, and, where a pool was
     /// ever opened, one look-up more for each declared object that goes.
+    #[inline(always)]
     pub fn close_master(&mut self, master: u64, sets: &[u64])
         requires { AreUpTo master self.old.objects }
         ensures objects { self.new.objects ≡ keep (λ o. not (ends_with_master master sets.now o.origin)) self.old.objects }
@@ -548,6 +550,7 @@ impl Objects {
 
 /// Drops the pools among the declared objects of a master, which go: no object lies in them. Where no
 /// pool was ever opened, it takes constant time.
+#[inline(always)]
 fn drop_pools(allocated: &mut Allocations, declared: &Declarations, master: u64)
     requires { AreUpTo master declared.now }
     ensures objects { allocated.new.objects ≡ allocated.old.objects }

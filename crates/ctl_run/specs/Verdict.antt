@@ -12,8 +12,7 @@ use Rattle.ctl_front.specs.Text.{IsAnswer, SpellsNamed}
 use Rattle.ctl_layout.specs.Run.{IsRun, is_run}
 use Rattle.ctl_slice.specs.Places.{first_left_out}
 
--- where a text is left out: at the first construct that is not run for certain, or else the first that may not be by what its types are, or
--- else at the procedure
+-- where a text is left out: at the first construct of a kind of which not all is run, or else at the procedure
 abbrev pub place_left_out : Tree Definition Use → Span
 place_left_out t = unwrap_or (first_left_out t) t.span
 

@@ -1,4 +1,4 @@
--- The place of the first construct of a resolved text, in its order, that this version does not run.
+-- The place of the first construct of a resolved text, in its order, that is of a kind of which this version does not run all.
 use Rattle.std.specs.Prelude.{List, [], ◌∷◌, map, Option, Some, None}
 use Rattle.ctl_tree.specs.declared.span.Span.{Span}
 use Rattle.ctl_syntax.specs.declared.denoted.Definition.{Definition}

@@ -1,4 +1,4 @@
-//! Which constructs of the language this version runs, and the place of the first in a text that it does not.
+//! The place of the first construct of a text that is of a kind of which this version does not run all.
 //!
 //! It goes when the whole language is run. "RM" is ISO/IEC 8652:2012.
 #![tactic(auto)]

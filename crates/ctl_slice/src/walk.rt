@@ -1,4 +1,4 @@
-//! The first construct of a text that this version does not run, in the order of the text.
+//! The first construct of a text that is of a kind of which this version does not run all, in the order of the text.
 
 ghost use Rattle.std.specs.Prelude.{◌≡◌, map};
 ghost use Rattle.ctl_slice.specs.Places as spec;
@@ -10,7 +10,8 @@ use ctl_syntax::denoted::{Definition, Named, Use};
 use ctl_syntax::item::{Body, Branch, Handler, Item, ItemKind, Statement};
 use ctl_tree::span::Span;
 
-/// Answers the place of the first construct of a text that this version does not run, as far as what its names denote tells it.
+/// Answers the place of the first construct of a text that is of a kind of which this version does not run all, as what its names denote tells
+/// it.
 pub fn first_left_out(tree: &Named) -> Option<Span>
     ensures { result ≡ spec.first_left_out tree.now }
 {

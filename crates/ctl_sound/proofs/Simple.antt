@@ -171,7 +171,7 @@ module _ (k : Setting) (env : Frames) (tables : Tables) (sound : Sound k env tab
 
   assigning_good : (a : Around) (to : Target) (s : Source) → TargetFine to → SourceFine to.ty s → Does a (spec.assigning to.name s)
   assigning_good a to (as_source.Value x) h i = does.assign i.0 h.denotes i.1
-  assigning_good a to (as_source.Record u x) h i = does.assign_record (subst (λ t. Denotes k env to.name t) i.0 h.denotes) i.1
+  assigning_good a to (as_source.Record u x) h i = does.assign_record (subst (λ t. Denotes k env to.name t) i.0 h.denotes) (subst (InView k env) i.0 h.in_view) i.1
 
   pub assignment_good : (a : Around) (u : Use) (xs : List (Suffix Sense)) (x : Sense) → RightSuffixes xs → Right x → Gives (Does a) (spec.assignment u xs x tables)
   assignment_good a u xs x g h = next (λ r. TargetFine r.0 × SourceFine r.0.ty r.1) (Does a) (following (spec.target tables u xs) (λ t. spec.source tables (spec.type_of_target t) x)) (λ r. known (spec.assigning r.0.name r.1))

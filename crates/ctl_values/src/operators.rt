@@ -1,11 +1,12 @@
 //! The operators, on cells (RM 4.5).
 #![tactic(auto, unfolding(ctl_meaning::specs::Numbers::signed, ctl_meaning::specs::Numbers::cell_of, ctl_meaning::specs::Numbers::truth, ctl_meaning::specs::Numbers::is_true, ctl_meaning::specs::Numbers::lowest, ctl_meaning::specs::Numbers::in_range, ctl_meaning::specs::Numbers::held, ctl_meaning::specs::Numbers::absolute, ctl_meaning::specs::Numbers::unary, ctl_meaning::specs::Numbers::same_sign, ctl_meaning::specs::Numbers::is_zero, ctl_meaning::specs::Numbers::with_sign_of, ctl_meaning::specs::Numbers::modulo, ctl_meaning::specs::Numbers::by_nonzero, ctl_meaning::specs::Numbers::binary))]
 
-ghost use Rattle.std.specs.Prelude.{◌≡◌, ◌≢◌, pos, ◌+ℤ◌, ◌-ℤ◌, ◌*ℤ◌, int_div, int_rem};
+ghost use Rattle.std.specs.Prelude.{◌≡◌, ◌≢◌, ◌≤◌, IsTrue, pos, ◌+ℤ◌, ◌-ℤ◌, ◌*ℤ◌, int_div, int_rem};
+ghost use Rattle.ctl_program.specs.Limits.{integer_last};
+ghost use Rattle.ctl_program.specs.declared.operators.BinaryOp.TheVariants.{Divide, Modulo, Remainder};
 ghost use Rattle.ctl_meaning.specs.Numbers as Numbers;
-ghost use Rattle.ctl_values.specs.Operators.{IsDivision};
 
-use ctl_program::limits::{INTEGER_FIRST, INTEGER_LAST};
+use ctl_program::limits::{INTEGER_FIRST, INTEGER_LAST, INTEGER_LAST_CELL};
 use ctl_program::operators::{BinaryOp, UnaryOp};
 use ctl_program::types::Ty;
 
@@ -61,25 +62,60 @@ fn held(ty: Ty, number: i64) -> Option<u64>
     }
 }
 
-/// Answers the cell of a sum.
-fn sum(ty: Ty, left: i64, right: i64) -> Option<u64>
-    ensures { result ≡ Numbers.held ty (left +ℤ right) }
+/// Tells whether both cells are numbers from 0 to Integer'Last.
+#[inline(always)]
+fn are_natural(left: u64, right: u64) -> bool
+    ensures left { IsTrue result → left ≤ integer_last }
+    ensures right { IsTrue result → right ≤ integer_last }
 {
-    held(ty, left.checked_add(right)?)
+    left <= INTEGER_LAST_CELL && right <= INTEGER_LAST_CELL
+}
+
+/// Answers the cell of this natural number, where it is in the range of Integer.
+#[inline(always)]
+fn held_natural(ty: Ty, number: u64) -> Option<u64>
+    ensures { result ≡ Numbers.held ty (pos number) }
+{
+    let _ = ty;
+    if number <= INTEGER_LAST_CELL {
+        Some(number)
+    } else {
+        None
+    }
+}
+
+/// Answers the cell of a sum.
+// Most numbers are natural, and of two of them no sum, difference or product is out of the range of a cell.
+#[inline(always)]
+fn sum(ty: Ty, left: u64, right: u64) -> Option<u64>
+    ensures { result ≡ Numbers.held ty (Numbers.signed left +ℤ Numbers.signed right) }
+{
+    if are_natural(left, right) {
+        return held_natural(ty, left + right);
+    }
+    held(ty, signed(left).checked_add(signed(right))?)
 }
 
 /// Answers the cell of a difference.
-fn difference(ty: Ty, left: i64, right: i64) -> Option<u64>
-    ensures { result ≡ Numbers.held ty (left -ℤ right) }
+#[inline(always)]
+fn difference(ty: Ty, left: u64, right: u64) -> Option<u64>
+    ensures { result ≡ Numbers.held ty (Numbers.signed left -ℤ Numbers.signed right) }
 {
-    held(ty, left.checked_sub(right)?)
+    if are_natural(left, right) && right <= left {
+        return Some(left - right);
+    }
+    held(ty, signed(left).checked_sub(signed(right))?)
 }
 
 /// Answers the cell of a product.
-fn product(ty: Ty, left: i64, right: i64) -> Option<u64>
-    ensures { result ≡ Numbers.held ty (left *ℤ right) }
+#[inline(always)]
+fn product(ty: Ty, left: u64, right: u64) -> Option<u64>
+    ensures { result ≡ Numbers.held ty (Numbers.signed left *ℤ Numbers.signed right) }
 {
-    held(ty, left.checked_mul(right)?)
+    if are_natural(left, right) {
+        return held_natural(ty, left * right);
+    }
+    held(ty, signed(left).checked_mul(signed(right))?)
 }
 
 /// Answers the cell of a quotient, which is truncated toward zero (RM 4.5.5).
@@ -118,26 +154,52 @@ pub fn unary(op: UnaryOp, ty: Ty, cell: u64) -> Option<u64>
     let number = signed(cell);
     match op {
         UnaryOp::Plus => held(ty, number),
-        UnaryOp::Minus => difference(ty, 0, number),
+        UnaryOp::Minus => difference(ty, 0, cell),
         UnaryOp::Abs => held(ty, number.checked_abs()?),
         UnaryOp::Not => Some(truth(!is_true(cell))),
     }
 }
 
-/// Applies an operator whose right operand is a divisor (RM 4.5.5); none where that is zero, or the result is out of range.
+/// Answers the cell of a quotient, none where the divisor is zero (RM 4.5.5).
 #[inline(always)]
-fn divided(op: BinaryOp, ty: Ty, left: u64, right: u64) -> Option<u64>
-    requires { IsDivision op }
-    ensures { result ≡ Numbers.binary op ty left right }
+fn divided(ty: Ty, left: u64, right: u64) -> Option<u64>
+    ensures { result ≡ Numbers.binary Divide ty left right }
 {
     if right == 0 {
         return None;
     }
-    match op {
-        BinaryOp::Modulo => held(ty, modulo(signed(left), signed(right))),
-        BinaryOp::Remainder => held(ty, remainder(signed(left), signed(right))),
-        _ => quotient(ty, signed(left), signed(right)),
+    if are_natural(left, right) {
+        return Some(left / right);
     }
+    quotient(ty, signed(left), signed(right))
+}
+
+/// Answers the cell of the remainder with the sign of the left operand, none where the divisor is zero (RM 4.5.5).
+#[inline(always)]
+fn left_over(ty: Ty, left: u64, right: u64) -> Option<u64>
+    ensures { result ≡ Numbers.binary Remainder ty left right }
+{
+    if right == 0 {
+        return None;
+    }
+    if are_natural(left, right) {
+        return Some(left % right);
+    }
+    held(ty, remainder(signed(left), signed(right)))
+}
+
+/// Answers the cell of the remainder with the sign of the right operand, none where the divisor is zero (RM 4.5.5).
+#[inline(always)]
+fn reduced(ty: Ty, left: u64, right: u64) -> Option<u64>
+    ensures { result ≡ Numbers.binary Modulo ty left right }
+{
+    if right == 0 {
+        return None;
+    }
+    if are_natural(left, right) {
+        return Some(left % right);
+    }
+    held(ty, modulo(signed(left), signed(right)))
 }
 
 /// Applies an operator with two operands (RM 4.5); none where Constraint_Error is raised.
@@ -146,10 +208,12 @@ pub fn binary(op: BinaryOp, ty: Ty, left: u64, right: u64) -> Option<u64>
     ensures { result ≡ Numbers.binary op ty left right }
 {
     match op {
-        BinaryOp::Add => sum(ty, signed(left), signed(right)),
-        BinaryOp::Subtract => difference(ty, signed(left), signed(right)),
-        BinaryOp::Multiply => product(ty, signed(left), signed(right)),
-        BinaryOp::Divide | BinaryOp::Modulo | BinaryOp::Remainder => divided(op, ty, left, right),
+        BinaryOp::Add => sum(ty, left, right),
+        BinaryOp::Subtract => difference(ty, left, right),
+        BinaryOp::Multiply => product(ty, left, right),
+        BinaryOp::Divide => divided(ty, left, right),
+        BinaryOp::Modulo => reduced(ty, left, right),
+        BinaryOp::Remainder => left_over(ty, left, right),
         BinaryOp::And => Some(truth(is_true(left) && is_true(right))),
         BinaryOp::Or => Some(truth(is_true(left) || is_true(right))),
         BinaryOp::Xor | BinaryOp::Unequal => Some(truth(left != right)),

@@ -106,7 +106,7 @@ mutual
   pub data Done (k : Setting) : Frames → Around → Stmt → Type 0 where
     null : {env : Frames} {a : Around} → Done k env a stmt.Null
     assign : {env : Frames} {a : Around} {x : Name} {v : Expr} {t : Ty} → is_scalar t ≡ true → Denotes k env x t → Typed k env v t → Done k env a (stmt.Assign x v)
-    assign_record : {env : Frames} {a : Around} {x : Name} {t : ℕ} {v : Actual} → Denotes k env x (ty.Record t) → Fits k env (record { passing = In; ty = ty.Record t }) v → Done k env a (stmt.AssignRecord x t v)
+    assign_record : {env : Frames} {a : Around} {x : Name} {t : ℕ} {v : Actual} → Denotes k env x (ty.Record t) → InView k env (ty.Record t) → Fits k env (record { passing = In; ty = ty.Record t }) v → Done k env a (stmt.AssignRecord x t v)
     call : {env : Frames} {a : Around} {s : ℕ} {is : Signature} {actuals : List Actual} → Callable k env s is → is.result ≡ None → FitEach k env is.formals actuals → Done k env a (stmt.Call s actuals)
     nothing_done : {env : Frames} {a : Around} {x : Name} {t : ℕ} → Views k env x (ty.Record t) → Done k env a (stmt.Nothing x)
     dispatch : {env : Frames} {a : Around} {o : Operation} {x : Name} {t : ℕ} → Views k env x (ty.Record t) → Done k env a (stmt.Dispatch o x)

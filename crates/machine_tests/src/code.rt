@@ -5,6 +5,7 @@ use crate::lines::{
     ADD, AND, CELL_1, CELL_2, CELL_3, CELL_4, CELL_5, EQUAL, FIRST, Line, MAIN_SLOTS, SECOND,
 };
 use ctl_code::code::{Code, Instr, Operations, Way};
+use ctl_code::least::least_homes;
 use ctl_program::operators::{Direction, Shortcut, UnaryOp};
 use ctl_program::types::Ty;
 use std::alloc::{AllocError, Global};
@@ -309,6 +310,13 @@ const EACH_INSTRUCTION: &[Line] = &[
     (Instr::Transfer(Way::Return), "f"),
 ];
 
+/// A call of the body behind the main procedure.
+const CALL: Instr = Instr::Call {
+    procedure: 1,
+    actuals: 0,
+    copies: 0,
+};
+
 /// A component that takes a value where a number stands for the part that has it.
 const NUMBER_FOR_A_PART: &[Line] = &[
     (Instr::Start(0), ""),
@@ -573,6 +581,40 @@ const PAST_THE_OUTERMOST: &[Line] = &[
     (Instr::Leave, "m"),
 ];
 
+/// A body that the main procedure calls, with a slot of the main procedure, which has two.
+const SLOT_AROUND: &[Line] = &[
+    (Instr::Start(0), ""),
+    (CALL, "m"),
+    (Instr::Leave, "m"),
+    (
+        Instr::Fetch {
+            out: 1,
+            slot: 1,
+            ty: Ty::Integer,
+            to: CELL_1,
+        },
+        "f",
+    ),
+    (Instr::Discard(1), "fi"),
+];
+
+/// The same with a slot past those of the main procedure.
+const SLOT_PAST_A_MASTER_AROUND: &[Line] = &[
+    (Instr::Start(0), ""),
+    (CALL, "m"),
+    (Instr::Leave, "m"),
+    (
+        Instr::Fetch {
+            out: 1,
+            slot: 2,
+            ty: Ty::Integer,
+            to: CELL_1,
+        },
+        "f",
+    ),
+    (Instr::Discard(1), "fi"),
+];
+
 /// The record type has the body of this number as its Finalize, and the only text has two images.
 fn change_tables(code: &mut Code, alloc: Global, finalize: usize) -> Result<(), AllocError> {
     code.records.clear();
@@ -606,6 +648,12 @@ fn add_exit(code: &mut Code) -> Result<(), AllocError> {
     Ok(())
 }
 
+/// Says of the masters around each declaration as little as it can.
+fn say_least(code: &mut Code, alloc: Global) -> Result<(), AllocError> {
+    code.homes = least_homes(alloc, code)?;
+    Ok(())
+}
+
 /// Whether such code is accepted.
 fn is_accepted(
     alloc: Global,
@@ -613,7 +661,9 @@ fn is_accepted(
     finalize: usize,
     place: usize,
 ) -> Result<bool, AllocError> {
-    Ok(is_well_formed(code_with(alloc, lines, finalize, place)?))
+    let mut code = code_with(alloc, lines, finalize, place)?;
+    let said = say_least(&mut code, alloc);
+    Ok(is_well_formed(completed(code, said)?))
 }
 
 /// Whether these lines and the body of a Finalize behind them are accepted.
@@ -629,6 +679,18 @@ fn well_formed_code_is_accepted(rt: HostRuntime) -> Result<(), Fail> {
     let alloc = rt.alloc();
     assert!(rt; is_accepted_with_finalize(alloc, EMPTY)?);
     assert!(rt; is_accepted(alloc, EACH_INSTRUCTION, 1, FINALIZE)?);
+    assert!(rt; is_accepted_with_finalize(alloc, SLOT_AROUND)?);
+    Ok(())
+}
+
+#[test]
+fn masters_around_are_looked_at(rt: HostRuntime) -> Result<(), Fail> {
+    let alloc = rt.alloc();
+    let silent = code_with(alloc, EACH_INSTRUCTION, 1, FINALIZE)?;
+    assert!(rt;
+        !is_well_formed(silent),
+        "a slot of a master of which nothing is said"
+    );
     Ok(())
 }
 
@@ -653,6 +715,10 @@ fn faults_are_refused(rt: HostRuntime) -> Result<(), Fail> {
         (EXCEPTION_PAST_THE_TABLE, "an exception past the table"),
         (OPERAND_LEFT_OVER, "an operand that is left over"),
         (SLOT_PAST_THE_MASTER, "a slot past those of its master"),
+        (
+            SLOT_PAST_A_MASTER_AROUND,
+            "a slot past those of a master around the body",
+        ),
         (PAST_THE_OUTERMOST, "a variable of no master"),
     ] {
         assert!(rt; !is_accepted_with_finalize(alloc, lines)?, "{fault}");

@@ -2,6 +2,7 @@
 
 use crate::lines::{BODY_LEVEL, BODY_SLOTS, Line, MAIN_SLOTS, layout_of_two, note_lines};
 use ctl_code::code::{Code, Entry, Instr, Layout, Operations};
+use ctl_code::homes::Homes;
 use ctl_code::kinds::KindNotes;
 use ctl_code::template::{Template, TextPart};
 use ctl_code::valid::ValidCode;
@@ -156,6 +157,7 @@ fn nothing(alloc: Global) -> Code {
         records: Vec::new(alloc),
         layouts: Vec::new(alloc),
         accesses: Vec::new(alloc),
+        homes: Homes::new(alloc),
         texts: Vec::new(alloc),
         exceptions: Vec::new(alloc),
     }

@@ -87,10 +87,12 @@ fn kind_of(letter: char) -> Kind {
         'm' => Kind::Body {
             level: 0,
             slots: MAIN_SLOTS,
+            number: 0,
         },
         'f' => Kind::Body {
             level: BODY_LEVEL,
             slots: BODY_SLOTS,
+            number: 1,
         },
         '[' => Kind::Block(1),
         '{' => Kind::Block(2),

@@ -14,4 +14,4 @@ returns-in-Some-clause-behaves c run_it linked =
 
 pub returns-in-None-clause-memory : goal.returns-in-None-clause-memory
 returns-in-None-clause-memory c run_it typed =
-    absurd (c.in-None.ensures.refused refl (is_valid c.args.program.now c.in_ok-assemble.field-0 c.in_ok-assemble.ensures.laid_out c.in_ok-assemble.ensures.kinds run_it typed))
+    absurd (c.in-None.ensures.refused refl (is_valid c.args.program.now c.in_ok-assemble.field-0 c.in_ok-assemble.ensures.laid_out c.in_ok-assemble.ensures.kinds c.in_ok-assemble.ensures.homes run_it typed))

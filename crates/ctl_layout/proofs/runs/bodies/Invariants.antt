@@ -4,4 +4,4 @@ use Rattle.ctl_layout.specs.Layout.{bodies, outside}
 use Rattle.ctl_layout.proofs.runs.bodies.Given as goal
 
 abbrev pub invariant-loop-subprogram : goal.invariant-loop-subprogram
-invariant-loop-subprogram l = (bodies (drop l.subprogram-index l.subprograms)).runs (outside l.table.records.now) ≡ (bodies l.subprograms).runs (outside l.table.records.now)
+invariant-loop-subprogram l = (bodies l.subprogram-index (drop l.subprogram-index l.subprograms)).runs (outside l.table.records.now) ≡ (bodies 0 l.subprograms).runs (outside l.table.records.now)

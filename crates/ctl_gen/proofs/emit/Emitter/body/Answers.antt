@@ -8,5 +8,5 @@ use Rattle.ctl_gen.proofs.emit.Emitter.body.Goals as goal
 pub returns : goal.returns
 returns c =
     let s = c.args.subprogram.now in
-    body_emitted s (out-Master s.body).slots c.args.self.now c.enter.new.self c.master.new.self c.leave.new.self
+    body_emitted c.args.number s (out-Master s.body).slots c.args.self.now c.enter.new.self c.master.new.self c.leave.new.self
     (sym (ap (λ (m : MasterCode). m.slots) (master_is s.body))) c.requires c.in_ok-enter.ensures c.in_ok-master.ensures c.leave.ensures

@@ -1,4 +1,4 @@
 use Rattle.ctl_machine.proofs.engine.Engine.enter_body.Given as goal
 
-abbrev pub ghost-call : goal.ghost-call
-ghost-call g a = g.s
+abbrev pub ghost-call_from : goal.ghost-call_from
+ghost-call_from g a = g.s
