@@ -169,8 +169,8 @@ TEXTS = [
     (ITEM + "B : Boolean; procedure P (M : out Boolean) is begin M := True; end P; begin P (B); end Main;", ACCEPTED, 1, 1),
     (ITEM + "type R is record N : Integer; end record; V : R; procedure P (M : out Integer) is begin M := 1; end P; begin P (V.N); end Main;", 12, 1, 1),
     (ITEM + "procedure P (M : out Integer) is begin M := 1; end P; begin P (1); end Main;", 31, 1, 82),
-    # access types are run whose objects are records, with allocators that have no value or that of a name, access attributes, and instances of
-    # Unchecked_Deallocation; an allocator with another value is left out where it stands
+    # access types are run, with allocators that have no value, that of a name or one that is no record's, access attributes, and instances of
+    # Unchecked_Deallocation; an object that is no record is no actual whose copy goes back
     (ITEM + "type R is record N : Integer; end record; type P is access R; V : P; begin V := new R; V.N := 1; end Main;", ACCEPTED, 1, 1),
     (ITEM + "type R is record N : Integer; end record; type P is access all R; V : P := new R; begin V.all := V.all; end Main;", ACCEPTED, 1, 1),
     (ITEM + "type N; type L is access N; type N is record X : L := null; end record; V : L; begin V := new N; V.X := V; end Main;", ACCEPTED, 1, 1),
@@ -180,7 +180,13 @@ TEXTS = [
     (ITEM + "type R is record N : Integer; end record; type P is access R; type Q is access all R; V : P; begin V := new R'(Q (V).all); end Main;", ACCEPTED, 1, 1),
     (ITEM + "type R is record N : Integer; end record; type P is access all R; X : aliased R; V : P; begin V := X'Access; end Main;", ACCEPTED, 1, 1),
     ("with Ada.Unchecked_Deallocation; " + ITEM + "type R is record N : Integer; end record; type P is access R; procedure Free is new Ada.Unchecked_Deallocation (R, P); V : P; begin Free (V); end Main;", ACCEPTED, 1, 1),
-    (ITEM + "type R is record N : Integer; end record; type P is access R; type Q is access P; V : Q; begin V := new P'(null); end Main;", 12, 1, 114),
+    (ITEM + "type R is record N : Integer; end record; type P is access R; type Q is access P; V : Q; begin V := new P'(null); end Main;", ACCEPTED, 1, 1),
+    (ITEM + "type P is access Integer; V : P := new Integer; begin V.all := V.all + 1; V := new Integer'(V.all * 2); end Main;", ACCEPTED, 1, 1),
+    (ITEM + "type P is access Boolean; type Q is access all P; V : Q := new P'(new Boolean'(True)); begin if V.all.all then V.all := null; end if; end Main;", ACCEPTED, 1, 1),
+    ("with Ada.Unchecked_Deallocation; " + ITEM + "type P is access Integer; procedure Free is new Ada.Unchecked_Deallocation (Integer, P); V : P; begin Free (V); end Main;", ACCEPTED, 1, 1),
+    (ITEM + "type P is access Integer; V : P; procedure Q (M : in Integer) is begin null; end Q; begin Q (V.all); end Main;", ACCEPTED, 1, 1),
+    (ITEM + "type P is access Integer; V : P; procedure Q (M : out Integer) is begin M := 1; end Q; begin Q (V.all); end Main;", 12, 1, 1),
+    (ITEM + "type P is access Integer; V : P := new Integer'(True); begin null; end Main;", 30, 1, 67),
     # block pools are run, by themselves and extended
     (POOLS + "P : Block_Pool (16, 4); type R is record N : Integer; end record; type A is access R; for A'Storage_Pool use P; V : A; begin V := new R; V.N := 1; end Main;", ACCEPTED, 1, 1),
     (POOLS + "type R is record N : Integer; end record; P : Block_Pool (Block_Count => 4, Block_Size => 16); type A is access R with Storage_Pool => P; X : R; V : A := new R'(X); begin null; end Main;", ACCEPTED, 1, 1),
@@ -208,10 +214,10 @@ TEXTS = [
     (POOLS + "P, Q : Block_Pool (16, 4); begin if P.Block_Size = Q.Block_Size then null; end if; end Main;", ACCEPTED, 1, 1),
     (POOLS + "P : Block_Pool (16, 4); Q : Block_Pool (P.Block_Size, P.Block_Count); begin null; end Main;", ACCEPTED, 1, 1),
     (MARK_POOLS + "P : Mark_Release_Pool (64); begin if P.Pool_Size = 64 then null; end if; end Main;", 12, 1, 48),
-    # pools with marks, and objects in a pool that are no records
+    # pools with marks are left out, and in pools of blocks there are objects that are no records, too
     (MARK_POOLS + "P : Mark_Release_Pool (64); begin null; end Main;", 12, 1, 48),
     (MARK_POOLS + "type R is record N : Integer; end record; P : Mark_Release_Pool (64); type A is access R with Storage_Pool => P; V : A; begin V := new R; end Main;", 12, 1, 90),
-    (POOLS + "P : Block_Pool (16, 1); type A is access Integer with Storage_Pool => P; V : A; begin V := new Integer; end Main;", 12, 1, 78),
+    (POOLS + "P : Block_Pool (16, 1); type A is access Integer with Storage_Pool => P; V : A; begin V := new Integer; end Main;", ACCEPTED, 1, 1),
     # a rule on types comes before
     (POOLS + "P : Block_Pool (8, 2147483648); Q : Mark_Release_Pool (64); begin null; end Main;", 20, 1, 90),
     (MARK_POOLS + "Q : Mark_Release_Pool (64); P : Mark_Release_Pool (2147483648); begin null; end Main;", 34, 1, 99),

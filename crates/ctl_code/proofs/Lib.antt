@@ -15,6 +15,7 @@ pub mod Numbers
 pub mod Rows
 pub mod Shapes
 pub mod Small
+pub mod SmallParts
 pub mod Storage
 pub mod Texts
 pub mod Whole

@@ -1,5 +1,6 @@
 -- What instructions and record types ask of the numbers of slots of the masters around declarations.
 use Rattle.std.specs.Prelude.{◌≡◌, ℕ, ◌-◌, List, Some, Bool, true, false, slice_get}
+use Rattle.ctl_program.specs.declared.types.Ty.TheVariants as TyOf
 use Rattle.ctl_code.specs.declared.code.Code.{Code}
 use Rattle.ctl_code.specs.declared.code.Instr.{Instr}
 use Rattle.ctl_code.specs.declared.code.Instr.TheVariants.{Call, CopyBack, Evaluate, Declare, DeclareCopy, DeclarePool, New, NewCopy, TakeBlock, Free, FreePart, Fetch, Store, FetchPart, Locate, Designate, Assign}
@@ -10,7 +11,7 @@ use Rattle.ctl_code.specs.declared.least.Demand.{Demand}
 use Rattle.ctl_code.specs.declared.least.Demand.TheVariants as DemandOf
 use Rattle.ctl_code.specs.Kinds.{stack_at}
 use Rattle.ctl_code.specs.Valid.{AreInitialsWithin, AreOperationsWithin, HasCollection, IsFine}
-use Rattle.ctl_code.specs.Windows.{Counts, HasHome, HasSlot}
+use Rattle.ctl_code.specs.Windows.{Counts, HasHome, HasHomeOf, HasSlot}
 
 -- what code says with these numbers
 abbrev pub with_counts : Counts → Code → Code
@@ -24,8 +25,8 @@ demand_of (Declare slot t) = DemandOf.Home (Record t)
 demand_of (DeclareCopy slot t) = DemandOf.Home (Record t)
 demand_of (DeclarePool slot t order at) = DemandOf.Home (Record t)
 demand_of (Assign t) = DemandOf.Home (Record t)
-demand_of (New access t ty at) = DemandOf.Allocated access t
-demand_of (NewCopy access t ty at) = DemandOf.Allocated access t
+demand_of (New access of ty at) = DemandOf.Allocated access of
+demand_of (NewCopy access t ty at) = DemandOf.Allocated access (TyOf.Record t)
 demand_of (Free access out slot) = DemandOf.Freed access out slot
 demand_of (FreePart access t position) = DemandOf.Collection access
 demand_of (CopyBack depth at out slot) = DemandOf.Slot out slot
@@ -43,7 +44,7 @@ IsMet code stack DemandOf.Nothing = Unit {0}
 IsMet code stack (DemandOf.Slot out slot) = HasSlot code.homes stack out slot
 IsMet code stack (DemandOf.Home of) = HasHome code.homes stack of
 IsMet code stack (DemandOf.Collection access) = HasCollection code stack access
-IsMet code stack (DemandOf.Allocated access t) = HasCollection code stack access × HasHome code.homes stack (Record t)
+IsMet code stack (DemandOf.Allocated access of) = HasCollection code stack access × HasHomeOf code.homes stack of
 IsMet code stack (DemandOf.Freed access out slot) = HasCollection code stack access × HasSlot code.homes stack out slot
 
 -- the instruction at a place of code is as it should be where it stands

@@ -3,10 +3,10 @@
 ghost use Rattle.std.specs.Prelude.{◌≡◌, ◌↔◌, ℕ, ◌+◌, ◌≤◌, ◌^◌, ◌<◌, IsTrue};
 ghost use Rattle.ctl_code.specs.declared.code.Instr.TheVariants as I;
 ghost use Rattle.ctl_code.specs.Kinds.{changed, stack_at};
-ghost use Rattle.ctl_code.specs.Valid.{HasCollection, HasVariable, IsAllocable, IsFine, IsGathered, Leads, MayHaveVariable, over_numbers};
+ghost use Rattle.ctl_code.specs.Valid.{HasCollection, HasVariable, IsAllocable, IsFine, IsGathered, IsKnown, Leads, MayLie, MayHaveVariable, over_numbers};
 ghost use Rattle.ctl_code.specs.Windows.{depth};
 
-use crate::around::has_home;
+use crate::around::{has_home, has_home_of};
 use crate::code::Code;
 use crate::fine::{has, is_operand, is_part, leads_on};
 use crate::homes::Declaration;
@@ -15,16 +15,36 @@ use crate::layouts::is_declarable;
 use crate::types::is_scalar;
 use ctl_program::types::{Ty, Var};
 
-/// Tells whether the collection of an access type stands in one of so many masters around a place, and objects of a record type may be
-/// declared where it does (RM 4.8).
-fn is_allocable(code: &Code, masters: usize, access: usize, record: usize) -> bool
-    ensures { IsTrue result ↔ IsAllocable code.now masters access «record» }
+/// Tells whether objects of a type may lie among so many masters: those of an elementary type anywhere.
+fn may_lie(code: &Code, masters: usize, of: Ty) -> bool
+    ensures { IsTrue result ↔ MayLie code.now masters of }
+{
+    match of {
+        Ty::Record(record) => is_declarable(code, masters, record),
+        _ => true,
+    }
+}
+
+/// Tells whether the code has the operations of a type, if it is a record type.
+fn is_known(code: &Code, of: Ty) -> bool
+    ensures { IsTrue result ↔ IsKnown code.now of }
+{
+    match of {
+        Ty::Record(record) => code.records.get(record).is_some(),
+        _ => true,
+    }
+}
+
+/// Tells whether the collection of an access type stands in one of so many masters around a place, and objects of a type may lie where it
+/// does (RM 4.8).
+fn is_allocable(code: &Code, masters: usize, access: usize, of: Ty) -> bool
+    ensures { IsTrue result ↔ IsAllocable code.now masters access of }
 {
     match code.accesses.get(access) {
         Some(home) => {
             1 <= home.collection.level
                 && home.collection.level <= masters
-                && is_declarable(code, home.collection.level, record)
+                && may_lie(code, home.collection.level, of)
         }
         None => false,
     }
@@ -119,32 +139,44 @@ pub(crate) fn is_new_fine(
     code: &Code,
     place: usize,
     access: usize,
-    record: usize,
+    of: Ty,
     ty: Ty,
     at: usize,
 ) -> bool
     requires { place + 1 < 2 ^ 64 }
-    ensures { IsTrue result ↔ IsFine code.now place (I.New access «record» ty at) (stack_at code.now.kinds place) }
+    ensures { IsTrue result ↔ IsFine code.now place (I.New access of ty at) (stack_at code.now.kinds place) }
 {
     is_scalar(ty)
-        && is_allocable(code, code.kinds.depth_at(place), access, record)
+        && is_allocable(code, code.kinds.depth_at(place), access, of)
         && code.kinds.height_at(place, 0) == at
         && leads_to_address(code, place, 0, None)
         && leads_behind_next(code, place, 0, Some(Kind::Operand(ty)))
         && has_collection(code, place, access)
-        && has_home(code, place, Declaration::Record(record))
+        && has_home_of(code, place, of)
 }
 
 /// Checks an allocator at the address that an Allocate gave (RM 4.8, 13.11).
-pub(crate) fn is_new_in_fine(code: &Code, place: usize, record: usize, ty: Ty, at: usize) -> bool
+pub(crate) fn is_new_in_fine(code: &Code, place: usize, of: Ty, ty: Ty, at: usize) -> bool
     requires { place + 1 < 2 ^ 64 }
-    ensures { IsTrue result ↔ IsFine code.now place (I.NewIn «record» ty at) (stack_at code.now.kinds place) }
+    ensures { IsTrue result ↔ IsFine code.now place (I.NewIn of ty at) (stack_at code.now.kinds place) }
 {
     is_scalar(ty)
-        && code.records.get(record).is_some()
+        && is_known(code, of)
         && code.kinds.has_numbers(place, ADDRESS_NUMBERS)
         && code.kinds.height_at(place, ADDRESS_NUMBERS) == at
         && leads_on(code, place, ADDRESS_NUMBERS, Some(Kind::Operand(ty)))
+}
+
+/// Checks that a new object is given the value below its access value (RM 4.8).
+pub(crate) fn is_given_fine(code: &Code, place: usize, of: Ty, ty: Ty, at: usize) -> bool
+    requires { place + 1 < 2 ^ 64 }
+    ensures { IsTrue result ↔ IsFine code.now place (I.GiveValue of ty at) (stack_at code.now.kinds place) }
+{
+    is_scalar(of)
+        && is_scalar(ty)
+        && has(code, place, 0, Kind::Operand(ty))
+        && is_operand(code, place, 1, at, of)
+        && leads_on(code, place, 2, Some(Kind::Operand(ty)))
 }
 
 /// Checks an allocator with the value of a part, which stands on top, in this cell (RM 4.8).
@@ -160,7 +192,7 @@ pub(crate) fn is_new_copy_fine(
     ensures { IsTrue result ↔ IsFine code.now place (I.NewCopy access «record» ty at) (stack_at code.now.kinds place) }
 {
     is_scalar(ty)
-        && is_allocable(code, code.kinds.depth_at(place), access, record)
+        && is_allocable(code, code.kinds.depth_at(place), access, Ty::Record(record))
         && is_operand(code, place, 0, at, Ty::Record(record))
         && leads_to_address(code, place, 1, Some(Kind::RecordValue))
         && leads_behind_next(code, place, 1, Some(Kind::Operand(ty)))

@@ -3,10 +3,11 @@
 ghost use Rattle.std.specs.Prelude.{◌↔◌, IsTrue};
 ghost use Rattle.ctl_code.specs.Kinds.{stack_at};
 ghost use Rattle.ctl_code.specs.Valid.{AreInitialsWithin, AreOperationsWithin, IsInitialWithin, IsOperationWithin};
-ghost use Rattle.ctl_code.specs.Windows.{HasHome, IsWithin};
+ghost use Rattle.ctl_code.specs.Windows.{HasHome, HasHomeOf, IsWithin};
 
 use crate::code::{Code, Initial, Layout};
 use crate::homes::Declaration;
+use ctl_program::types::Ty;
 
 /// Tells whether each master around a declaration stands around an instruction with as many slots.
 pub(crate) fn has_home(code: &Code, place: usize, of: Declaration) -> bool
@@ -18,6 +19,16 @@ pub(crate) fn has_home(code: &Code, place: usize, of: Declaration) -> bool
         }
     }
     true
+}
+
+/// Tells whether each master around the declaration of a type, if that is a record type, stands around an instruction with as many slots.
+pub(crate) fn has_home_of(code: &Code, place: usize, of: Ty) -> bool
+    ensures { IsTrue result ↔ HasHomeOf code.now.homes (stack_at code.now.kinds place) of }
+{
+    match of {
+        Ty::Record(record) => has_home(code, place, Declaration::Record(record)),
+        _ => true,
+    }
 }
 
 /// Tells whether each master around the one declaration stands around the other with as many slots.

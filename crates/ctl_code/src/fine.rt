@@ -15,8 +15,8 @@ ghost use Rattle.ctl_code.specs.declared.homes.Declaration.TheVariants as Declar
 ghost use Rattle.ctl_code.specs.Windows.{HasHome, HasSlot, depth, height, variable_at};
 
 use crate::accesses::{
-    is_free_fine, is_free_part_fine, is_gather_fine, is_new_copy_fine, is_new_copy_in_fine,
-    is_new_fine, is_new_in_fine,
+    is_free_fine, is_free_part_fine, is_gather_fine, is_given_fine, is_new_copy_fine,
+    is_new_copy_in_fine, is_new_fine, is_new_in_fine,
 };
 use crate::around::has_home;
 use crate::calls::{
@@ -650,19 +650,15 @@ pub fn is_fine(code: &Code, place: usize, instr: &Instr) -> bool
             at,
         } => is_pool_fine(code, place, slot, record, at),
         Instr::Gather { access, count: _ } => is_gather_fine(code, place, access),
-        Instr::New {
-            access,
-            record,
-            ty,
-            at,
-        } => is_new_fine(code, place, access, record, ty, at),
+        Instr::New { access, of, ty, at } => is_new_fine(code, place, access, of, ty, at),
         Instr::NewCopy {
             access,
             record,
             ty,
             at,
         } => is_new_copy_fine(code, place, access, record, ty, at),
-        Instr::NewIn { record, ty, at } => is_new_in_fine(code, place, record, ty, at),
+        Instr::NewIn { of, ty, at } => is_new_in_fine(code, place, of, ty, at),
+        Instr::GiveValue { of, ty, at } => is_given_fine(code, place, of, ty, at),
         Instr::NewCopyIn { record, ty, at } => is_new_copy_in_fine(code, place, record, ty, at),
         Instr::TakeBlock { record, out, slot } => is_taking_fine(code, place, record, out, slot),
         Instr::TakeBlockInto { record, of, .. } => is_taking_into_fine(code, place, record, of),

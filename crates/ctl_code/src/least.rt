@@ -8,12 +8,12 @@ ghost use Rattle.ctl_code.specs.Demands.{AreAround, AreFine, IsAround, IsFineAt,
 ghost use Rattle.ctl_code.specs.Homes.{Raises};
 ghost use Rattle.ctl_code.specs.Kinds.{stack_at};
 ghost use Rattle.ctl_code.specs.Valid.{AreInitialsWithin, AreOperationsWithin, HasCollection, HasVariable, IsFine, IsInitialWithin, IsOperationWithin, IsValid, MayHaveVariable};
-ghost use Rattle.ctl_code.specs.Windows.{Counts, HasHome, HasSlot, IsWithin, said, slots_at};
+ghost use Rattle.ctl_code.specs.Windows.{Counts, HasHome, HasHomeOf, HasSlot, IsWithin, said, slots_at};
 
 use crate::code::{Code, Initial, Instr, Layout};
 use crate::homes::{Declaration, Homes};
 use crate::kinds::MasterAt;
-use ctl_program::types::Var;
+use ctl_program::types::{Ty, Var};
 use std::alloc::{AllocError, Global};
 
 /// What an instruction asks of the masters around its body: that the one so many further out has a slot, that those around a declaration stand
@@ -29,7 +29,7 @@ pub enum Demand {
     Collection(usize),
     Allocated {
         access: usize,
-        record: usize,
+        of: Ty,
     },
     Freed {
         access: usize,
@@ -107,6 +107,17 @@ fn keep_home(
     Ok(raised)
 }
 
+/// Sees to it that the masters around the declaration of a type, if that is a record type, stand around an instruction, as far as these stand
+/// around its body.
+fn keep_home_of(code: &Code, homes: &mut Homes, place: usize, of: Ty) -> Result<bool, AllocError>
+    ensures { IfOk result (λ raised. Raises (λ counts. HasHomeOf counts (stack_at code.now.kinds place) of) homes.old homes.new raised) }
+{
+    match of {
+        Ty::Record(record) => keep_home(code, homes, place, Declaration::Record(record)),
+        _ => Ok(false),
+    }
+}
+
 /// Sees to it that the master of a variable has its slot, if it stands around the body.
 fn keep_variable(
     code: &Code,
@@ -166,8 +177,11 @@ fn demand_of(instr: &Instr) -> Demand
         | Instr::DeclareCopy { record, .. }
         | Instr::DeclarePool { record, .. }
         | Instr::Assign { record } => Demand::Home(Declaration::Record(record)),
-        Instr::New { access, record, .. } | Instr::NewCopy { access, record, .. } =>
-            Demand::Allocated { access, record },
+        Instr::New { access, of, .. } => Demand::Allocated { access, of },
+        Instr::NewCopy { access, record, .. } => Demand::Allocated {
+            access,
+            of: Ty::Record(record),
+        },
         Instr::Free { access, out, slot } => Demand::Freed { access, out, slot },
         Instr::FreePart { access, .. } => Demand::Collection(access),
         Instr::CopyBack { out, slot, .. }
@@ -190,9 +204,9 @@ fn keep(code: &Code, homes: &mut Homes, place: usize, demand: Demand) -> Result<
         Demand::Slot { out, slot } => keep_slot(code, homes, place, out, slot),
         Demand::Home(of) => keep_home(code, homes, place, of),
         Demand::Collection(access) => keep_collection(code, homes, place, access),
-        Demand::Allocated { access, record } => {
+        Demand::Allocated { access, of } => {
             let first = keep_collection(code, homes, place, access)?;
-            let second = keep_home(code, homes, place, Declaration::Record(record))?;
+            let second = keep_home_of(code, homes, place, of)?;
             Ok(either(first, second))
         }
         Demand::Freed { access, out, slot } => {

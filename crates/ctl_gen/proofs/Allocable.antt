@@ -2,6 +2,7 @@
 -- object there are so many masters as its type asks for (4.8, 7.6.1).
 use Rattle.std.proofs.Common.{◌≡◌, ℕ, ◌≤◌, List, length, Some, sym, ap, ◌∙◌, subst, arith}
 use Rattle.std.specs.Prelude.{◌-◌, nat_eq}
+use Rattle.ctl_program.specs.declared.types.Ty.{Ty}
 use Rattle.ctl_program.specs.declared.types.Var.{Var}
 use Rattle.ctl_meaning.specs.World.{Collection, Content, Nothing, Holds, Binds, Copies, Gathers, World}
 use Rattle.ctl_meaning.specs.Activations.{master_of}
@@ -12,7 +13,7 @@ use Rattle.ctl_meaning.specs.Types.{Tables}
 use Rattle.ctl_code.specs.declared.code.Code.{Code}
 use Rattle.ctl_code.specs.declared.kinds.Kind.{Kind}
 use Rattle.ctl_code.specs.Table.{set_seen}
-use Rattle.ctl_code.specs.Valid.{IsAllocable, IsDeclarable}
+use Rattle.ctl_code.specs.Valid.{IsAllocable, MayLie}
 use Rattle.ctl_code.specs.Windows.{depth}
 use Rattle.ctl_gen.proofs.Each.{IfFound, each_found}
 use Rattle.ctl_gen.proofs.Collections.{home, found_number, nested_at, Gathered, IsHeldBy, IsMadeIn}
@@ -41,10 +42,10 @@ module _ (k : Tables) (code : Code) where
       let level = nested_at w.ledger.next_master w.activations 0 (v.level - 1) d (omega (arith, low, high)) (seen_nested k code d s w0 w (seen sees) since) deep in
       omega (arith, same, level, low)
 
-  -- and the record type of a well-formed allocator is declared around it
-  pub may_allocate : (access t : ℕ) (d : List ℕ) (s : List Kind) (w0 w : World) → IsAllocable code (depth s) access t → IsSeen w0 d s → Since k code w0 w → MayAllocate code access t d w
-  may_allocate access t d s w0 w (a, found, low, within, declared) (old, home, long) since x at =
+  -- and objects of the type of a well-formed allocator may lie in it
+  pub may_allocate : (access : ℕ) (ty : Ty) (d : List ℕ) (s : List Kind) (w0 w : World) → IsAllocable code (depth s) access ty → IsSeen w0 d s → Since k code w0 w → MayAllocate code access ty d w
+  may_allocate access ty d s w0 w (a, found, low, within, lies) (old, home, long) since x at =
       let v = a.collection in
       let high : v.level ≤ length d = omega (arith, long, within) in
       let sees : Sees d s w0 = record { old = old; home = home; long = long; deep = omega (arith, low, high) } in
-      subst (λ n. IsDeclarable code n t) (sym (collection_seen v d s w0 w x low high sees since (ap (λ o. set_seen o d w) (sym found) ∙ at))) declared
+      subst (λ n. MayLie code n ty) (sym (collection_seen v d s w0 w x low high sees since (ap (λ o. set_seen o d w) (sym found) ∙ at))) lies

@@ -20,7 +20,7 @@ use Rattle.ctl_code.specs.States.{Word, Scalar, Located, Frame, State, whole_spo
 use Rattle.ctl_code.specs.Table.{component_of}
 use Rattle.ctl_code.specs.Windows.{height}
 use Rattle.ctl_layout.specs.Around.{Line, new_operand}
-use Rattle.ctl_layout.specs.Parts.{Start, OfVariable, OfValue, Reached, Variable, Part, Object, access_value, are_followed, are_walked, first_type, located_code, part_code, selects_code}
+use Rattle.ctl_layout.specs.Parts.{Start, OfVariable, OfValue, Reached, Variable, Part, Object, access_value, are_followed, are_walked, first_type, located_code, onward_code, part_code, selects_code}
 use Rattle.ctl_layout.specs.Values.{ValueCode, given}
 use Rattle.ctl_gen.proofs.Walked.{start_of, steps_before, steps_of}
 use Rattle.ctl_gen.proofs.Place.{Laid, laid_front, laid_back}
@@ -67,23 +67,23 @@ module _ (ask : Ask) (k : Tables) (code : Code) (bound : ℕ) (w0 : World) where
       behind_value steps r c l w = bind (bind (on_goes (λ v. done (Alone v)) r c l w) (on_goes (walk K steps))) g
 
       -- its dereference, and the steps behind that
-      dereferences : (b h n : ℕ) (steps : List Step) (t : ℕ) (s : List Kind) (place c : ℕ) (l : Log) (w : World) → Since k code w0 w → are_walked true steps ≡ true → Agree k code steps → Laid code place (selects_code (Dereference ∷ steps) t s) → Follows c b h (place + length (selects_code (Dereference ∷ steps) t s)) → Left c b h → RunsTo ask code Ends b h (at d place ks (Scalar n ∷ ops) l w) c next (behind_value (Dereference ∷ steps) (Goes (n ∷ [])) c l w)
+      dereferences : (b h n : ℕ) (steps : List Step) (t : ℕ) (s : List Kind) (place c : ℕ) (l : Log) (w : World) → Since k code w0 w → are_walked steps ≡ true → Agree k code (Dereference ∷ steps) → Laid code place (selects_code (Dereference ∷ steps) t s) → Follows c b h (place + length (selects_code (Dereference ∷ steps) t s)) → Left c b h → RunsTo ask code Ends b h (at d place ks (Scalar n ∷ ops) l w) c next (behind_value (Dereference ∷ steps) (Goes (n ∷ [])) c l w)
       unfolding opened_outcome
       dereferences b h n steps t s place c l w fits walked agree has then left =
           let s0 = at d place ks (Scalar n ∷ ops) l w in
           let o = dereferenced n c l w in
           let raises = left constraint_error c l w (omega arith) fits in
-          let e : place + length (selects_code (Dereference ∷ steps) t s) ≡ place + 1 + length (selects_code steps t s) = omega arith in
+          let e : place + length (selects_code (Dereference ∷ steps) t s) ≡ place + 1 + length (onward_code steps t s) = omega arith in
           let puts = subst (Puts ask code K Ends next g d ks ops c l w b h) e (then c l w (omega arith) fits) in
           subst (RunsTo ask code Ends b h s0 c next) (sym (ap (λ z. bind (add 0 z) g) (dereferences_value K n steps c l w) ∙ paid_once o (on_goes (walk K steps)) g))
           (added_to ask code Ends 0 b h b h s0 c next _ (omega arith) (omega arith)
           (added_to ask code Ends 1 (b + 3) (h + 3) b h s0 c next _ (omega arith) (omega arith)
           (added_to ask code Ends 0 (b + 3) (h + 3) (b + 3) (h + 3) s0 c next _ (omega arith) (omega arith)
           (designates ask code K Ends next g d ks ops c l w b h n (first_type steps t) (height s) place (walk K steps) has.0
-          (λ m. selects ask code K Ends next g d ks ops c l w b h steps t s (whole_spot m) (place + 1) walked agree has.2 puts raises) raises))))
+          (λ m. selects ask code K Ends next g d ks ops c l w b h steps t s (whole_spot m) (place + 1) walked agree.1 has.2 puts raises) raises))))
 
       -- the value, whose first tick pays for its steps, and then that
-      value_from : (b h : ℕ) (runs : List RecordType → Bool) (lines : List Kind → List Line) (act : List ℕ → Act (List ℕ)) → Starts (OfValue runs lines) act → (steps : List Step) (t : ℕ) (s : List Kind) (place c : ℕ) (l : Log) (w : World) → are_walked true steps ≡ true → Agree k code steps → c ≤ bound → Since k code w0 w → IsSeen w0 d s → Laid code place (lines s ++ selects_code (Dereference ∷ steps) t s) → Follows c b h (place + length (lines s ++ selects_code (Dereference ∷ steps) t s)) → Left c b h → RunsTo ask code Ends b h (at d place ks ops l w) c next (bind (act d c l w) (behind_value (Dereference ∷ steps)))
+      value_from : (b h : ℕ) (runs : List RecordType → Bool) (lines : List Kind → List Line) (act : List ℕ → Act (List ℕ)) → Starts (OfValue runs lines) act → (steps : List Step) (t : ℕ) (s : List Kind) (place c : ℕ) (l : Log) (w : World) → are_walked steps ≡ true → Agree k code (Dereference ∷ steps) → c ≤ bound → Since k code w0 w → IsSeen w0 d s → Laid code place (lines s ++ selects_code (Dereference ∷ steps) t s) → Follows c b h (place + length (lines s ++ selects_code (Dereference ∷ steps) t s)) → Left c b h → RunsTo ask code Ends b h (at d place ks ops l w) c next (bind (act d c l w) (behind_value (Dereference ∷ steps)))
       unfolding opened_outcome
       value_from b h runs lines act begun steps t s place c l w walked agree le fits long has then left =
           let front = lines s in

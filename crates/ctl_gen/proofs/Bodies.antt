@@ -1,7 +1,7 @@
 -- The execution of a body, and of the main procedure.
-use Rattle.std.proofs.Common.{◌≡◌, ℕ, zero, suc, ◌+◌, ◌<◌, ◌≤◌, List, [], ◌∷◌, ◌++◌, length, Option, Some, None, true, refl, sym, ap, ◌∙◌, subst, arith, inl}
+use Rattle.std.proofs.Common.{◌≡◌, ℕ, zero, suc, ◌+◌, ◌<◌, ◌≤◌, List, [], ◌∷◌, ◌++◌, length, Some, None, true, refl, sym, ap, ◌∙◌, subst, arith, inl}
 use Rattle.std.specs.Prelude.{slice_get, take, drop, replicate}
-use Rattle.ctl_program.specs.declared.types.Ty.TheVariants.{Record}
+use Rattle.ctl_program.specs.declared.types.Ty.{Ty}
 use Rattle.ctl_program.specs.declared.operators.SubprogramKind.{SubprogramKind}
 use Rattle.ctl_program.specs.declared.operators.SubprogramKind.TheVariants.{Procedure, Function}
 use Rattle.ctl_program.specs.declared.statement.Master.{Master, fold_out-Master}
@@ -23,8 +23,8 @@ use Rattle.ctl_code.specs.declared.code.Entry.{Entry}
 use Rattle.ctl_code.specs.declared.code.Instr.TheVariants as InstrOf
 use Rattle.ctl_code.specs.declared.code.Code.{Code}
 use Rattle.ctl_code.specs.declared.kinds.Kind.TheVariants as KindOf
-use Rattle.ctl_code.specs.States.{Word, After, AfterBlock, AfterProcedure, AfterFunction, AfterBody, Frame, State}
-use Rattle.ctl_code.specs.Table.{behind, enter_body, pool_in, set_seen}
+use Rattle.ctl_code.specs.States.{Word, Scalar, After, AfterBlock, AfterProcedure, AfterFunction, AfterBody, Frame, State}
+use Rattle.ctl_code.specs.Table.{behind, by_new, enter_body, pool_in, set_seen}
 use Rattle.ctl_code.specs.Steps.{moved, step, start}
 use Rattle.ctl_layout.specs.Layout.{MasterCode, body_code, entry_at, master_code, nowhere, outside}
 use Rattle.ctl_layout.proofs.StatementLayers.{master_is}
@@ -33,11 +33,11 @@ use Rattle.ctl_gen.proofs.Each.{Each}
 use Rattle.ctl_gen.proofs.Collections.{nested_taken}
 use Rattle.ctl_gen.proofs.Worlds.{IsNested, IsPlainSlot, plain_unset, Since, fits_empty, keeps_itself}
 use Rattle.ctl_gen.proofs.Scopes.{IsCallable}
-use Rattle.ctl_gen.proofs.Setting.{Setting, Allocates, IsServed, MayAllocate, EndsIn, allocator_steps, behind_allocator, by_allocator, returned_to, returns, IsTold, Told, Calls}
-use Rattle.ctl_gen.proofs.Known.{IsPlainType}
+use Rattle.ctl_gen.proofs.Setting.{Setting, Allocates, IsGiven, IsServed, Made, made_type, made_value, MayAllocate, EndsIn, allocator_steps, behind_allocator, by_allocator, returned_to, returns, IsTold, Told, Calls}
+use Rattle.ctl_gen.proofs.Known.{IsPlainType, IsScalar}
 use Rattle.ctl_gen.proofs.Parted.{GivesDefaults}
 use Rattle.ctl_gen.proofs.Calls.{point_at}
-use Rattle.ctl_gen.proofs.Allocators.{allocator_runs}
+use Rattle.ctl_gen.proofs.Allocators.{allocator_runs, giver_runs}
 use Rattle.ctl_gen.proofs.Cells.{by_code, here}
 use Rattle.ctl_gen.proofs.Leave.{in_frame, leaves}
 use Rattle.ctl_gen.proofs.Executed.{master_does}
@@ -160,18 +160,27 @@ module _ (ask : Ask) (p : Meaning) (code : Code) (setting : Setting p.tables cod
       (number_runs (execution ask p (suc n)) n below f s here w0 v actuals after ks (suc c) c l w s0 kind count ends (omega (arith, le)) (omega arith) (omega arith) fits callable nested plain first)
 
   -- an allocator has taken one before
-  allocate_runs : (n : ℕ) → Below n → (access t : ℕ) → IsPlainType k (Record t) → (value : Option (List ℕ)) (w0 : World) (d : List ℕ) (place : ℕ) (ks : List Frame) (ops : List Word) (c : ℕ) (l : Log) (w : World) (s0 : State) → c + 1 ≤ n → Since k code w0 w → MayAllocate code access t d w → IsServed code t value place → step ask code s0 ≡ moved l (by_allocator code t value (pool_in (slice_get code.accesses.items access)) (set_seen (slice_get code.accesses.items access) d w) ops (here d place ks w)) → RunsTo ask code (Allocates k code w0) 6 (allocator_steps value) s0 c (returned_to (AfterFunction (point_at d (behind_allocator place) ops)) ks) (execution ask p (suc n) (OfAllocator access (Record t) None value) d c l w)
+  allocate_runs : (n : ℕ) → Below n → (access : ℕ) (m : Made) → IsPlainType k (made_type m) → (w0 : World) (d : List ℕ) (place : ℕ) (ks : List Frame) (ops : List Word) (c : ℕ) (l : Log) (w : World) (s0 : State) → c + 1 ≤ n → Since k code w0 w → MayAllocate code access (made_type m) d w → IsServed code m place → step ask code s0 ≡ moved l (by_allocator code m (pool_in (slice_get code.accesses.items access)) (set_seen (slice_get code.accesses.items access) d w) ops (here d place ks w)) → RunsTo ask code (Allocates k code w0) 6 (allocator_steps m) s0 c (returned_to (AfterFunction (point_at d (behind_allocator place) ops)) ks) (execution ask p (suc n) (OfAllocator access (made_type m) None (made_value m)) d c l w)
   unfolding execution execute tools_with opened_outcome
-  allocate_runs zero below access t plain value w0 d place ks ops c l w s0 le fits may served first = absurd (omega (arith, le))
-  allocate_runs (suc n) below access t plain value w0 d place ks ops c l w s0 le fits may served first =
+  allocate_runs zero below access m plain w0 d place ks ops c l w s0 le fits may served first = absurd (omega (arith, le))
+  allocate_runs (suc n) below access m plain w0 d place ks ops c l w s0 le fits may served first =
       let inner = execution ask p (suc n) in
-      allocator_runs ask k code setting inner (default_in p.defaults (expression_tools ask p inner)) (constants inner) n below t plain w0 access (setting.accesses access) value d place ks ops s0 c l w (omega (arith, le)) fits may served first
+      allocator_runs ask k code setting inner (default_in p.defaults (expression_tools ask p inner)) (constants inner) n below w0 m plain access (setting.accesses access) d place ks ops s0 c l w (omega (arith, le)) fits may served first
+
+  -- and so has one whose object takes a value
+  give_runs : (n : ℕ) → Below n → (access : ℕ) (of : Ty) → IsScalar of → (x : ℕ) (w0 : World) (d : List ℕ) (place : ℕ) (ks : List Frame) (ops : List Word) (c : ℕ) (l : Log) (w : World) (s0 : State) → c + 1 ≤ n → Since k code w0 w → MayAllocate code access of d w → IsGiven code of place → step ask code s0 ≡ moved l (by_new code of (pool_in (slice_get code.accesses.items access)) (set_seen (slice_get code.accesses.items access) d w) (Scalar x ∷ ops) (here d place ks w)) → RunsTo ask code (Allocates k code w0) 7 9 s0 c (returned_to (AfterFunction (point_at d (behind_allocator place + 1) ops)) ks) (execution ask p (suc n) (OfAllocator access of None (Some (x ∷ []))) d c l w)
+  unfolding execution execute tools_with opened_outcome
+  give_runs zero below access of scalar x w0 d place ks ops c l w s0 le fits may given first = absurd (omega (arith, le))
+  give_runs (suc n) below access of scalar x w0 d place ks ops c l w s0 le fits may given first =
+      let inner = execution ask p (suc n) in
+      giver_runs ask k code setting inner (default_in p.defaults (expression_tools ask p inner)) (constants inner) n below w0 access (setting.accesses access) of scalar x d place ks ops s0 c l w (omega (arith, le)) fits may given first
 
   all_below : (n : ℕ) → Below n
   all_below zero = tt
   all_below (suc n) = record {
     runs = λ f s known w0 v actuals after ks c l w s0 kind count ends le fits callable nested plain first. call_runs n (all_below n) c le f s known w0 v actuals after ks l w s0 kind count ends fits callable nested plain first;
-    allocates = λ access t plain value w0 d place ks ops c l w s0 le fits may served first. allocate_runs n (all_below n) access t plain value w0 d place ks ops c l w s0 le fits may served first;
+    allocates = λ access m plain w0 d place ks ops c l w s0 le fits may served first. allocate_runs n (all_below n) access m plain w0 d place ks ops c l w s0 le fits may served first;
+    gives_value = λ access of scalar x w0 d place ks ops c l w s0 le fits may given first. give_runs n (all_below n) access of scalar x w0 d place ks ops c l w s0 le fits may given first;
     counts = counted (suc n) n (omega arith);
   }
 

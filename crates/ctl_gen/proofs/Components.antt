@@ -1,11 +1,11 @@
 -- Components of objects: the code that reads one and the code that assigns to one does what the program means (4.1.3, 5.2).
-use Rattle.std.proofs.Common.{◌≡◌, ℕ, ◌+◌, ◌≤◌, List, [], ◌∷◌, ◌++◌, length, drop, Option, Some, None, true, refl, sym, ap, ◌∙◌, subst, arith, length-append}
+use Rattle.std.proofs.Common.{◌≡◌, ℕ, ◌+◌, ◌≤◌, List, [], ◌∷◌, ◌++◌, length, drop, Option, Some, None, Bool, true, refl, sym, ap, ◌∙◌, subst, arith, length-append}
 use Rattle.std.specs.Prelude.{slice_get}
 use Rattle.ctl_program.specs.declared.types.Ty.{Ty}
 use Rattle.ctl_program.specs.declared.types.Ty.TheVariants.{Record}
 use Rattle.ctl_program.specs.declared.types.Var.{Var}
+use Rattle.ctl_program.specs.declared.types.RecordType.{RecordType}
 use Rattle.ctl_program.specs.declared.expression.Step.{Step}
-use Rattle.ctl_program.specs.declared.expression.Step.TheVariants.{Component}
 use Rattle.ctl_tree.specs.declared.ending.Stop.TheVariants.{UseAfterFree}
 use Rattle.ctl_meaning.specs.World.{Object, Log, World}
 use Rattle.ctl_meaning.specs.Activations.{master_of}
@@ -13,8 +13,8 @@ use Rattle.ctl_meaning.specs.Objects.{cells_at}
 use Rattle.ctl_meaning.specs.Changes.{object_at, slot_at, write_cells}
 use Rattle.ctl_meaning.specs.Choice.{Ask}
 use Rattle.ctl_meaning.specs.Outcome.{ByRaise, Result, Goes, Leaves, Out, Act, Done, add, bind, on_goes, ◌>>=◌, done, change, ticked, on_some, opened_outcome}
-use Rattle.ctl_meaning.specs.Types.{Tables, cells_of, offset_in, placed}
-use Rattle.ctl_meaning.specs.Names.{Found, Call, Default, Tools, gone, existing, moved as found_behind, read_found, read_part, scalar_of, write_found, write_part}
+use Rattle.ctl_meaning.specs.Types.{Tables, cells_of}
+use Rattle.ctl_meaning.specs.Names.{Found, InObject, Call, Default, Tools, gone, existing, read_found, read_part, scalar_of, write_found, write_part}
 use Rattle.ctl_meaning.specs.Finalization.{Spot}
 use Rattle.ctl_code.specs.declared.code.Cell.{Cell}
 use Rattle.ctl_code.specs.declared.code.Named.{Named}
@@ -27,37 +27,33 @@ use Rattle.ctl_code.specs.Steps.{moved, step}
 use Rattle.ctl_code.specs.Table.{by_fetch_part, fetch_from, fetched, holder_at, locating, offset_of, spot_of, store_into, stored}
 use Rattle.ctl_code.specs.Windows.{depth}
 use Rattle.ctl_layout.specs.Around.{out_to}
-use Rattle.ctl_layout.specs.Parts.{Start, OfVariable, OfValue, Part, are_followed, component_code, located_code, parts_run, taken_code}
-use Rattle.ctl_layout.specs.Values.{ValueCode, held, read, value_type}
+use Rattle.ctl_layout.specs.declared.right.Right.TheVariants as RightOf
+use Rattle.ctl_layout.specs.Parts.{Start, OfVariable, OfValue, Reached, are_followed, component_code, located_code, taken_code}
+use Rattle.ctl_layout.specs.Values.{ValueCode, held, value_type}
 use Rattle.ctl_layout.specs.Layout.{assign_part_code, store_part_code}
 use Rattle.ctl_gen.proofs.Known.{IsScalar}
 use Rattle.ctl_gen.proofs.Place.{Laid, laid_front, laid_back}
 use Rattle.ctl_gen.proofs.Worlds.{Since, Kept, since_written, no_copy_at}
-use Rattle.ctl_gen.proofs.Setting.{ArePlaced, IsSeen, seen, tools_with}
+use Rattle.ctl_gen.proofs.Setting.{IsSeen, seen, tools_with}
 use Rattle.ctl_gen.proofs.Cells.{Any, OneCell, Stays, by_code, here, landed, landed_leaves, out_is, put_there, taking_is, waiting}
 use Rattle.ctl_gen.proofs.Values.{one_cell, scalar_cells}
 use Rattle.ctl_gen.proofs.Expressions as X
 use Rattle.ctl_gen.proofs.Expressions.{Value, held_holds, held_then}
-use Rattle.ctl_gen.proofs.Parts.{Agree, agree_run, component_found, content_of, find_by, finds_object, found_at, object_found, stepping}
+use Rattle.ctl_gen.proofs.Parts.{Agree, content_of, find_by, finds_object, found_at, object_found}
+use Rattle.ctl_gen.proofs.LastSteps.{Ends, Last, ends_in}
 use Rattle.ctl_gen.proofs.Begun.{Starts, located_then}
 use Rattle.ctl_gen.proofs.Does.{Does}
 use Rattle.ctl_gen.proofs.Follow.{Runs, Target, added, added_to, arrives, at, bind_bind, lands, last_step, last_step_to, no_step, no_step_to, stop_step, stop_step_to, transferred}
 
-module _ (ask : Ask) (k : Tables) (code : Code) (placed_so : ArePlaced k code) (call : Call) (default : Default) where
+module _ (ask : Ask) (k : Tables) (code : Code) (call : Call) (default : Default) where
   abbrev K : Tools
   K = tools_with ask k call default
 
-  -- the component at a position of the part that these steps lead to; what the name begins with, if that is a value, is given by this act
-  module _ (start : Start) (given : List ℕ → Act (List ℕ)) (steps : List Step) (t position : ℕ) (runs : parts_run k.records start steps t ≡ true) (followed : are_followed start steps ≡ true) where
-    abbrev all : List Step
-    all = steps ++ Component t position ∷ []
-
+  -- the component at a position of the part that these steps lead to, which has its first cell there, and what a last step of the name finds of
+  -- it: a selector, or nothing, where the object itself is meant; what the name begins with, if that is a value, is given by this act
+  module _ (start : Start) (given : List ℕ → Act (List ℕ)) (steps : List Step) (t position : ℕ) (agree : Agree k code steps) (last : Last code t position) (followed : are_followed start steps ≡ true) where
     abbrev offset : ℕ
-    offset = offset_in position (placed k t)
-
-    -- the code names the component's place
-    there : offset_of code t position ≡ offset_in position (placed k t)
-    there = (agree_run k code placed_so start steps t runs).1 position
+    offset = last.offset
 
     -- Reading ---------------------------------------------------------------------------------------
 
@@ -70,16 +66,17 @@ module _ (ask : Ask) (k : Tables) (code : Code) (placed_so : ArePlaced k code) (
 
       -- the value of the component, behind what finds the part
       abbrev fetching : Result Found → Act (List ℕ)
-      fetching r c l w = bind (on_goes (stepping k t position) r c l w) (on_goes (read_found 1))
+      fetching r c l w = bind (on_goes last.step r c l w) (on_goes (read_found 1))
 
       -- one step, to the value where it is wanted, or to a stop
       fetches : (p : Spot) (to : Named) (d : List ℕ) (place : ℕ) (ks : List Frame) (ops : List Word) (c : ℕ) (l : Log) (w : World) (s0 : State) → Fits w → step ask code s0 ≡ moved l (fetch_from offset p to ops (here d place ks w)) → Gets 8 8 s0 c (landed to d (place + 1) ks ops) (fetching (Goes (found_at p)) c l w)
-      unfolding found_behind read_found read_part existing gone cells_at opened_outcome
-      fetches p to d place ks ops c l w s0 fits first = by (object_at p.object w) first
+      unfolding read_found read_part existing gone cells_at opened_outcome
+      fetches p to d place ks ops c l w s0 fits first =
+          subst (λ o. Gets 8 8 s0 c (landed to d (place + 1) ks ops) (bind o (on_goes (read_found 1)))) (sym (last.is p c l w)) (by (object_at p.object w) first)
         where
-          by : (x : Option Object) → step ask code s0 ≡ moved l (fetched (p.offset + offset) x to ops (here d place ks w)) → Gets 8 8 s0 c (landed to d (place + 1) ks ops) (add 1 (on_some x gone (λ y. done (cells_at (p.offset + offset) 1 y)) c l w))
-          by None go = stop_step_to ask code (OneCell Fits Any) 8 8 s0 _ c 1 (landed to d (place + 1) ks ops) UseAfterFree l (omega arith) go refl refl
-          by (Some y) go = last_step_to ask code (OneCell Fits Any) 8 8 s0 c 1 (landed to d (place + 1) ks ops) (Goes (cells_at (p.offset + offset) 1 y)) l w (omega arith) (fits, (scalar_of (cells_at (p.offset + offset) 1 y), one_cell (drop (p.offset + offset) y.cells), tt)) (go ∙ put_there to (cells_at (p.offset + offset) 1 y) d place ks ops l w)
+          by : (x : Option Object) → step ask code s0 ≡ moved l (fetched (p.offset + offset) x to ops (here d place ks w)) → Gets 8 8 s0 c (landed to d (place + 1) ks ops) (add last.ticks (on_some x gone (λ y. done (cells_at (p.offset + offset) 1 y)) c l w))
+          by None go = stop_step_to ask code (OneCell Fits Any) 8 8 s0 _ c (last.ticks + 0) (landed to d (place + 1) ks ops) UseAfterFree l (omega arith) go refl refl
+          by (Some y) go = last_step_to ask code (OneCell Fits Any) 8 8 s0 c (last.ticks + 0) (landed to d (place + 1) ks ops) (Goes (cells_at (p.offset + offset) 1 y)) l w (omega arith) (fits, (scalar_of (cells_at (p.offset + offset) 1 y), one_cell (drop (p.offset + offset) y.cells), tt)) (go ∙ put_there to (cells_at (p.offset + offset) 1 y) d place ks ops l w)
 
       -- a component of the object in a variable itself
       fetches_it : (v : Var) (to : Cell) (ty : Ty) (s : List Kind) (d : List ℕ) (place : ℕ) (ks : List Frame) (ops : List Word) (c : ℕ) (l : Log) (w : World) → Fits w → length d ≡ depth s → slice_get code.instructions.items place ≡ Some (InstrOf.FetchPart (out_to s v) v.slot t position ty to) → Gets 8 8 (at d place ks ops l w) c (landed to.named d (place + 1) ks ops) (bind (object_found (spot_of (content_of d v w)) c l w) fetching)
@@ -87,7 +84,7 @@ module _ (ask : Ask) (k : Tables) (code : Code) (placed_so : ArePlaced k code) (
       fetches_it v to ty s d place ks ops c l w fits long has =
           by (spot_of (content_of d v w))
           (by_code ask code d place ks ops l w (InstrOf.FetchPart (out_to s v) v.slot t position ty to) has
-          ∙ ap (λ j. moved l (by_fetch_part j (holder_at d (out_to s v) v.slot w) to.named ops (here d place ks w))) there
+          ∙ ap (λ j. moved l (by_fetch_part j (holder_at d (out_to s v) v.slot w) to.named ops (here d place ks w))) last.there
           ∙ ap (λ m. moved l (by_fetch_part offset (spot_of (slot_at m v.slot w).content) to.named ops (here d place ks w))) (out_is d s v long))
         where
           by : (o : Option Spot) → step ask code (at d place ks ops l w) ≡ moved l (by_fetch_part offset o to.named ops (here d place ks w)) → Gets 8 8 (at d place ks ops l w) c (landed to.named d (place + 1) ks ops) (bind (object_found o c l w) fetching)
@@ -99,7 +96,7 @@ module _ (ask : Ask) (k : Tables) (code : Code) (placed_so : ArePlaced k code) (
       takes_it p to ty d place ks ops c l w fits has =
           fetches p to.named d place ks ops c l w _ fits
           (by_code ask code d place ks (Located p ∷ ops) l w (InstrOf.TakePart t position ty to) has
-          ∙ ap (λ j. moved l (fetch_from j p to.named ops (here d place ks w))) there)
+          ∙ ap (λ j. moved l (fetch_from j p to.named ops (here d place ks w))) last.there)
 
       -- an exception is under way to the innermost master
       leaves_it : (to : Named) (d : List ℕ) (place : ℕ) (ks : List Frame) (ops : List Word) (y c : ℕ) (l : Log) (w : World) → Fits w → Gets 8 8 (transferred (ByRaise y) ks l w) c (landed to d place ks ops) (fetching (Leaves (ByRaise y)) c l w)
@@ -115,7 +112,7 @@ module _ (ask : Ask) (k : Tables) (code : Code) (placed_so : ArePlaced k code) (
           let next = landed to.named d (place + length front + 1) ks ops in
           subst (λ q. Gets 8 8 (at d place ks ops l w) c (landed to.named d q ks ops) (bind (find_by K given ss b d c l w) fetching)) end
           (located_then ask k code bound w0 call default (OneCell Fits Any) next fetching d ks ops 8 8 b given begun ss t s place c l w led
-          (subst (Agree k code) (sym same) (agree_run k code placed_so start steps t runs).0) le fits long (laid_front code place front last has)
+          (subst (Agree k code) (sym same) agree) le fits long (laid_front code place front last has)
           (λ c1 l1 w1 lo fits1 p. takes_it p to ty d (place + length front) ks ops c1 l1 w1 fits1 (laid_back code place front last has).0)
           (λ y c1 l1 w1 lo fits1. leaves_it to.named d (place + length front + 1) ks ops y c1 l1 w1 fits1))
 
@@ -126,43 +123,42 @@ module _ (ask : Ask) (k : Tables) (code : Code) (placed_so : ArePlaced k code) (
       reads (OfVariable v) (x ∷ more) begun led same to ty s d place ks ops c l w le fits long has = takes (OfVariable v) (x ∷ more) begun led same to ty s d place ks ops c l w le fits long has
       reads (OfValue form lines) ss begun led same to ty s d place ks ops c l w le fits long has = takes (OfValue form lines) ss begun led same to ty s d place ks ops c l w le fits long has
 
-      pub component_value : Starts ask k code bound w0 start given → (find : List ℕ → Act Found) → find ≡ find_by K given all start → (ty : Ty) → IsScalar ty → Value ask k code bound w0 (read (Some (Part start steps t position)) ty) (λ d. ticked (find d >>= read_found (cells_of k ty)))
+      pub component_value : Starts ask k code bound w0 start given → (find : List ℕ → Act Found) → Ends K last given steps start find → (ty : Ty) → IsScalar ty → (run : List RecordType → Bool) (reached : Option Reached)
+          → Value ask k code bound w0 (record { runs = run; own = Some ty; right = RightOf.Evaluated; reached = reached; code = λ to u s. component_code start steps t position u to s }) (λ d. ticked (find d >>= read_found (cells_of k ty)))
       unfolding opened_outcome
-      component_value begun find is ty scalar = record {
+      component_value begun find is ty scalar run reached = record {
         begins = λ to u s d place ks ops c l w le fits long has. record {
           out = bind (find_by K given steps start d c l w) fetching;
-          is = reads_it d c l w ∙ ap (add 1) (reads_part d c l w);
+          is = reads_it d c l w;
           runs = reads start steps begun followed refl to u s d place ks ops c l w le fits long has;
         };
         constant = λ n is1 d c l w. absurd (cc);
         variable = λ y is1 d c l w. absurd (cc);
       }
         where
-          reads_it : (d : List ℕ) (c : ℕ) (l : Log) (w : World) → ticked (find d >>= read_found (cells_of k ty)) c l w ≡ add 1 (bind (find_by K given all start d c l w) (on_goes (read_found 1)))
-          reads_it d c l w = ap (λ (f : List ℕ → Act Found). add 1 (bind (f d c l w) (on_goes (read_found (cells_of k ty))))) is ∙ ap (λ n. add 1 (bind (find_by K given all start d c l w) (on_goes (read_found n)))) (scalar_cells k ty scalar)
-
-          reads_part : (d : List ℕ) (c : ℕ) (l : Log) (w : World) → bind (find_by K given all start d c l w) (on_goes (read_found 1)) ≡ bind (find_by K given steps start d c l w) fetching
-          reads_part d c l w =
-              ap (λ o. bind o (on_goes (read_found 1))) (component_found K given start steps t position d c l w)
-              ∙ bind_bind (find_by K given steps start d c l w) (on_goes (stepping k t position)) (on_goes (read_found 1))
+          reads_it : (d : List ℕ) (c : ℕ) (l : Log) (w : World) → ticked (find d >>= read_found (cells_of k ty)) c l w ≡ add 1 (bind (find_by K given steps start d c l w) fetching)
+          reads_it d c l w =
+              ap (λ o. add 1 (bind o (on_goes (read_found (cells_of k ty))))) (is d c l w)
+              ∙ (ap (λ n. add 1 (bind (ends_in K last given steps start d c l w) (on_goes (read_found n)))) (scalar_cells k ty scalar)
+              ∙ ap (add 1) (bind_bind (find_by K given steps start d c l w) (on_goes last.step) (on_goes (read_found 1))))
 
     -- Assigning ---------------------------------------------------------------------------------------
 
     module _ (bound : ℕ) (y : ValueCode) (act : List ℕ → Act (List ℕ)) (value : (w0 : World) → Value ask k code bound w0 y act) where
       -- a value is evaluated behind what finds the part, and goes into its component
       abbrev storing : List ℕ → Result Found → Act Done
-      storing d r c l w = bind (on_goes (stepping k t position) r c l w) (on_goes (λ f. act d >>= write_found f))
+      storing d r c l w = bind (on_goes last.step r c l w) (on_goes (λ f. act d >>= write_found f))
 
       -- the value is there
-      stores : (w0 : World) (cell : Cell) (p : Spot) (m : ℕ) (e : Target) (d : List ℕ) (q : ℕ) (ks : List Frame) (ops : List Word) (c : ℕ) (l : Log) (w : World) → Since k code w0 w → Stays cell.named m d w → slice_get code.instructions.items q ≡ Some (InstrOf.StorePart cell (value_type y) t position) → Runs ask code (Kept k code w0) 8 8 (at d q ks (waiting cell.named m (Located p ∷ ops)) l w) c (arrives e d (q + 1) ks ops) (write_found (found_behind offset position (found_at p)) (m ∷ []) c l w)
-      unfolding found_behind write_found write_part existing gone opened_outcome
+      stores : (w0 : World) (cell : Cell) (p : Spot) (m : ℕ) (e : Target) (d : List ℕ) (q : ℕ) (ks : List Frame) (ops : List Word) (c : ℕ) (l : Log) (w : World) → Since k code w0 w → Stays cell.named m d w → slice_get code.instructions.items q ≡ Some (InstrOf.StorePart cell (value_type y) t position) → Runs ask code (Kept k code w0) 8 8 (at d q ks (waiting cell.named m (Located p ∷ ops)) l w) c (arrives e d (q + 1) ks ops) (write_found (InObject p.object (p.offset + offset) (last.path p)) (m ∷ []) c l w)
+      unfolding write_found write_part existing gone opened_outcome
       stores w0 cell p m e d q ks ops c l w fits stays has = by (object_at p.object w) first
         where
           first : step ask code (at d q ks (waiting cell.named m (Located p ∷ ops)) l w) ≡ moved l (stored p.object (p.offset + offset) m (object_at p.object w) ops (here d q ks w))
           first =
               by_code ask code d q ks (waiting cell.named m (Located p ∷ ops)) l w (InstrOf.StorePart cell (value_type y) t position) has
               ∙ ap (moved l) (taking_is cell.named m (λ x rest. locating (λ s below. store_into (offset_of code t position) x s below (here d q ks w)) rest (here d q ks w)) (Located p ∷ ops) d q ks w stays)
-              ∙ ap (λ j. moved l (stored p.object (p.offset + j) m (object_at p.object w) ops (here d q ks w))) there
+              ∙ ap (λ j. moved l (stored p.object (p.offset + j) m (object_at p.object w) ops (here d q ks w))) last.there
 
           by : (x : Option Object) → step ask code (at d q ks (waiting cell.named m (Located p ∷ ops)) l w) ≡ moved l (stored p.object (p.offset + offset) m x ops (here d q ks w)) → Runs ask code (Kept k code w0) 8 8 (at d q ks (waiting cell.named m (Located p ∷ ops)) l w) c (arrives e d (q + 1) ks ops) (on_some x gone (λ o. change (write_cells p.object (p.offset + offset) (m ∷ []))) c l w)
           by None go = stop_step ask code (Kept k code w0) 8 8 _ _ c 0 (arrives e d (q + 1) ks ops) UseAfterFree l (omega arith) go refl refl
@@ -177,16 +173,17 @@ module _ (ask : Ask) (k : Tables) (code : Code) (placed_so : ArePlaced k code) (
           let h = held y ty over in
           let i = InstrOf.StorePart h.cell ty t position in
           let q = place + length h.code in
-          let f = found_behind offset position (found_at p) in
+          let f = InObject p.object (p.offset + offset) (last.path p) in
           let end : q + 1 ≡ place + length (store_part_code t position y s) = omega (arith, length-append h.code ((i, h.after) ∷ [])) in
-          added ask code (Kept k code w0) 1 0 0 0 0 _ c (arrives e d (place + length (store_part_code t position y s)) ks ops) (bind (act d c l w) (on_goes (write_found f))) (omega arith) (omega arith)
+          subst (λ o. Runs ask code (Kept k code w0) 0 0 (at d place ks (Located p ∷ ops) l w) c (arrives e d (place + length (store_part_code t position y s)) ks ops) (bind o (on_goes (λ g. act d >>= write_found g)))) (sym (last.is p c l w))
+          (added ask code (Kept k code w0) last.ticks 0 0 0 0 _ c (arrives e d (place + length (store_part_code t position y s)) ks ops) (bind (act d c l w) (on_goes (write_found f))) (omega arith) (omega arith)
           (subst (λ z. Runs ask code (Kept k code w0) 0 0 (at d place ks (Located p ∷ ops) l w) c (arrives e d z ks ops) (bind (act d c l w) (on_goes (write_found f)))) end
           (held_then ask k code bound w0 (λ r. Since k code w0) h (λ m w1. Stays h.cell.named m d w1) act d place ks (Located p ∷ ops) c l w (arrives e d (q + 1) ks ops) (on_goes (write_found f))
           (held_holds ask k code bound w0 y.right y act refl (value w0) ty over d place ks (Located p ∷ ops) c l w le fits long (laid_front code place h.code ((i, h.after) ∷ []) has))
           (λ m c1 l1 w1 lo fits1 stays. stores w0 h.cell p m e d q ks ops c1 l1 w1 fits1 stays (laid_back code place h.code ((i, h.after) ∷ []) has).0)
-          (λ z c1 l1 w1 lo fits1. no_step ask code (Kept k code w0) 8 8 _ c1 0 (arrives e d (q + 1) ks ops) (Leaves (ByRaise z)) l1 w1 fits1 refl)))
+          (λ z c1 l1 w1 lo fits1. no_step ask code (Kept k code w0) 8 8 _ c1 0 (arrives e d (q + 1) ks ops) (Leaves (ByRaise z)) l1 w1 fits1 refl))))
 
-      pub part_does : ((w0 : World) → Starts ask k code bound w0 start given) → (find : List ℕ → Act Found) → find ≡ find_by K given all start → Does ask k code bound (λ a. assign_part_code start steps t position y a.stack) (λ d caught. ticked (find d >>= (λ f. act d >>= write_found f)))
+      pub part_does : ((w0 : World) → Starts ask k code bound w0 start given) → (find : List ℕ → Act Found) → Ends K last given steps start find → Does ask k code bound (λ a. assign_part_code start steps t position y a.stack) (λ d caught. ticked (find d >>= (λ f. act d >>= write_found f)))
       unfolding opened_outcome
       part_does begun find is a w0 d place ks ops c l w le fits sees has =
           let s = a.stack in
@@ -196,11 +193,9 @@ module _ (ask : Ask) (k : Tables) (code : Code) (placed_so : ArePlaced k code) (
           let end : place + length front + length back ≡ place + length (assign_part_code start steps t position y s) = omega (arith, length-append front back) in
           let f : Result Found → Act Done = on_goes (λ z. act d >>= write_found z) in
           subst (Runs ask code (Kept k code w0) 0 0 (at d place ks ops l w) c next)
-          (sym (ap (λ (g : List ℕ → Act Found). add 1 (bind (g d c l w) f)) is
-          ∙ ap (λ z. add 1 (bind z f)) (component_found K given start steps t position d c l w)
-          ∙ ap (add 1) (bind_bind (find_by K given steps start d c l w) (on_goes (stepping k t position)) f)))
+          (sym (ap (λ z. add 1 (bind z f)) (is d c l w) ∙ ap (add 1) (bind_bind (find_by K given steps start d c l w) (on_goes last.step) f)))
           (added ask code (Kept k code w0) 1 0 0 0 0 _ c next _ (omega arith) (omega arith)
-          (located_then ask k code bound w0 call default (λ r. Since k code w0) next (storing d) d ks ops 0 0 start given (begun w0) steps t s place c l w followed (agree_run k code placed_so start steps t runs).0 le fits (seen sees) (laid_front code place front back has)
+          (located_then ask k code bound w0 call default (λ r. Since k code w0) next (storing d) d ks ops 0 0 start given (begun w0) steps t s place c l w followed agree le fits (seen sees) (laid_front code place front back has)
           (λ c1 l1 w1 lo fits1 p. subst (λ q. Runs ask code (Kept k code w0) 0 0 (at d (place + length front) ks (Located p ∷ ops) l1 w1) c1 (arrives (lands a place) d q ks ops) (storing d (Goes (found_at p)) c1 l1 w1)) end
           (part_stores p (lands a place) s w0 d (place + length front) ks ops c1 l1 w1 (omega (arith, lo, le)) fits1 (seen sees) (laid_back code place front back has)))
           (λ y1 c1 l1 w1 lo fits1. no_step ask code (Kept k code w0) 0 0 _ c1 0 next (Leaves (ByRaise y1)) l1 w1 fits1 refl)))

@@ -20,12 +20,13 @@ use Rattle.ctl_meaning.specs.Expressions.{Applied, Naming, Supplied, Valued, act
 use Rattle.ctl_meaning.proofs.Trees.{actual_roll as supply_roll, eval_roll, operand_roll}
 use Rattle.ctl_code.specs.declared.code.Code.{Code}
 use Rattle.ctl_program.specs.declared.expression.Step.TheVariants.{Component}
-use Rattle.ctl_layout.specs.Parts.{Start, OfVariable, Reached, Variable, Part, Object, are_followed, behind_steps, is_begun}
-use Rattle.ctl_layout.specs.Values.{ActualCode, ValueCode, OperatorCode, actual_code, actuals_run, copied, discriminant, given, missing_value, new, new_copy, operator_of, operators_run, read, value_code, values_run, reached_by}
+use Rattle.ctl_layout.specs.Parts.{Start, OfVariable, Reached, Variable, Part, Object, any_type, are_followed, behind_steps, first_position, is_begun}
+use Rattle.ctl_layout.specs.Values.{ActualCode, ValueCode, OperatorCode, actual_code, actuals_run, copied, discriminant, given, missing_value, new, new_copy, new_given, operator_of, operators_run, read, value_code, values_run, reached_by}
 use Rattle.ctl_gen.proofs.Known.{IsScalar, both_true, plain_if, scalar_elementary, scalar_if}
 use Rattle.ctl_gen.proofs.Worlds.{Since}
 use Rattle.ctl_gen.proofs.Walked.{behind_is, part_begun, start_of}
-use Rattle.ctl_gen.proofs.Parts.{Leads, find_as, find_by, given_by, given_layer, name_leads, part_leads}
+use Rattle.ctl_gen.proofs.Parts.{Leads, agree_part, agree_run, find_as, find_by, given_by, given_layer, name_leads, object_leads, part_leads}
+use Rattle.ctl_gen.proofs.LastSteps.{itself, itself_ends, selected, selector_ends}
 use Rattle.ctl_gen.proofs.Begun.{Starts, value_starts}
 use Rattle.ctl_gen.proofs.Components.{component_value}
 use Rattle.ctl_layout.proofs.TreeLayers.{value_roll, operator_roll, actual_roll, reached_roll}
@@ -34,7 +35,7 @@ use Rattle.ctl_gen.proofs.Setting.{Setting, Calls, tools_with}
 use Rattle.ctl_gen.proofs.Actuals as A
 use Rattle.ctl_gen.proofs.FunctionCalls.{function_value}
 use Rattle.ctl_gen.proofs.Sources.{Reads, name_reads}
-use Rattle.ctl_gen.proofs.Allocators.{copied_value, new_value}
+use Rattle.ctl_gen.proofs.AllocatedValues.{copied_value, given_value, new_value}
 use Rattle.ctl_gen.proofs.Designated.{designating_value}
 use Rattle.ctl_gen.proofs.Discriminants.{discriminant_value}
 use Rattle.ctl_gen.proofs.Expressions as X
@@ -45,7 +46,7 @@ module _ (K : Tools) where
   -- what a name means that reaches something, and begins with the value of this act, if it begins with one
   abbrev pub Reaches : Reached → (List ℕ → Act (List ℕ)) → (List ℕ → Act Found) → Type 0
   Reaches (Variable v) act find = X.Uses v find
-  Reaches (Object b steps) act find = Unit {0}
+  Reaches (Object b steps) act find = (are_followed b steps ≡ true) × (find ≡ find_by K act steps b)
   Reaches (Part b steps t position) act find = (are_followed b steps ≡ true) × (find ≡ find_by K act (steps ++ Component t position ∷ []) b)
 
   -- in one tick
@@ -56,7 +57,7 @@ module _ (K : Tools) where
   reaches : (x : Reached) (act : List ℕ → Act (List ℕ)) (find : Naming) → Leads K x act find → Reaches x act (find Elementary K)
   unfolding begins_as
   reaches (Variable v) act find h = subst (X.Uses v) (sym (h.finds Elementary)) (uses_it v act)
-  reaches (Object b steps) act find h = tt
+  reaches (Object b steps) act find h = (h.walked, object_leads K b steps act find h)
   reaches (Part b steps t position) act find h = (h.walked, part_leads K b steps t position act find Elementary h)
 
   pub name_finds : (n : Name) (x : Reached) → reached_by n ≡ Some x → Reaches x (given_by n K) (eval_name n Elementary K)
@@ -149,15 +150,15 @@ module _ (ask : Ask) (k : Tables) (code : Code) (setting : Setting k code) (call
   missing_rolled : (y : Expr-F Actual Expr Name Operand) → value_code (roll-Expr y) ≡ missing_value None → IsValue (roll-Expr y)
   missing_rolled y same h = absurd (let e = sym (ap (λ (x : ValueCode). x.runs k.records) same) ∙ h in cc)
 
-  -- an allocator of a record type, without a handle or a value
+  -- an allocator without a handle or a value
   allocates : (access : ℕ) (ty : Ty) → Meets (new access ty None None) (eval_step (Expr-F.New access ty None None))
-  allocates access (Record t) runs = new_value ask k code setting call default bound calls w0 access t (plain_if k t runs)
-  allocates access Integer runs = absurd (cc)
-  allocates access Boolean runs = absurd (cc)
-  allocates access Count runs = absurd (cc)
-  allocates access Address runs = absurd (cc)
-  allocates access Handle runs = absurd (cc)
-  allocates access (Access a) runs = absurd (cc)
+  allocates access (Record t) runs = new_value ask k code setting call default bound calls w0 access (Record t) (plain_if k t runs)
+  allocates access Integer runs = new_value ask k code setting call default bound calls w0 access Integer tt
+  allocates access Boolean runs = new_value ask k code setting call default bound calls w0 access Boolean tt
+  allocates access Count runs = new_value ask k code setting call default bound calls w0 access Count tt
+  allocates access Address runs = new_value ask k code setting call default bound calls w0 access Address tt
+  allocates access Handle runs = absurd (cc runs)
+  allocates access (Access a) runs = new_value ask k code setting call default bound calls w0 access (Access a) tt
 
   -- with the value of a part
   copies : (access t : ℕ) (v : ExprToo) (o : Option Reached) → copied t (value_code v.0) ≡ o → Meets (new_copy access t o) (eval_step (Expr-F.New access (Record t) None (Some (eval v.0))))
@@ -166,14 +167,20 @@ module _ (ask : Ask) (k : Tables) (code : Code) (setting : Setting k code) (call
       let e = both_true _ _ runs in
       copied_value ask k code setting call default bound calls w0 access t (plain_if k t e.0) (eval v.0) x (v.1.1 t x is (part_begun k.records x e.1)) e.1
 
+  -- with the value of an elementary type
+  gives : (access : ℕ) (of : Ty) (v : ExprToo) → Meets (new_given access of (value_code v.0)) (eval_step (Expr-F.New access of None (Some (eval v.0))))
+  gives access of v runs =
+      let e = both_true _ _ runs in
+      given_value ask k code setting call default bound calls w0 access of (scalar_if of e.0) (eval v.0) (value_code v.0) (v.1.0 e.1)
+
   allocates_with : (access : ℕ) (ty : Ty) (v : ExprToo) → Meets (new access ty None (Some (value_code v.0))) (eval_step (Expr-F.New access ty None (Some (eval v.0))))
   allocates_with access (Record t) v runs = copies access t v (copied t (value_code v.0)) refl runs
-  allocates_with access Integer v runs = absurd (cc)
-  allocates_with access Boolean v runs = absurd (cc)
-  allocates_with access Count v runs = absurd (cc)
-  allocates_with access Address v runs = absurd (cc)
-  allocates_with access Handle v runs = absurd (cc)
-  allocates_with access (Access a) v runs = absurd (cc)
+  allocates_with access Integer v runs = gives access Integer v runs
+  allocates_with access Boolean v runs = gives access Boolean v runs
+  allocates_with access Count v runs = gives access Count v runs
+  allocates_with access Address v runs = gives access Address v runs
+  allocates_with access Handle v runs = gives access Handle v runs
+  allocates_with access (Access a) v runs = gives access (Access a) v runs
 
   -- with a handle it is not run
   not_new : (access : ℕ) (ty : Ty) (handle : ValueCode) (value : Option ValueCode) → (new access ty (Some handle) value).runs k.records ≡ true → ⊥
@@ -196,12 +203,22 @@ module _ (ask : Ask) (k : Tables) (code : Code) (setting : Setting k code) (call
   reads : (o : Option Reached) (ty : Ty) (act : List ℕ → Act (List ℕ)) (find : Naming) → ((x : Reached) → o ≡ Some x → Reaches K x act (find Elementary K)) → ((x : Reached) → o ≡ Some x → is_begun (start_of x) k.records ≡ true → Starts ask k code bound w0 (start_of x) act) → Meets (read o ty) (eval_step (Expr-F.Read find ty))
   reads None ty act find h begun runs = absurd (cc)
   reads (Some (Variable v)) ty act find h begun runs = elementary (Some (Variable v)) ty find (scalar_if ty runs) (X.read_value ask k code bound w0 v (find Elementary K) (h (Variable v) refl) ty (scalar_if ty runs))
-  reads (Some (Object b steps)) ty act find h begun runs = absurd (cc)
+  reads (Some (Object b steps)) ty act find h begun runs =
+      let e = both_true _ _ runs in
+      let f = both_true _ _ e.1 in
+      let x = Object b steps in
+      let g = h x refl in
+      let lies = setting.places.first any_type in
+      elementary (Some x) ty find (scalar_if ty e.0)
+      (component_value ask k code call default b act steps any_type first_position (agree_part k code setting.places x e.1) (itself code lies) g.0 bound w0 (begun x refl f.0) (find Elementary K) (itself_ends K code lies act steps b (find Elementary K) g.1) ty (scalar_if ty e.0) (read (Some x) ty).runs (Some x))
   reads (Some (Part b steps t position)) ty act find h begun runs =
       let e = both_true _ _ runs in
       let x = Part b steps t position in
       let g = h x refl in
-      elementary (Some x) ty find (scalar_if ty e.0) (component_value ask k code setting.places call default b act steps t position e.1 g.0 bound w0 (begun x refl (both_true _ _ e.1).0) (find Elementary K) g.1 ty (scalar_if ty e.0))
+      let agree = agree_run k code setting.places b steps t e.1 in
+      let last = selected k code t position (agree.1 position) in
+      elementary (Some x) ty find (scalar_if ty e.0)
+      (component_value ask k code call default b act steps t position agree.0 last g.0 bound w0 (begun x refl (both_true _ _ e.1).0) (find Elementary K) (selector_ends K code t position (agree.1 position) act steps b (find Elementary K) g.1) ty (scalar_if ty e.0) (read (Some x) ty).runs (Some x))
 
   -- a discriminant of a block pool
   discriminates : (o : Option Reached) (position : ℕ) (act : List ℕ → Act (List ℕ)) (find : Naming) → ((x : Reached) → o ≡ Some x → Leads K x act find) → ((x : Reached) → o ≡ Some x → is_begun (start_of x) k.records ≡ true → Starts ask k code bound w0 (start_of x) act) → Meets (discriminant o position) (eval_step (Expr-F.Discriminant find position))

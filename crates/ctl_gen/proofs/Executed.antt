@@ -22,7 +22,7 @@ use Rattle.ctl_code.specs.declared.code.Code.{Code}
 use Rattle.ctl_code.specs.declared.code.Instr.TheVariants as InstrOf
 use Rattle.ctl_code.specs.declared.code.Way.TheVariants as WayOf
 use Rattle.ctl_code.specs.Table.{caught_in}
-use Rattle.ctl_layout.specs.Parts.{Reached, Variable, Part, Object, is_begun}
+use Rattle.ctl_layout.specs.Parts.{Reached, Variable, Part, Object, any_type, first_position, is_begun}
 use Rattle.ctl_layout.specs.Values.{value_code, value_type, reached_by, sourced}
 use Rattle.ctl_layout.specs.Layout.{StatementCode, all, all_items, arm_code, assign, assign_record, call as call_code, record_code, exit, free as free_code, handled, handler_code, return, inside, item_code, library_allocate, library_deallocate, master_code, missing_statement, statement_code, leaves_code}
 use Rattle.ctl_layout.specs.Values.{actual_code}
@@ -35,7 +35,8 @@ use Rattle.ctl_gen.proofs.Cells.{by_code}
 use Rattle.ctl_gen.proofs.Expressions.{Value}
 use Rattle.ctl_gen.proofs.Evaluated.{Reaches, actuals_mean, name_finds, name_starts, value_means}
 use Rattle.ctl_gen.proofs.Components.{part_does}
-use Rattle.ctl_gen.proofs.Parts.{Leads, composite_leads, find_by, given_by, name_leads}
+use Rattle.ctl_gen.proofs.Parts.{Leads, agree_part, agree_run, composite_leads, find_by, given_by, name_leads}
+use Rattle.ctl_gen.proofs.LastSteps.{itself, itself_ends, selected, selector_ends}
 use Rattle.ctl_gen.proofs.Begun.{Starts}
 use Rattle.ctl_gen.proofs.Walked.{part_begun, start_of, steps_of}
 use Rattle.ctl_gen.proofs.Sources.{IsSource, source_means}
@@ -135,12 +136,18 @@ module _ (ask : Ask) (k : Tables) (code : Code) (setting : Setting k code) (call
   unfolding assign_doing
   assign_does None act find e reaches begun runs n texts = absurd (cc)
   assign_does (Some (Variable v)) act find e reaches begun runs n texts = assign_runs ask k code setting.valid bound v (find Elementary K) (reaches (Variable v) refl) (value_code e) (eval e K) (means e runs.1)
-  assign_does (Some (Object b steps)) act find e reaches begun runs n texts = absurd (cc)
+  assign_does (Some (Object b steps)) act find e reaches begun runs n texts =
+      let h = both_true _ _ runs.1 in
+      let x = Object b steps in
+      let g = reaches x refl in
+      let lies = setting.places.first any_type in
+      part_does ask k code call default b act steps any_type first_position (agree_part k code setting.places x h.0) (itself code lies) g.0 bound (value_code e) (eval e K) (means e h.1) (begun x refl (both_true _ _ h.0).0) (find Elementary K) (itself_ends K code lies act steps b (find Elementary K) g.1)
   assign_does (Some (Part b steps t position)) act find e reaches begun runs n texts =
       let h = both_true _ _ runs.1 in
       let x = Part b steps t position in
       let g = reaches x refl in
-      part_does ask k code setting.places call default b act steps t position h.0 g.0 bound (value_code e) (eval e K) (means e h.1) (begun x refl (both_true _ _ h.0).0) (find Elementary K) g.1
+      let agree = agree_run k code setting.places b steps t h.0 in
+      part_does ask k code call default b act steps t position agree.0 (selected k code t position (agree.1 position)) g.0 bound (value_code e) (eval e K) (means e h.1) (begun x refl (both_true _ _ h.0).0) (find Elementary K) (selector_ends K code t position (agree.1 position) act steps b (find Elementary K) g.1)
 
   record_assign_does : (o : Option Reached) (t : ℕ) (q : Option Reached) (act : List ℕ → Act (List ℕ)) (find : Naming) (m : Supplied) → ((x : Reached) → o ≡ Some x → Leads K x act find) → Begins o act → ((y : Reached) → q ≡ Some y → IsSource K y m) → Performs (assign_record o t q) (assign_part find t m)
   unfolding assign_part
@@ -162,13 +169,18 @@ module _ (ask : Ask) (k : Tables) (code : Code) (setting : Setting k code) (call
   unfolding free_object_of
   free_does access None act find reaches begun runs n texts = absurd (cc)
   free_does access (Some (Variable v)) act find reaches begun runs n texts = variable_freed_does ask k code setting call default constants bound calls access v (find Elementary K) (reaches (Variable v) refl)
-  free_does access (Some (Object b steps)) act find reaches begun runs n texts = absurd (cc)
+  free_does access (Some (Object b steps)) act find reaches begun runs n texts =
+      let x = Object b steps in
+      let g = reaches x refl in
+      let lies = setting.places.first any_type in
+      part_freed_does ask k code setting call default constants bound calls access b act (begun x refl (both_true _ _ runs.1).0) steps any_type first_position (agree_part k code setting.places x runs.1) (itself code lies) g.0 (find Elementary K) (itself_ends K code lies act steps b (find Elementary K) g.1)
   free_does access (Some (Part b steps t position)) act find reaches begun runs n texts =
       let x = Part b steps t position in
       let g = reaches x refl in
-      part_freed_does ask k code setting call default constants bound calls access b act (begun x refl (both_true _ _ runs.1).0) steps t position runs.1 g.0 (find Elementary K) g.1
+      let agree = agree_run k code setting.places b steps t runs.1 in
+      part_freed_does ask k code setting call default constants bound calls access b act (begun x refl (both_true _ _ runs.1).0) steps t position agree.0 (selected k code t position (agree.1 position)) g.0 (find Elementary K) (selector_ends K code t position (agree.1 position) act steps b (find Elementary K) g.1)
 
-  -- the library's Allocate of a pool that a variable is, whose address a variable takes, or a component (13.11)
+  -- the library's Allocate of a pool that a variable is, whose address a variable takes, or a component or a whole object (13.11)
   block_taken : (o q : Option Reached) (act held : List ℕ → Act (List ℕ)) (pool address : Naming) (size alignment : Expr) → ((x : Reached) → o ≡ Some x → Leads K x act pool) → ((x : Reached) → q ≡ Some x → Reaches K x held (address Elementary K)) → Begins q held → Performs (library_allocate o q (value_code size) (value_code alignment)) (call_allocate pool address (eval size) (eval alignment))
   block_taken None q act held pool address size alignment leads reaches begun runs n texts = absurd (cc)
   block_taken (Some (Part b steps t position)) q act held pool address size alignment leads reaches begun runs n texts = absurd (cc)
@@ -179,8 +191,15 @@ module _ (ask : Ask) (k : Tables) (code : Code) (setting : Setting k code) (call
       let g = reaches x refl in
       let h = both_true _ _ runs.1 in
       let f = both_true _ _ h.1 in
-      part_allocated_does ask k code call default bound p act pool (leads (Variable p) refl) setting.places b held (begun x refl (both_true _ _ h.0).0) steps t position h.0 g.0 address g.1 (value_code size) (value_code alignment) (eval size) (eval alignment) (means size f.0) (means alignment (both_true _ _ f.1).0)
-  block_taken (Some (Variable p)) (Some (Object b steps)) act held pool address size alignment leads reaches begun runs n texts = absurd (cc)
+      let agree = agree_run k code setting.places b steps t h.0 in
+      part_allocated_does ask k code call default bound p act pool (leads (Variable p) refl) b held (begun x refl (both_true _ _ h.0).0) steps t position agree.0 (selected k code t position (agree.1 position)) g.0 address (selector_ends K code t position (agree.1 position) held steps b (address Elementary K) g.1) (value_code size) (value_code alignment) (eval size) (eval alignment) (means size f.0) (means alignment (both_true _ _ f.1).0)
+  block_taken (Some (Variable p)) (Some (Object b steps)) act held pool address size alignment leads reaches begun runs n texts =
+      let x = Object b steps in
+      let g = reaches x refl in
+      let h = both_true _ _ runs.1 in
+      let f = both_true _ _ h.1 in
+      let lies = setting.places.first any_type in
+      part_allocated_does ask k code call default bound p act pool (leads (Variable p) refl) b held (begun x refl (both_true _ _ h.0).0) steps any_type first_position (agree_part k code setting.places x h.0) (itself code lies) g.0 address (itself_ends K code lies held steps b (address Elementary K) g.1) (value_code size) (value_code alignment) (eval size) (eval alignment) (means size f.0) (means alignment (both_true _ _ f.1).0)
   block_taken (Some (Variable p)) (Some (Variable v)) act held pool address size alignment leads reaches begun runs n texts =
       let h = both_true _ _ runs.1 in
       library_allocate_does ask k code call default bound p act pool (leads (Variable p) refl) v address (reaches (Variable v) refl) (value_code size) (value_code alignment) (eval size) (eval alignment) (means size h.0) (means alignment (both_true _ _ h.1).0)

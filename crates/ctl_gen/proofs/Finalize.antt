@@ -84,14 +84,20 @@ module _ (ask : Ask) (k : Tables) (code : Code) (setting : Setting k code) (call
   K = tools_with ask k call default
 
   -- an object without a controlled part stays as it is, and closes if it is a pool
-  untouched_is : (t n c : ℕ) (l : Log) (w : World) → has_controlled k (Record t) ≡ false → Fits k code w → (u : ℕ) × (finalize_as K n (Record t) c l w ≡ Gives (Goes false) u c l (with_end Scope n w))
+  untouched_is : (ty : Ty) (n c : ℕ) (l : Log) (w : World) → has_controlled k ty ≡ false → Fits k code w → (u : ℕ) × (finalize_as K n ty c l w ≡ Gives (Goes false) u c l (with_end Scope n w))
   unfolding opened_finalization opened_outcome
-  untouched_is t n c l w none fits =
+  untouched_is ty n c l w none fits =
       let x = closing_is k code K n false c l w fits in (
         0 + x.0,
-        ap (λ b. bind (either b (finalize_object K Scope (record { number = n; ty = Record t })) (done false) c l w) (on_goes (closing K n))) none
+        ap (λ b. bind (either b (finalize_object K Scope (record { number = n; ty = ty })) (done false) c l w) (on_goes (closing K n))) none
             ∙ ap (add 0) x.1,
       )
+
+  -- in one step
+  pub untouched_runs : (ty : Ty) (n : ℕ) (w0 : World) (ks : List Frame) (c : ℕ) (l : Log) (w : World) (s0 : State) → has_controlled k ty ≡ false → Since k code w0 w → step ask code s0 ≡ tells ks (Goes false) l (with_end Scope n w) → Runs ask code (Sure k code w0) 3 3 s0 c (tells ks) (finalize_as K n ty c l w)
+  untouched_runs ty n w0 ks c l w s0 none fits first =
+      let x = untouched_is ty n c l w none fits.0 in
+      subst (Runs ask code (Sure k code w0) 3 3 s0 c (tells ks)) (sym x.1) (last_step ask code (Sure k code w0) 3 3 s0 c x.0 (tells ks) (Goes false) l (with_end Scope n w) (omega arith) (tt, since_ended k code Scope n w0 w fits) first)
 
   -- what becomes of an object whose parts are finalized
   abbrev ended : ℕ → Result Bool → Act Bool
@@ -152,13 +158,14 @@ module _ (ask : Ask) (k : Tables) (code : Code) (setting : Setting k code) (call
 
   -- both tables speak alike of controlled parts
   pub part_alike : (ty : Ty) → IsPlainType k ty → has_controlled k ty ≡ has_part_in code ty
+  unfolding has_controlled of_record
   part_alike (Record t) plain = (setting.agrees default constants t plain).has
-  part_alike Integer plain = absurd plain
-  part_alike Boolean plain = absurd plain
-  part_alike Count plain = absurd plain
-  part_alike Address plain = absurd plain
-  part_alike Handle plain = absurd plain
-  part_alike (Access a) plain = absurd plain
+  part_alike Integer plain = refl
+  part_alike Boolean plain = refl
+  part_alike Count plain = refl
+  part_alike Address plain = refl
+  part_alike Handle plain = refl
+  part_alike (Access a) plain = refl
 
   -- an object with a controlled part is finalized by its own type, where no pool closes then
   pub typed_runs : (cause : Cause) → ClosesNone cause → ((y : Option Way) → IsPassed cause y → IsSure y) → (o : Object) (w0 : World) (ks : List Frame) (c : ℕ) (l : Log) (w : World) (s0 : State) → c ≤ bound → Since k code w0 w → object_at o.number w ≡ Some o → IsPlainType k o.ty → has_part_in code o.ty ≡ true → step ask code s0 ≡ moved l (Table.finalize_typed code cause o.number o.ty ks w) → Runs ask code (Sure k code w0) 1 1 s0 c (tells ks) (finalize_object K cause (member_of o) c l w)
@@ -172,12 +179,12 @@ module _ (ask : Ask) (k : Tables) (code : Code) (setting : Setting k code) (call
           parted PartsOf.Plain named has go1 = absurd (cc has)
           parted PartsOf.Within named has go1 = object_runs cause closes_none sure t o.number w0 ks c l w s0 o le fits at is plain1 (part_alike (Record t) plain1 ∙ part1) (go1 ∙ ap (λ p. moved l (Table.finalize_part code p cause (whole_spot o.number) t (Finalizing cause o.number ∷ ks) (begin_finalization o.number w))) (sym named))
           parted PartsOf.Controlled named has go1 = object_runs cause closes_none sure t o.number w0 ks c l w s0 o le fits at is plain1 (part_alike (Record t) plain1 ∙ part1) (go1 ∙ ap (λ p. moved l (Table.finalize_part code p cause (whole_spot o.number) t (Finalizing cause o.number ∷ ks) (begin_finalization o.number w))) (sym named))
-      by Integer is plain1 part1 go = absurd plain1
-      by Boolean is plain1 part1 go = absurd plain1
-      by Count is plain1 part1 go = absurd plain1
-      by Address is plain1 part1 go = absurd plain1
-      by Handle is plain1 part1 go = absurd plain1
-      by (Access a) is plain1 part1 go = absurd plain1
+      by Integer is plain1 part1 go = absurd (cc part1)
+      by Boolean is plain1 part1 go = absurd (cc part1)
+      by Count is plain1 part1 go = absurd (cc part1)
+      by Address is plain1 part1 go = absurd (cc part1)
+      by Handle is plain1 part1 go = absurd (cc part1)
+      by (Access a) is plain1 part1 go = absurd (cc part1)
 
   -- a declared object
   pub declared_runs : (t n : ℕ) (w0 : World) (ks : List Frame) (c : ℕ) (l : Log) (w : World) (s0 : State) (o : Object) → c ≤ bound → Since k code w0 w → object_at n w ≡ Some o → o.ty ≡ Record t → IsPlainType k (Record t) → step ask code s0 ≡ moved l (Table.finalize_object code (parts_of code t) Scope n t ks w) → Runs ask code (Sure k code w0) 3 3 s0 c (tells ks) (finalize_as K n (Record t) c l w)
@@ -193,8 +200,6 @@ module _ (ask : Ask) (k : Tables) (code : Code) (setting : Setting k code) (call
           (within ask code (Sure k code w0) 1 1 3 3 s0 c (tells ks) _ (omega arith) (omega arith) (scope_runs t n w0 ks c l w s0 o le fits at ty plain held go))
 
       by : (p : Parts) → parts_of code t ≡ p → step ask code s0 ≡ moved l (Table.finalize_object code p Scope n t ks w) → Runs ask code (Sure k code w0) 3 3 s0 c (tells ks) (finalize_as K n (Record t) c l w)
-      by PartsOf.Plain is go =
-          let x = untouched_is t n c l w (has ∙ ap has_part is) fits.0 in
-          subst (Runs ask code (Sure k code w0) 3 3 s0 c (tells ks)) (sym x.1) (last_step ask code (Sure k code w0) 3 3 s0 c x.0 (tells ks) (Goes false) l (with_end Scope n w) (omega arith) (tt, since_ended k code Scope n w0 w fits) go)
+      by PartsOf.Plain is go = untouched_runs (Record t) n w0 ks c l w s0 (has ∙ ap has_part is) fits go
       by PartsOf.Within is go = touched (has ∙ ap has_part is) (go ∙ ap (λ p. moved l (Table.finalize_part code p Scope (whole_spot n) t (Finalizing Scope n ∷ ks) (begin_finalization n w))) (sym is))
       by PartsOf.Controlled is go = touched (has ∙ ap has_part is) (go ∙ ap (λ p. moved l (Table.finalize_part code p Scope (whole_spot n) t (Finalizing Scope n ∷ ks) (begin_finalization n w))) (sym is))

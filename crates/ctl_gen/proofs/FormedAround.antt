@@ -4,7 +4,9 @@ use Rattle.std.specs.Prelude.{nat_eq, nat_lt, if◌then◌else◌, slice_get}
 use Rattle.std.proofs.lemmas.Bool.{eq-eqb, eqb-true, ltb-false, ltb-true}
 use Rattle.std.proofs.lemmas.Bool.Decides.{nat_tests}
 use Rattle.std.proofs.lemmas.Option.{slice_get_within}
+use Rattle.ctl_program.specs.declared.types.Ty.{Ty}
 use Rattle.ctl_program.specs.declared.types.Ty.TheVariants.{Integer}
+use Rattle.ctl_program.specs.declared.types.Ty.TheVariants as TyOf
 use Rattle.ctl_program.specs.declared.types.Var.{Var}
 use Rattle.ctl_well_typed.specs.Setting as W
 use Rattle.ctl_code.specs.declared.kinds.Kind.{Kind}
@@ -14,9 +16,9 @@ use Rattle.ctl_code.specs.declared.homes.Declaration.{Declaration}
 use Rattle.ctl_code.specs.declared.homes.Declaration.TheVariants.{Subprogram, Record}
 use Rattle.ctl_code.specs.declared.kinds.MasterAt.{MasterAt}
 use Rattle.ctl_code.specs.declared.kinds.MasterAt.TheVariants.{Entered, Around as AroundOf}
-use Rattle.ctl_code.specs.Windows.{Counts, HasHome, HasSlot, depth, height, master_at, said, slot_over, slots_at, slots_of, variable_at}
+use Rattle.ctl_code.specs.Windows.{Counts, HasHome, HasHomeOf, HasSlot, depth, height, master_at, said, slot_over, slots_at, slots_of, variable_at}
 use Rattle.ctl_code.proofs.Raising.{newest_entered, newest_slots}
-use Rattle.ctl_code.specs.Valid.{HasCollection, HasVariable, IsAtEnd, IsDeclarable, IsFine, IsRecord, Leads, over_numbers}
+use Rattle.ctl_code.specs.Valid.{HasCollection, HasVariable, IsAtEnd, IsDeclarable, IsFine, IsKnown, Leads, over_numbers}
 use Rattle.ctl_layout.specs.Around.{Landing, OutOfMaster, BeforeLoop, Around, behind, land, further, newest_at, out_to}
 use Rattle.ctl_layout.specs.Layout.{leaves_code}
 use Rattle.ctl_gen.proofs.Formed.{FormedAt, leads_at}
@@ -111,13 +113,22 @@ IsNamed env v = (h : W.Holding) × W.Names env v h
 abbrev pub Granted : Code → W.Frames → Declaration → Type 0
 Granted code env of = (level : ℕ) → said code.homes of level ≤ size_at env level
 
--- objects of the record type of a number can be made there
-abbrev pub IsCreatable : Code → W.Frames → ℕ → Type 0
-IsCreatable code env t = IsRecord code t × Granted code env (Record t)
+-- nor of those around the declaration of a type, if that is a record type
+abbrev pub GrantedOf : Code → W.Frames → Ty → Type 0
+GrantedOf code env (TyOf.Record t) = Granted code env (Record t)
+GrantedOf code env ty = Unit {0}
+
+-- objects of a type can be made there
+abbrev pub IsCreatable : Code → W.Frames → Ty → Type 0
+IsCreatable code env of = IsKnown code of × GrantedOf code env of
 
 -- so they stand there
 pub granted_home : (code : Code) (env : W.Frames) (s : List Kind) (of : Declaration) → Agrees code env s → Granted code env of → HasHome code.homes s of
 granted_home code env s of a granted level = let there = a.2 level in let least = granted level in omega (arith, there, least)
+
+pub granted_home_of : (code : Code) (env : W.Frames) (s : List Kind) (of : Ty) → Agrees code env s → GrantedOf code env of → HasHomeOf code.homes s of
+granted_home_of code env s (TyOf.Record t) a granted = granted_home code env s (Record t) a granted
+granted_home_of code env s ty a granted = tt
 
 -- an object of the record type of a number can be declared or assigned to there
 abbrev pub MayHold : Code → List Kind → ℕ → Type 0

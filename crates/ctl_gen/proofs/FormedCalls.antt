@@ -22,7 +22,7 @@ use Rattle.ctl_code.specs.declared.homes.Declaration.{Declaration}
 use Rattle.ctl_code.specs.declared.homes.Declaration.TheVariants as DeclarationOf
 use Rattle.ctl_code.specs.Windows.{Counts, HasHome, depth, height}
 use Rattle.ctl_code.specs.Valid as Valid
-use Rattle.ctl_code.specs.Valid.{IsAllocable, HasFormals, HaveNumbers, HaveOperands, IsCalled, IsCellOf, IsFine, IsInScope, Leads, over_numbers}
+use Rattle.ctl_code.specs.Valid.{HasFormals, HaveNumbers, HaveOperands, IsCalled, IsCellOf, IsFine, IsInScope, Leads, over_numbers}
 use Rattle.ctl_code.proofs.Numbered.{below_over, have_over}
 use Rattle.ctl_layout.specs.Around.{new_operand, out_to}
 use Rattle.ctl_layout.specs.Parts.{Reached, Object, Part, Variable}
@@ -33,11 +33,11 @@ use Rattle.ctl_layout.proofs.Extensions.{both_true}
 use Rattle.ctl_gen.specs.Emitted.{taking_actuals}
 use Rattle.ctl_gen.proofs.EmittedCalls.{actuals_left, height_over}
 use Rattle.ctl_gen.proofs.Formed.{Behind, Formed, both, none, one}
-use Rattle.ctl_gen.proofs.FormedAround.{Agrees, Granted, IsCreatable, IsHoused, IsNamed, agrees_over, granted_home}
+use Rattle.ctl_gen.proofs.FormedAround.{Agrees, Granted, IsNamed, agrees_over, granted_home}
 use Rattle.ctl_gen.proofs.FormedParts.{IsFound, part_formed}
 use Rattle.ctl_gen.proofs.Walked.{part_begun}
 use Rattle.ctl_gen.proofs.FormedTypes.{run_scalar}
-use Rattle.ctl_gen.proofs.FormedValues.{Fine, Own, Usable, moved_formed, own_as, puts, read_own, usable_as, with_put}
+use Rattle.ctl_gen.proofs.FormedValues.{Fine, IsMade, Own, Usable, moved_formed, own_as, puts, read_own, usable_as, with_put}
 
 -- What stands there with the actuals --------------------------------------------------------------
 
@@ -159,9 +159,9 @@ MayCall code k = (env : W.Frames) (f : ℕ) (is : W.Signature) → W.Callable k 
 pub named_level : {env : W.Frames} {v : Var} {h : W.Holding} → W.Names env v h → 1 ≤ v.level
 named_level (W.slot found there) = omega arith
 
--- the collection of an access type in view stands around in its slot, and its record type, which the table has, is declared around that
+-- objects of the type that an access type in view designates can be made for its collection
 abbrev pub MayNew : Code → W.Setting → Type 0
-MayNew code k = (env : W.Frames) (a t : ℕ) → (to : W.HasAccess k env a) → to.is.designated ≡ Record t → IsAllocable code (length env) a t × IsHoused code env a × IsCreatable code env t
+MayNew code k = (env : W.Frames) (a : ℕ) (t : Ty) → (to : W.HasAccess k env a) → to.is.designated ≡ t → IsMade code env a t
 
 -- inside these masters
 module _ (code : Code) (env : W.Frames) where

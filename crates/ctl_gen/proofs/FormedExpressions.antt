@@ -20,7 +20,7 @@ use Rattle.ctl_well_typed.specs.Expressions as T
 use Rattle.ctl_code.specs.declared.kinds.Kind.TheVariants as KindOf
 use Rattle.ctl_code.specs.declared.code.Code.{Code}
 use Rattle.ctl_code.specs.Valid as Valid
-use Rattle.ctl_code.specs.Valid.{HasFormals, IsAllocable}
+use Rattle.ctl_code.specs.Valid.{HasFormals}
 use Rattle.ctl_layout.specs.Records.{is_number, is_run_type}
 use Rattle.ctl_layout.specs.Around.{new_operand}
 use Rattle.ctl_layout.specs.Parts.{OfVariable, Reached, access_value, behind_steps, is_dereferenced}
@@ -29,12 +29,11 @@ use Rattle.ctl_layout.proofs.Extensions.{both_true}
 use Rattle.ctl_layout.proofs.Layers.{actual_copied, actual_part, actual_value, new_reached, part_source, reached_given, reached_variable, read_reached, value_access, value_call, value_chain, value_constant, value_convert, value_discriminant, value_new, value_read, value_short, value_subpool, value_unary}
 use Rattle.ctl_layout.proofs.TreeLayers.{operator_roll}
 use Rattle.ctl_gen.proofs.Formed.{none}
-use Rattle.ctl_gen.proofs.FormedAround.{IsCreatable, IsHoused}
 use Rattle.ctl_gen.proofs.FormedParts.{IsFound, steps_found}
 use Rattle.ctl_gen.proofs.Walked.{copy_reaches, part_begun, value_dereferenced}
 use Rattle.ctl_gen.proofs.FormedCalls.{GoodActual, GoodActuals, MayCall, MayNew, copy_good, function_own, good_as, kind_by, reference_good, value_good}
 use Rattle.ctl_gen.proofs.FormedTypes.{IsAccessType, joins_plain, joins_scalar, number_of, number_scalar, run_scalar, takes_unary}
-use Rattle.ctl_gen.proofs.FormedValues.{Conditions, Fine, Operating, access_usable, applied_own, chain_own, constant_fine, copied_own, designating_fine, fine_like, first_joins, new_own, next_condition, next_joins, next_operating, none_operating, read_own, short_own, usable_as, value_number, value_usable, discriminant_own}
+use Rattle.ctl_gen.proofs.FormedValues.{Conditions, Fine, IsMade, Operating, Usable, access_usable, applied_own, chain_own, constant_fine, copied_own, designating_fine, fine_like, first_joins, given_own, new_own, next_condition, next_joins, next_operating, none_operating, read_own, short_own, usable_as, value_number, value_usable, discriminant_own}
 
 -- as many actuals as formals
 as_many : {k : W.Setting} {env : W.Frames} {fs : List W.Formal} {actuals : List Actual} → FitEach k env fs actuals → length fs ≡ length (map actual_code actuals)
@@ -60,26 +59,28 @@ module _ (code : Code) (records : List RecordType) where
   not_missing x same h = absurd (let e = sym (ap (λ (z : ValueCode). z.runs records) same) ∙ h in cc)
 
   -- an allocator with the value of a part
-  copied_fine : (env : W.Frames) (a u : ℕ) (o : Option Reached) → IsAllocable code (length env) a u → IsHoused code env a → IsCreatable code env u → IsFound code env records o → (new_copy a u o).runs records ≡ true → Fine code env (new_copy a u o) (TyOf.Access a)
-  copied_fine env a u None allocable housed known found runs = absurd (cc)
-  copied_fine env a u (Some x) allocable housed known found runs = inl (copied_own code env a u x found.0 (found.1 (part_begun records x (both_true _ _ runs).1)) allocable housed known)
+  copied_fine : (env : W.Frames) (a u : ℕ) (o : Option Reached) → IsMade code env a (TyOf.Record u) → IsFound code env records o → (new_copy a u o).runs records ≡ true → Fine code env (new_copy a u o) (TyOf.Access a)
+  copied_fine env a u None made found runs = absurd (cc)
+  copied_fine env a u (Some x) made found runs = inl (copied_own code env a u x found.0 (found.1 (part_begun records x (both_true _ _ runs).1)) made)
 
   -- what is copied of an expression, if there is one, is found
   abbrev IsCopyFound : W.Frames → Option Expr → Type 0
   IsCopyFound env None = Unit {0}
   IsCopyFound env (Some x) = (u : ℕ) → IsFound code env records (copied u (value_code x))
 
-  -- an allocator, which is run where it has no handle, and no value but that of a part
-  allocated_fine : (env : W.Frames) (a : ℕ) (t : Ty) (handle : Option ValueCode) (x : Option Expr) → ((u : ℕ) → t ≡ TyOf.Record u → IsAllocable code (length env) a u × IsHoused code env a × IsCreatable code env u) → IsCopyFound env x → (new a t handle (option_map value_code x)).runs records ≡ true → Fine code env (new a t handle (option_map value_code x)) (TyOf.Access a)
-  allocated_fine env a (TyOf.Record u) None None may found runs = inl (new_own code env a u (may u refl).0 (may u refl).1 (may u refl).2)
-  allocated_fine env a (TyOf.Record u) None (Some x) may found runs = copied_fine env a u (copied u (value_code x)) (may u refl).0 (may u refl).1 (may u refl).2 (found u) runs
-  allocated_fine env a (TyOf.Record u) (Some h) x may found runs = absurd (cc)
-  allocated_fine env a TyOf.Integer h x may found runs = absurd (cc)
-  allocated_fine env a TyOf.Count h x may found runs = absurd (cc)
-  allocated_fine env a TyOf.Boolean h x may found runs = absurd (cc)
-  allocated_fine env a TyOf.Address h x may found runs = absurd (cc)
-  allocated_fine env a TyOf.Handle h x may found runs = absurd (cc)
-  allocated_fine env a (TyOf.Access b) h x may found runs = absurd (cc)
+  -- and its value is usable, where it is run and of a scalar type
+  abbrev IsUsable : W.Frames → Option Expr → Ty → Type 0
+  IsUsable env None t = Unit {0}
+  IsUsable env (Some x) t = Valid.IsScalar t → (value_code x).runs records ≡ true → Usable code env (value_code x) t
+
+  -- an allocator, which is run where it has no handle
+  allocated_fine : (env : W.Frames) (a : ℕ) (t : Ty) (handle : Option ValueCode) (x : Option Expr) → IsMade code env a t → IsCopyFound env x → IsUsable env x t → (new a t handle (option_map value_code x)).runs records ≡ true → Fine code env (new a t handle (option_map value_code x)) (TyOf.Access a)
+  allocated_fine env a t None None made found usable runs = inl (new_own code env a t made)
+  allocated_fine env a (TyOf.Record u) None (Some x) made found usable runs = copied_fine env a u (copied u (value_code x)) made (found u) runs
+  allocated_fine env a t None (Some x) made found usable runs =
+      let e = both_true (is_run_type t) ((value_code x).runs records) runs in
+      inl (given_own code env a t (value_code x) made (usable (run_scalar t e.0) e.1))
+  allocated_fine env a t (Some h) x made found usable runs = absurd (cc)
 
   -- a value that is dereferenced is an access value
   dereferences : {k : W.Setting} {s t : Ty} {ss : List Step} → J.Walks k s ss t → is_dereferenced ss ≡ true → IsAccessType s
@@ -145,7 +146,7 @@ module _ (code : Code) (records : List RecordType) where
       typed_fine {env} (T.access {v = v} {t = t} {a = a} names found designates) runs = fine_as env _ _ (TyOf.Access a) (value_access v) (designating_fine code env v (TyOf.Access a) (W.Declared (TyOf.Record t), names))
       typed_fine {env} (T.allocate {a = a} {t = t} {handle = handle} {value = x} to designates view h g) runs =
           let same = value_new a t handle x in
-          fine_as env _ _ (TyOf.Access a) same (allocated_fine env a t (option_map value_code handle) x (λ u is. may_new env a u to (designates ∙ is)) (copy_found g) (runs_as _ _ same runs))
+          fine_as env _ _ (TyOf.Access a) same (allocated_fine env a t (option_map value_code handle) x (may_new env a t to designates) (copy_found g) (perhaps_usable g) (runs_as _ _ same runs))
       typed_fine {env} (T.subpool {which = which} {x = x} denotes rooted) runs = absurd (not_missing _ (value_subpool which x) runs)
       typed_fine {env} (T.discriminant {x = x} {i = i} denotes rooted has) runs =
           let same = value_discriminant x i in
@@ -207,6 +208,10 @@ module _ (code : Code) (records : List RecordType) where
       copy_found : {env : W.Frames} {x : Option Expr} {t : Ty} → Perhaps k env x t → IsCopyFound env x
       copy_found T.left_out = tt
       copy_found {env} (T.given {x = x} h) = λ u. found_if env (value_code x).reached (is_of u (value_code x).own) (value_found h)
+
+      perhaps_usable : {env : W.Frames} {x : Option Expr} {t : Ty} → Perhaps k env x t → IsUsable env x t
+      perhaps_usable T.left_out = tt
+      perhaps_usable {env} (T.given {x = x} {t = t} h) = λ scalar runs. usable_as code env (value_code x) t scalar (typed_fine h runs)
 
     -- the part that is copied, if this version runs it
     pub copied_found : {env : W.Frames} {x : Expr} {t : Ty} (u : ℕ) → Typed k env x t → IsFound code env records (copied u (value_code x))

@@ -33,7 +33,7 @@ use Rattle.ctl_code.specs.Windows.{HasSlot}
 use Rattle.ctl_meaning.specs.Outcome.{program_error}
 use Rattle.ctl_code.specs.Valid.{IsAtEnd, IsDeclarable, IsException, IsScalar}
 use Rattle.ctl_layout.specs.Around.{Site, among, behind, local_at, out_to}
-use Rattle.ctl_layout.specs.Parts.{Reached, Variable, Part, Object, part_runs, parts_run}
+use Rattle.ctl_layout.specs.Parts.{Reached, Variable, Part, Object, any_type, first_position, part_runs, parts_run}
 use Rattle.ctl_layout.specs.Values.{ValueCode, actual_code, copied, sourced, value_code, value_type, reached_by}
 use Rattle.ctl_layout.specs.Records.{is_pool, is_run_type}
 use Rattle.ctl_layout.specs.Defaults.{is_assignable}
@@ -174,7 +174,9 @@ module _ (code : Code) (records : List RecordType) (k : W.Setting) (declarable :
 
   assign_good : (env : W.Frames) (o : Option Reached) (x : ValueCode) (t : Ty) → IsFound code env records o → (x.runs records ≡ true → Fine code env x t) → GoodStatement env (assign o x)
   assign_good env None x t found fine runs a n p agrees texts can = absurd (cc)
-  assign_good env (Some (Object b steps)) x t found fine runs a n p agrees texts can = absurd (cc)
+  assign_good env (Some (Object b steps)) x t found fine runs a n p agrees texts can =
+      let e = both_true (part_runs (Object b steps) records) (x.runs records) runs in
+      assign_part_formed code env b steps any_type first_position x a.stack agrees found.0 (found.1 (both_true _ _ e.0).0) (value_usable code env x t (fine e.1)) p
   assign_good env (Some (Part b steps u position)) x t found fine runs a n p agrees texts can =
       let e = both_true (parts_run records b steps u) (x.runs records) runs in
       assign_part_formed code env b steps u position x a.stack agrees found.0 (found.1 (both_true _ _ e.0).0) (value_usable code env x t (fine e.1)) p
@@ -190,7 +192,8 @@ module _ (code : Code) (records : List RecordType) (k : W.Setting) (declarable :
 
   free_good : (env : W.Frames) (access : ℕ) (o : Option Reached) → IsFound code env records o → IsHoused code env access → GoodStatement env (free access o)
   free_good env access None found housed runs a n p agrees texts can = absurd (cc)
-  free_good env access (Some (Object b steps)) found housed runs a n p agrees texts can = absurd (cc)
+  free_good env access (Some (Object b steps)) found housed runs a n p agrees texts can =
+      free_part_formed code env access b steps any_type first_position a.stack agrees fails found.0 (found.1 (both_true _ _ runs).0) (housed a.stack agrees) p
   free_good env access (Some (Part b steps t position)) found housed runs a n p agrees texts can =
       free_part_formed code env access b steps t position a.stack agrees fails found.0 (found.1 (both_true _ _ runs).0) (housed a.stack agrees) p
   free_good env access (Some (Variable v)) found housed runs a n p agrees texts can =
@@ -213,7 +216,11 @@ module _ (code : Code) (records : List RecordType) (k : W.Setting) (declarable :
       let e = both_true ((value_code size).runs records) ((value_code alignment).runs records && true) d.1 in
       let f = both_true ((value_code alignment).runs records) true e.1 in
       allocate_into_formed code env p b steps t position (value_code size) (value_code alignment) a.stack agrees (pool.1 refl) target.0 (target.1 (both_true _ _ d.0).0) (usable_typed env size Count h tt e.0) (usable_typed env alignment Count g tt f.0) q
-  allocate_good env (Some (Variable p)) (Some (Object b steps)) size alignment pool target h g runs a n q agrees texts can = absurd (cc)
+  allocate_good env (Some (Variable p)) (Some (Object b steps)) size alignment pool target h g runs a n q agrees texts can =
+      let d = both_true (part_runs (Object b steps) records) ((value_code size).runs records && ((value_code alignment).runs records && true)) runs in
+      let e = both_true ((value_code size).runs records) ((value_code alignment).runs records && true) d.1 in
+      let f = both_true ((value_code alignment).runs records) true e.1 in
+      allocate_into_formed code env p b steps any_type first_position (value_code size) (value_code alignment) a.stack agrees (pool.1 refl) target.0 (target.1 (both_true _ _ d.0).0) (usable_typed env size Count h tt e.0) (usable_typed env alignment Count g tt f.0) q
   allocate_good env (Some (Variable p)) (Some (Variable v)) size alignment pool target h g runs a n q agrees texts can =
       let e = both_true ((value_code size).runs records) ((value_code alignment).runs records && true) runs in
       let f = both_true ((value_code alignment).runs records) true e.1 in

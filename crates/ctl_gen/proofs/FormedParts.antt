@@ -1,5 +1,5 @@
 -- The code that finds a part of an object is well formed, and puts it on top (4.1, 4.1.3); so is the code that assigns one part to another (5.2).
-use Rattle.std.proofs.Common.{◌≡◌, ℕ, List, [], ◌∷◌, Option, Some, None, Bool, true, false, refl, sym, subst}
+use Rattle.std.proofs.Common.{◌≡◌, ℕ, List, [], ◌∷◌, ◌++◌, Option, Some, None, Bool, true, false, refl, sym, subst}
 use Rattle.std.specs.Prelude.{if◌then◌else◌}
 use Rattle.ctl_program.specs.declared.types.Ty.{Ty}
 use Rattle.ctl_program.specs.declared.types.Ty.TheVariants.{Record}
@@ -17,7 +17,7 @@ use Rattle.ctl_code.specs.Windows.{HasSlot, height}
 use Rattle.ctl_code.specs.Valid as Valid
 use Rattle.ctl_code.specs.Valid.{IsFine, Puts}
 use Rattle.ctl_layout.specs.Around.{local_at, new_operand, out_to, read_from}
-use Rattle.ctl_layout.specs.Parts.{Start, OfVariable, OfValue, Reached, Variable, Part, Object, access_value, are_followed, are_walked, behind_steps, first_type, found, is_begun, is_dereferenced, located_code, part_code, selected, selects_code}
+use Rattle.ctl_layout.specs.Parts.{Start, OfVariable, OfValue, Reached, Variable, Part, Object, access_value, any_type, are_followed, are_walked, behind_steps, first_position, first_type, found, is_begun, is_dereferenced, located_code, part_code, selected, selects_code, whole_code}
 use Rattle.ctl_layout.specs.Layout.{record_code, take_over_code}
 use Rattle.ctl_gen.proofs.Formed.{Formed, both, none, one}
 use Rattle.ctl_gen.proofs.FormedAround.{Agrees, IsNamed, MayHold}
@@ -73,25 +73,29 @@ module _ (code : Code) where
       by true = one code (InstrOf.TakePart u position access_value (new_operand s)) part (Some (Operand access_value ∷ s)) (λ p next. (tt, (s, refl, (refl, next))))
       by false = select_formed u position (first_type steps t) s
 
-  -- the object that an access value designates, of which a component is selected, if any is
-  designated_formed : (steps : List Step) (t : ℕ) (s : List Kind) → are_walked true steps ≡ true → Formed code ((InstrOf.Dereference (first_type steps t) (height s), Operand access_value ∷ s) ∷ []) (Operand access_value ∷ s) (Some (before steps t s))
-  designated_formed [] t s walked = one code (InstrOf.Dereference t (height s)) (Operand access_value ∷ s) (Some (Operand (Record t) ∷ s)) (λ p next. (s, refl, (refl, next)))
-  designated_formed (Component u position ∷ steps) t s walked = one code (InstrOf.Dereference u (height s)) (Operand access_value ∷ s) (Some (Operand (Record u) ∷ s)) (λ p next. (s, refl, (refl, next)))
-  designated_formed (Dereference ∷ steps) t s walked = absurd (cc walked)
-  designated_formed (Narrow u ∷ steps) t s walked = absurd (cc walked)
+  -- the object that an access value designates
+  designated_formed : (steps : List Step) (t : ℕ) (s : List Kind) → Formed code ((InstrOf.Dereference (first_type steps t) (height s), Operand access_value ∷ s) ∷ []) (Operand access_value ∷ s) (Some (Operand (Record (first_type steps t)) ∷ s))
+  designated_formed steps t s = one code (InstrOf.Dereference (first_type steps t) (height s)) (Operand access_value ∷ s) (Some (Operand (Record (first_type steps t)) ∷ s)) (λ p next. (s, refl, (refl, next)))
 
-  selects_formed : (behind : Bool) (steps : List Step) (t : ℕ) (s : List Kind) → are_walked behind steps ≡ true → Formed code (selects_code steps t s) (before steps t s) (Some (Operand (Record t) ∷ s))
-  selects_formed behind [] t s walked = none code (Operand (Record t) ∷ s)
-  selects_formed behind (Component u position ∷ steps) t s walked =
+  -- or its value, where that is dereferenced
+  whole_formed : (steps : List Step) (t : ℕ) (s : List Kind) → Formed code (whole_code steps s) (Operand (Record (first_type steps t)) ∷ s) (Some (before steps t s))
+  whole_formed [] t s = none code (Operand (Record t) ∷ s)
+  whole_formed (Component u position ∷ steps) t s = none code (Operand (Record u) ∷ s)
+  whole_formed (Dereference ∷ steps) t s = one code (InstrOf.TakePart any_type first_position access_value (new_operand s)) (Operand (Record any_type) ∷ s) (Some (Operand access_value ∷ s)) (λ p next. (tt, (s, refl, (refl, next))))
+  whole_formed (Narrow u ∷ steps) t s = none code (Operand (Record t) ∷ s)
+
+  selects_formed : (steps : List Step) (t : ℕ) (s : List Kind) → are_walked steps ≡ true → Formed code (selects_code steps t s) (before steps t s) (Some (Operand (Record t) ∷ s))
+  selects_formed [] t s walked = none code (Operand (Record t) ∷ s)
+  selects_formed (Component u position ∷ steps) t s walked =
       both code ((selected u position steps t s, Operand (Record u) ∷ s) ∷ []) (selects_code steps t s) (Operand (Record u) ∷ s) (before steps t s) (Some (Operand (Record t) ∷ s))
       (selected_formed u position steps t s)
-      (selects_formed false steps t s walked)
-  selects_formed false (Dereference ∷ steps) t s walked =
-      both code ((InstrOf.Dereference (first_type steps t) (height s), Operand access_value ∷ s) ∷ []) (selects_code steps t s) (Operand access_value ∷ s) (before steps t s) (Some (Operand (Record t) ∷ s))
-      (designated_formed steps t s walked)
-      (selects_formed true steps t s walked)
-  selects_formed true (Dereference ∷ steps) t s walked = absurd (cc walked)
-  selects_formed behind (Narrow u ∷ steps) t s walked = absurd (cc walked)
+      (selects_formed steps t s walked)
+  selects_formed (Dereference ∷ steps) t s walked =
+      let part = Operand (Record (first_type steps t)) ∷ s in
+      both code ((InstrOf.Dereference (first_type steps t) (height s), Operand access_value ∷ s) ∷ []) (whole_code steps s ++ selects_code steps t s) (Operand access_value ∷ s) part (Some (Operand (Record t) ∷ s))
+      (designated_formed steps t s)
+      (both code (whole_code steps s) (selects_code steps t s) part (before steps t s) (Some (Operand (Record t) ∷ s)) (whole_formed steps t s) (selects_formed steps t s walked))
+  selects_formed (Narrow u ∷ steps) t s walked = absurd (cc walked)
 
   -- inside these masters
   module _ (env : W.Frames) where
@@ -99,11 +103,11 @@ module _ (code : Code) where
     located_formed (OfVariable v) steps t s agrees followed begun =
         both code ((found v steps t s, s) ∷ []) (selects_code steps t s) s (before steps t s) (Some (Operand (Record t) ∷ s))
         (found_formed v steps t s (agrees.1 v begun.0 begun.1))
-        (selects_formed false steps t s followed)
+        (selects_formed steps t s followed)
     located_formed (OfValue runs lines) (Dereference ∷ steps) t s agrees followed begun =
         both code (lines s) (selects_code (Dereference ∷ steps) t s) s (before (Dereference ∷ steps) t s) (Some (Operand (Record t) ∷ s))
         (begun s agrees)
-        (selects_formed false (Dereference ∷ steps) t s followed)
+        (selects_formed (Dereference ∷ steps) t s followed)
     located_formed (OfValue runs lines) [] t s agrees followed begun = absurd (cc followed)
     located_formed (OfValue runs lines) (Component u i ∷ steps) t s agrees followed begun = absurd (cc followed)
     located_formed (OfValue runs lines) (Narrow u ∷ steps) t s agrees followed begun = absurd (cc followed)

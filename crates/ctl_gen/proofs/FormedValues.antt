@@ -1,6 +1,6 @@
 -- The code of an expression is well formed where its parts are, and puts a value of its type where it is wanted.
 use Rattle.std.proofs.Common.{◌≡◌, ℕ, ◌+◌, List, [], ◌∷◌, ◌++◌, length, Option, Some, None, Bool, true, ◌⊎◌, inl, inr, refl, sym, ap, ◌∙◌, subst, arith}
-use Rattle.std.specs.Prelude.{unwrap_or}
+use Rattle.std.specs.Prelude.{◌&&◌, unwrap_or}
 use Rattle.ctl_program.specs.declared.types.Ty.{Ty}
 use Rattle.ctl_program.specs.declared.types.Ty.TheVariants.{Integer, Boolean}
 use Rattle.ctl_program.specs.declared.types.Ty.TheVariants as TyOf
@@ -28,12 +28,13 @@ use Rattle.ctl_code.proofs.Numbered.{have_over}
 use Rattle.ctl_layout.specs.declared.right.Right.{Right}
 use Rattle.ctl_layout.specs.declared.right.Right.TheVariants as RightOf
 use Rattle.ctl_layout.specs.Around.{Line, local_at, new_operand, out_to, read_from}
-use Rattle.ctl_layout.specs.Records.{is_run_type}
-use Rattle.ctl_layout.specs.Parts.{Start, OfVariable, OfValue, Reached, Variable, Part, Object, are_followed, component_code, located_code, part_code, parts_run, taken_code}
-use Rattle.ctl_layout.specs.Values.{Held, OperatorCode, ValueCode, address_numbers, applied, binary_code, chain, common_type, constant, designating, evaluated, first_type, held, held_by, in_cell, last_type, left_held, moved_to, new, new_copy, new_copy_code, next_target, operand_type, operator_by, operator_code, operator_for, operators_code, other_code, others_code, read, short, value_type, block_pool, discriminant, discriminant_at}
+use Rattle.ctl_layout.specs.Records.{is_plain, is_run_type}
+use Rattle.ctl_layout.specs.Defaults.{is_declared}
+use Rattle.ctl_layout.specs.Parts.{Start, OfVariable, OfValue, Reached, Variable, Part, Object, any_type, are_followed, component_code, first_position, located_code, part_code, part_runs, parts_run, taken_code}
+use Rattle.ctl_layout.specs.Values.{Held, OperatorCode, ValueCode, address_numbers, allocator_code, applied, binary_code, chain, common_type, constant, designating, evaluated, first_type, given_code, held, held_by, in_cell, last_type, left_held, moved_to, new, new_copy, new_given, next_target, operand_type, operator_by, operator_code, operator_for, operators_code, other_code, others_code, read, short, value_type, block_pool, discriminant, discriminant_at}
 use Rattle.ctl_layout.proofs.Extensions.{both_true}
 use Rattle.ctl_gen.proofs.Formed.{Formed, both, has_end, leads_at, none, one}
-use Rattle.ctl_gen.proofs.FormedAround.{Agrees, IsCreatable, IsHoused, IsNamed, granted_home}
+use Rattle.ctl_gen.proofs.FormedAround.{Agrees, IsCreatable, IsHoused, IsNamed, granted_home, granted_home_of}
 use Rattle.ctl_gen.proofs.FormedParts.{IsBegun, IsFound, located_formed, part_formed, read_fine}
 use Rattle.ctl_gen.proofs.Walked.{start_of, steps_before, part_begun}
 use Rattle.ctl_gen.proofs.FormedTypes.{IsAccessType, IsLike, arithmetic_of, boolean_plain, cell_like, cell_of, equality_relates, is_relation, like_access, like_back, like_scalar, like_then, logical_of, number_of, number_plain, number_scalar, of_arithmetic, of_logical, of_relation, ordering_relates, relation_of, run_scalar, same_unless, unary_plain}
@@ -73,6 +74,14 @@ taken_slot counts cell ty s below out slot = by cell.named cell.at
     by : (named : Named) (at : ℕ) → Taken (record { at = at; named = named }) ty s below → HasSlot counts below out slot → HasSlot counts s out slot
     by NamedOf.Operand at h there = subst (λ x. HasSlot counts x out slot) (sym h.0) there
     by (NamedOf.Variable o n) at h there = subst (λ x. HasSlot counts x out slot) (sym h.0) there
+
+-- what makes an object, behind an instruction that does nothing; its access value goes where it is wanted
+abbrev made_by : ℕ → (List RecordType → Bool) → (Ty → List Kind → List Line) → ValueCode
+made_by access runs lines = record { runs = runs; own = Some (TyOf.Access access); right = RightOf.Evaluated; reached = None; code = λ to ty s. (InstrOf.Skip 0, s) ∷ lines ty s ++ moved_to to ty s }
+
+-- what stands behind that instruction, where the object takes the value of a part
+abbrev behind_skip : ℕ → ℕ → Reached → Ty → List Kind → List Line
+behind_skip access t x ty s = part_code x t s ++ (InstrOf.NewCopy access t ty (height s), KindOf.Operand (TyOf.Record t) ∷ s) ∷ (InstrOf.NewCopyIn t ty (height s), over_numbers address_numbers (KindOf.RecordValue ∷ s)) ∷ []
 
 module _ (code : Code) where
   pub puts : (place : ℕ) (to : Cell) (ty : Ty) (s : List Kind) → Placed to s → Leads code (place + 1) (with_put to.named ty s) → Puts code place to ty s
@@ -340,67 +349,76 @@ module _ (code : Code) (env : W.Frames) where
         constant = λ n is. absurd (cc);
       })
 
-  -- an allocator: behind the call of an Allocate there stand numbers (13.11)
-  allocated_formed : (access t : ℕ) (ty : Ty) (s : List Kind) → Valid.IsScalar ty → Agrees code env s → IsAllocable code (length env) access t → IsHoused code env access → IsCreatable code env t → Formed code ((InstrOf.Skip 0, s) ∷ (InstrOf.New access t ty (height s), s) ∷ (InstrOf.NewIn t ty (height s), over_numbers address_numbers s) ∷ []) s (Some (KindOf.Operand ty ∷ s))
-  allocated_formed access t ty s scalar agrees allocable housed known p h =
-      let there : p + 1 ≡ p + 1 + 0 = omega arith in
-      let may = subst (λ n. IsAllocable code n access t) (sym agrees.0) allocable in
-      let last = h.1.1.1 in (
+  -- Allocators ---------------------------------------------------------------------------------------
+
+  -- the collection of an access type stands around, and objects of this type can be made for it
+  abbrev pub IsMade : ℕ → Ty → Type 0
+  IsMade access of = IsAllocable code (length env) access of × IsHoused code env access × IsCreatable code env of
+
+  -- behind the call of an Allocate there stand numbers (13.11)
+  allocator_formed : (access : ℕ) (of ty : Ty) (s : List Kind) → Valid.IsScalar ty → Agrees code env s → IsMade access of → Formed code (allocator_code access of ty s) s (Some (KindOf.Operand ty ∷ s))
+  allocator_formed access of ty s scalar agrees (allocable, housed, known) p h =
+      let may = subst (λ n. IsAllocable code n access of) (sym agrees.0) allocable in
+      let last = h.1.1 in (
         h.0,
-        (
-          leads_at code (p + 1) (p + 1 + 0) s there h.1.0,
-          ((scalar, may, refl, h.1.1.0, last, housed s agrees, granted_home code env s (DeclarationOf.Record t) agrees known.1), ((scalar, known.0, have_over address_numbers s, refl, last), tt)),
-        ),
+        ((scalar, may, refl, h.1.0, last, housed s agrees, granted_home_of code env s of agrees known.1), ((scalar, known.0, have_over address_numbers s, refl, last), tt)),
       )
 
   -- with the value of a part: behind the call of an Allocate they stand over that value (13.11)
-  behind_part_formed : (access t : ℕ) (ty : Ty) (s : List Kind) → Valid.IsScalar ty → Agrees code env s → IsAllocable code (length env) access t → IsHoused code env access → IsCreatable code env t → Formed code ((InstrOf.NewCopy access t ty (height s), KindOf.Operand (TyOf.Record t) ∷ s) ∷ (InstrOf.NewCopyIn t ty (height s), over_numbers address_numbers (KindOf.RecordValue ∷ s)) ∷ []) (KindOf.Operand (TyOf.Record t) ∷ s) (Some (KindOf.Operand ty ∷ s))
-  behind_part_formed access t ty s scalar agrees allocable housed known p h =
-      let may = subst (λ n. IsAllocable code n access t) (sym agrees.0) allocable in
+  behind_part_formed : (access t : ℕ) (ty : Ty) (s : List Kind) → Valid.IsScalar ty → Agrees code env s → IsMade access (TyOf.Record t) → Formed code ((InstrOf.NewCopy access t ty (height s), KindOf.Operand (TyOf.Record t) ∷ s) ∷ (InstrOf.NewCopyIn t ty (height s), over_numbers address_numbers (KindOf.RecordValue ∷ s)) ∷ []) (KindOf.Operand (TyOf.Record t) ∷ s) (Some (KindOf.Operand ty ∷ s))
+  behind_part_formed access t ty s scalar agrees (allocable, housed, known) p h =
+      let may = subst (λ n. IsAllocable code n access (TyOf.Record t)) (sym agrees.0) allocable in
       let last = h.1.1 in (
         h.0,
         ((scalar, may, (s, refl, (refl, h.1.0, last)), housed s agrees, granted_home code env s (DeclarationOf.Record t) agrees known.1), ((scalar, known.0, have_over address_numbers (KindOf.RecordValue ∷ s), refl, refl, last), tt)),
       )
 
-  -- the value of an allocator is a new operand, and then goes where it is wanted
-  pub new_own : (access t : ℕ) → IsAllocable code (length env) access t → IsHoused code env access → IsCreatable code env t → Own (new access (TyOf.Record t) None None) (TyOf.Access access)
-  new_own access t allocable housed known =
-      own_as (new access (TyOf.Record t) None None) (TyOf.Access access) refl tt
-      (λ ty scalar. record {
-        scalar = scalar;
-        formed = λ to s agrees at.
-            let top = KindOf.Operand ty ∷ s in
-            both code ((InstrOf.Skip 0, s) ∷ (InstrOf.New access t ty (height s), s) ∷ (InstrOf.NewIn t ty (height s), over_numbers address_numbers s) ∷ []) (moved_to to ty s) s top (Some (with_put to.named ty s))
-            (allocated_formed access t ty s scalar agrees allocable housed known)
-            (moved_formed code to ty s scalar at);
-        constant = λ n is. absurd (cc);
-      })
-
-  -- and the part itself is found before, behind an instruction that does nothing
-  copy_formed : (access t : ℕ) (x : Reached) (ty : Ty) (s : List Kind) → Valid.IsScalar ty → Agrees code env s → are_followed (start_of x) (steps_before x) ≡ true → IsBegun code env (start_of x) → IsAllocable code (length env) access t → IsHoused code env access → IsCreatable code env t → Formed code (new_copy_code access t x ty s) s (Some (KindOf.Operand ty ∷ s))
-  copy_formed access t x ty s scalar agrees followed begun allocable housed known =
+  -- and the part itself is found before
+  copy_formed : (access t : ℕ) (x : Reached) (ty : Ty) (s : List Kind) → Valid.IsScalar ty → Agrees code env s → are_followed (start_of x) (steps_before x) ≡ true → IsBegun code env (start_of x) → IsMade access (TyOf.Record t) → Formed code (behind_skip access t x ty s) s (Some (KindOf.Operand ty ∷ s))
+  copy_formed access t x ty s scalar agrees followed begun made =
       let part = KindOf.Operand (TyOf.Record t) ∷ s in
-      let top = KindOf.Operand ty ∷ s in
       let last : List Line = (InstrOf.NewCopy access t ty (height s), part) ∷ (InstrOf.NewCopyIn t ty (height s), over_numbers address_numbers (KindOf.RecordValue ∷ s)) ∷ [] in
-      both code ((InstrOf.Skip 0, s) ∷ []) (part_code x t s ++ last) s s (Some top)
-      (one code (InstrOf.Skip 0) s (Some s) (λ p next. let e : p + 1 ≡ p + 1 + 0 = omega arith in leads_at code (p + 1) (p + 1 + 0) s e next))
-      (both code (part_code x t s) last s part (Some top)
+      both code (part_code x t s) last s part (Some (KindOf.Operand ty ∷ s))
       (part_formed code env x t s agrees followed begun)
-      (behind_part_formed access t ty s scalar agrees allocable housed known))
+      (behind_part_formed access t ty s scalar agrees made)
 
-  -- and its value goes where it is wanted, too
-  pub copied_own : (access t : ℕ) (x : Reached) → are_followed (start_of x) (steps_before x) ≡ true → IsBegun code env (start_of x) → IsAllocable code (length env) access t → IsHoused code env access → IsCreatable code env t → Own (new_copy access t (Some x)) (TyOf.Access access)
-  copied_own access t x followed begun allocable housed known =
-      own_as (new_copy access t (Some x)) (TyOf.Access access) refl tt
+  -- with a value of an elementary type: that is evaluated before, and goes into the object
+  given_formed : (access : ℕ) (of : Ty) (x : ValueCode) (ty : Ty) (s : List Kind) → Valid.IsScalar ty → Agrees code env s → IsMade access of → Usable x of → Formed code (given_code access of x ty s) s (Some (KindOf.Operand ty ∷ s))
+  given_formed access of x ty s scalar agrees made usable =
+      let value = KindOf.Operand of ∷ s in
+      let top = KindOf.Operand ty ∷ value in
+      let after = Some (KindOf.Operand ty ∷ s) in
+      let last : List Line = (InstrOf.GiveValue of ty (height s), top) ∷ [] in
+      let lines = x.code (new_operand s) of s in
+      both code (lines ++ allocator_code access of ty value) last s top after
+      (both code lines (allocator_code access of ty value) s value (Some top)
+      (usable.formed (new_operand s) s agrees refl)
+      (allocator_formed access of ty value scalar agrees made))
+      (one code (InstrOf.GiveValue of ty (height s)) top after (λ p next. (usable.scalar, scalar, (s, refl, (refl, next)))))
+
+  -- what makes an object stands behind an instruction that does nothing; its value is a new operand, and then goes where it is wanted
+  made_own : (access : ℕ) (runs : List RecordType → Bool) (lines : Ty → List Kind → List Line) → ((ty : Ty) (s : List Kind) → Valid.IsScalar ty → Agrees code env s → Formed code (lines ty s) s (Some (KindOf.Operand ty ∷ s))) → Own (made_by access runs lines) (TyOf.Access access)
+  made_own access runs lines formed =
+      own_as (made_by access runs lines) (TyOf.Access access) refl tt
       (λ ty scalar. record {
         scalar = scalar;
         formed = λ to s agrees at.
             let top = KindOf.Operand ty ∷ s in
-            both code (new_copy_code access t x ty s) (moved_to to ty s) s top (Some (with_put to.named ty s))
-            (copy_formed access t x ty s scalar agrees followed begun allocable housed known)
-            (moved_formed code to ty s scalar at);
+            let after = Some (with_put to.named ty s) in
+            both code ((InstrOf.Skip 0, s) ∷ []) (lines ty s ++ moved_to to ty s) s s after
+            (one code (InstrOf.Skip 0) s (Some s) (λ p next. let e : p + 1 ≡ p + 1 + 0 = omega arith in leads_at code (p + 1) (p + 1 + 0) s e next))
+            (both code (lines ty s) (moved_to to ty s) s top after (formed ty s scalar agrees) (moved_formed code to ty s scalar at));
         constant = λ n is. absurd (cc);
       })
+
+  pub new_own : (access : ℕ) (of : Ty) → IsMade access of → Own (new access of None None) (TyOf.Access access)
+  new_own access of made = made_own access (λ records. is_declared records of) (allocator_code access of) (λ ty s scalar agrees. allocator_formed access of ty s scalar agrees made)
+
+  pub copied_own : (access t : ℕ) (x : Reached) → are_followed (start_of x) (steps_before x) ≡ true → IsBegun code env (start_of x) → IsMade access (TyOf.Record t) → Own (new_copy access t (Some x)) (TyOf.Access access)
+  copied_own access t x followed begun made = made_own access (λ records. is_plain records t && part_runs x records) (behind_skip access t x) (λ ty s scalar agrees. copy_formed access t x ty s scalar agrees followed begun made)
+
+  pub given_own : (access : ℕ) (of : Ty) (x : ValueCode) → IsMade access of → Usable x of → Own (new_given access of x) (TyOf.Access access)
+  given_own access of x made usable = made_own access (λ records. is_run_type of && x.runs records) (given_code access of x) (λ ty s scalar agrees. given_formed access of x ty s scalar agrees made usable)
 
   module _ (records : List RecordType) where
     -- the value of a component goes where it is wanted
@@ -436,7 +454,15 @@ module _ (code : Code) (env : W.Frames) where
 
     pub read_own : (o : Option Reached) (ty : Ty) → IsFound code env records o → (read o ty).runs records ≡ true → Own (read o ty) ty
     read_own None ty found_so runs = absurd (cc)
-    read_own (Some (Object b steps)) ty found_so runs = absurd (cc)
+    read_own (Some (Object b steps)) ty found_so runs =
+        let e = both_true (is_run_type ty) (part_runs (Object b steps) records) runs in
+        let begun = found_so.1 (both_true _ _ e.1).0 in
+        own_as (read (Some (Object b steps)) ty) ty refl (run_scalar ty e.0)
+        (λ u scalar. record {
+          scalar = scalar;
+          formed = λ to s agrees at. component_formed b steps any_type first_position u to s scalar agrees found_so.0 begun at;
+          constant = λ n is. absurd (cc);
+        })
     read_own (Some (Part b steps t position)) ty found_so runs =
         let e = both_true (is_run_type ty) (parts_run records b steps t) runs in
         let begun = found_so.1 (both_true _ _ e.1).0 in

@@ -26,7 +26,7 @@ use Rattle.ctl_code.specs.declared.homes.Declaration.TheVariants as DeclarationO
 use Rattle.ctl_code.specs.Demands.{with_counts}
 use Rattle.ctl_code.specs.Windows.{Counts}
 use Rattle.ctl_meaning.specs.Outcome.{program_error}
-use Rattle.ctl_code.specs.Valid.{AreInScope, AreOperationsWithin, IsBegun, IsDeclarable, IsEntry, IsException, IsFine, IsInScope, IsOperationWithin, IsStorageInScope, IsValid, Leads, MayBeEntry, MayHaveVariable, TakesObject, TakesStorage, storage_formals}
+use Rattle.ctl_code.specs.Valid.{AreInScope, AreOperationsWithin, IsBegun, IsEntry, IsException, IsFine, IsInScope, IsOperationWithin, IsStorageInScope, IsValid, Leads, MayBeEntry, MayHaveVariable, MayLie, TakesObject, TakesStorage, storage_formals}
 use Rattle.ctl_layout.specs.Around.{Line, Around, among, behind}
 use Rattle.ctl_layout.specs.Layout as Layout
 use Rattle.ctl_layout.specs.Layout.{bodies, body_code, entries_from, entry_at, HasKinds, in_body, instructions_of, IsLaidOut, kinds_of, master_code, nowhere, outside, operations_in, operations_of, program_code}
@@ -36,7 +36,7 @@ use Rattle.ctl_gen.proofs.Known.{both_true}
 use Rattle.ctl_gen.proofs.Place.{HasAt, has_all}
 use Rattle.ctl_gen.proofs.Place as Place
 use Rattle.ctl_gen.proofs.Formed.{AreFine, fine_both, FormedAt, Has, has_back, has_front}
-use Rattle.ctl_gen.proofs.FormedAround.{Agrees, IsHoused, agrees_body, named_around, size_around, variable_there}
+use Rattle.ctl_gen.proofs.FormedAround.{Agrees, IsCreatable, IsHoused, agrees_body, named_around, size_around, variable_there}
 use Rattle.ctl_gen.proofs.FormedLayouts.{EachAtHome, SaysAround, alike, around, creatable, declarable, granted_within, home_of, layouts_laid, not_more, record_granted, said_of_subprogram, subprogram_granted}
 use Rattle.ctl_gen.proofs.FormedCalls.{MayCall, MayNew, kind_by, named_level}
 use Rattle.ctl_gen.proofs.FormedMasters.{MaySee, master_good, slots_told}
@@ -358,16 +358,26 @@ module _ (program : Checked) (code : Code) (laid : IsLaidOut program code) (kind
   seen : MaySee code typed.k
   seen env a to = (collection_there env a to, housed env a to)
 
-  -- and its record type is in view there
+  -- an object of a type in view may lie in these masters
+  may_lie : (home : W.Frames) (t : Ty) → W.InView typed.k home t → MayLie code (length home) t
+  may_lie home (Record t) view = declarable program typed code laid says home t view
+  may_lie home t view = tt
+
+  -- and can be made where these stand around
+  can_be_made : (home env : W.Frames) (t : Ty) → W.Encloses home env → W.InView typed.k home t → IsCreatable code env t
+  can_be_made home env (Record t) encloses view = ((operations_in view.is, operations_there t view.is (sym (ap (λ rs. slice_get rs t) typed.fits.records) ∙ view.found)), λ level. let inner = record_granted code typed.k says home t view level in let outer = size_around home env level encloses in omega (arith, inner, outer))
+  can_be_made home env t encloses view = (tt, tt)
+
+  -- and the type that it designates is in view there
   may_new : MayNew code typed.k
   may_new env a t to designates =
       let fine = access_fine env a to in
       let level = fine.level in
       let least = not_more to.home env to.encloses in
-      let view : W.HasRecord typed.k to.home t = subst (W.InView typed.k to.home) designates fine.designated in (
-        (Layout.home_of to.is, collection_there env a to, named_level fine.collection, omega (arith, level, least), subst (λ n. IsDeclarable code n t) (sym level) (declarable program typed code laid says to.home t view)),
+      let view : W.InView typed.k to.home t = subst (W.InView typed.k to.home) designates fine.designated in (
+        (Layout.home_of to.is, collection_there env a to, named_level fine.collection, omega (arith, level, least), subst (λ n. MayLie code n t) (sym level) (may_lie to.home t view)),
         housed env a to,
-        ((operations_in view.is, operations_there t view.is (sym (ap (λ rs. slice_get rs t) typed.fits.records) ∙ view.found)), λ level. let inner = record_granted code typed.k says to.home t view level in let outer = size_around to.home env level to.encloses in omega (arith, inner, outer)),
+        can_be_made to.home env t to.encloses view,
       )
 
   raisable : (x : ℕ) → x < typed.k.exceptions → x < length code.exceptions.items

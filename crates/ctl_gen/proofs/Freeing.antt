@@ -1,7 +1,7 @@
 -- Unchecked_Deallocation: the code frees the object that an access value designates as the program means it (13.11.2). The value is read once;
 -- what held it becomes null behind the finalization, and then the object is gone and its storage given back, by the Deallocate that the user wrote
 -- for the type of its pool, or by the library's (13.11).
-use Rattle.std.proofs.Common.{◌≡◌, ℕ, zero, suc, ◌+◌, ◌≤◌, List, [], ◌∷◌, ◌++◌, length, Option, Some, None, Bool, true, false, refl, sym, ap, ◌∙◌, subst, arith, length-append}
+use Rattle.std.proofs.Common.{◌≡◌, ℕ, zero, suc, ◌+◌, ◌≤◌, List, [], ◌∷◌, length, Option, Some, None, Bool, true, false, refl, sym, ap, ◌∙◌, subst, arith, length-append}
 use Rattle.std.specs.Prelude.{slice_get, nat_eq, not, ◌&&◌, if◌then◌else◌, option_map}
 use Rattle.std.proofs.lemmas.Bool.{eqb-true, ne_eqb}
 use Rattle.ctl_program.specs.declared.types.Ty.{Ty}
@@ -10,7 +10,6 @@ use Rattle.ctl_program.specs.declared.operators.SubprogramKind.TheVariants.{Proc
 use Rattle.ctl_program.specs.declared.types.AccessType.{AccessType}
 use Rattle.ctl_program.specs.declared.types.Var.{Var}
 use Rattle.ctl_program.specs.declared.expression.Step.{Step}
-use Rattle.ctl_program.specs.declared.expression.Step.TheVariants.{Component}
 use Rattle.ctl_tree.specs.declared.ending.Stop.{Stop}
 use Rattle.ctl_tree.specs.declared.ending.Stop.TheVariants.{UseAfterFree, FreeWhileFinalizing, ForeignFree, BadAddress}
 use Rattle.ctl_tree.specs.declared.event.Cause.TheVariants as CauseOf
@@ -24,8 +23,8 @@ use Rattle.ctl_meaning.specs.Pools.{block_at, block_pool_at, give_block}
 use Rattle.ctl_meaning.specs.Choice.{Ask, picked}
 use Rattle.ctl_meaning.specs.Members.{member_of, is_due}
 use Rattle.ctl_meaning.specs.Outcome.{program_error, ByRaise, Result, Goes, Leaves, Out, Gives, Stops, Act, Done, add, bind, on_goes, ◌>>=◌, ◌>>◌, done, nothing, stop, counted, ticked, look, change, show, tell, either, on_some, opened_outcome}
-use Rattle.ctl_meaning.specs.Types.{Tables, has_controlled, of_record, offset_in, operation, placed, record_of, size_of}
-use Rattle.ctl_meaning.specs.Names.{Found, Call, Default, Tools, existing, gone, moved as found_behind, read_found, read_part, scalar_of, write_found, write_part, OfSubprogram, opened_names}
+use Rattle.ctl_meaning.specs.Types.{Tables, has_controlled, of_record, operation, operation_for, size_of}
+use Rattle.ctl_meaning.specs.Names.{Found, Call, Default, Tools, existing, gone, read_found, read_part, scalar_of, write_found, write_part, OfSubprogram, opened_names}
 use Rattle.ctl_meaning.specs.Names as Names
 use Rattle.ctl_meaning.specs.Finalization.{Spot, finalize_object, with_home}
 use Rattle.ctl_meaning.specs.Storage.{give_back, library_deallocate, program_error_if, storage_actuals, with_block_pool}
@@ -36,10 +35,10 @@ use Rattle.ctl_code.specs.declared.code.Way.TheVariants as WayOf
 use Rattle.ctl_code.specs.declared.kinds.Kind.TheVariants.{Operand}
 use Rattle.ctl_code.specs.States.{AfterProcedure, Word, Located, Point, Nulled, NullVariable, NullPart, Frame, Freeing, State}
 use Rattle.ctl_code.specs.Table as Table
-use Rattle.ctl_code.specs.Table.{GivenBack, Returned, NotReturned, behind_free, by_free, by_free_part, component_of, enter_body, finalize_freed, finalize_typed, free_member, freed_by, freed_in, freed_part, has_part_in, object_return, operation_for, out_of, own_return, pool_return, return_to, storage_of, units_for}
+use Rattle.ctl_code.specs.Table.{GivenBack, Returned, NotReturned, behind_free, by_free, by_free_part, component_of, enter_body, finalize_freed, finalize_typed, free_member, freed_by, freed_in, freed_part, has_part_in, object_return, out_of, own_return, pool_return, return_to, storage_of, units_for}
 use Rattle.ctl_code.specs.Steps.{moved, step}
 use Rattle.ctl_layout.specs.Around.{Line, out_to}
-use Rattle.ctl_layout.specs.Parts.{Start, are_followed, located_code, parts_run}
+use Rattle.ctl_layout.specs.Parts.{Start, are_followed, located_code}
 use Rattle.ctl_code.proofs.Storage.{OnReturn}
 use Rattle.ctl_layout.specs.Layout.{failed_code, free_part_code, home_of as home_in}
 use Rattle.ctl_gen.proofs.Known.{IsPlainType, both_true}
@@ -50,11 +49,13 @@ use Rattle.ctl_gen.proofs.Parted.{GivesDefaults}
 use Rattle.ctl_gen.proofs.Setting.{Setting, Calls, Sure, Told, enter_shows, returned_to, seen, tools_with}
 use Rattle.ctl_gen.proofs.Place.{laid_front, laid_back}
 use Rattle.ctl_gen.proofs.Cells.{by_code, cell_is, here, out_is, value_of}
-use Rattle.ctl_gen.proofs.Parts.{agree_run, component_found, find_by, found_at, stepping}
+use Rattle.ctl_gen.proofs.Parts.{Agree, find_by, found_at}
+use Rattle.ctl_gen.proofs.LastSteps.{Ends, Last}
 use Rattle.ctl_gen.proofs.Begun.{Starts, located_then}
 use Rattle.ctl_gen.proofs.Expressions.{Uses}
 use Rattle.ctl_gen.proofs.FinalizedParts.{heard, tells}
 use Rattle.ctl_gen.proofs.Finalize.{part_alike, typed_runs}
+use Rattle.ctl_gen.proofs.Storage.{units_alike}
 use Rattle.ctl_gen.proofs.Does.{Does}
 use Rattle.ctl_gen.proofs.Follow.{Runs, Target, added, arrives, at, bind_add, bind_bind, both, by_raise, lands, last_step, no_step, stop_step, transferred, way_of}
 
@@ -233,29 +234,33 @@ module _ (ask : Ask) (k : Tables) (code : Code) (setting : Setting k code) (call
 
     -- to a pool: by the Deallocate that the user wrote, or else by the library's
     block_runs : (n a size : ℕ) (failed : Bool) (p : Point) (ks : List Frame) (s0 : State) (c : ℕ) (l : Log) (w : World) → c ≤ bound → Since k code w0 w → step ask code s0 ≡ moved l (freed_by code size failed (object_return code a (object_at n w) w) p ks w) → GivesBack s0 c (behind_free failed p) ks (give_back K n a size c l w)
-    unfolding give_back existing gone of_record record_of opened_outcome
+    unfolding give_back existing gone of_record operation_for opened_outcome
     block_runs n a size failed p ks s0 c l w le fits first = by (object_at n w) refl first
       where
         q : Point
         q = behind_free failed p
 
+        -- by the library's, where its type has no operation
+        by_library : (o : Object) → object_at n w ≡ Some o → step ask code s0 ≡ moved l (freed_by code size failed (own_return None a o w) p ks w) → GivesBack s0 c (behind_free failed p) ks (library_deallocate n a c l w)
+        by_library o there go = library_runs n a size failed p ks s0 c l w fits (go ∙ ap (λ i. moved l (freed_by code size failed (pool_return i a (block_pool_at i w.pools) w) p ks w)) (number_is n w o there))
+
         -- by the operation of its type, if there is one
         operated : (o : Object) → object_at n w ≡ Some o → (t : ℕ) → o.ty ≡ Record t → (f : Option ℕ) → operation (λ x. x.deallocate) k t ≡ f → step ask code s0 ≡ moved l (freed_by code size failed (own_return f a o w) p ks w) → GivesBack s0 c (behind_free failed p) ks (on_some f (library_deallocate n a) (deallocates n a size) c l w)
-        operated o there t ty None op go = library_runs n a size failed p ks s0 c l w fits (go ∙ ap (λ i. moved l (freed_by code size failed (pool_return i a (block_pool_at i w.pools) w) p ks w)) (number_is n w o there))
+        operated o there t ty None op go = by_library o there go
         operated o there t ty (Some f) op go = user_runs n a size f t o q ks s0 c l w le fits there ty op (go ∙ ap (λ i. moved l (enter_body (slice_get code.entries.items f) (Deallocate i size ∷ []) (home_of o.origin w) (storage_actuals i a size) (AfterProcedure 0 q) ks w)) (number_is n w o there))
 
-        typed : (o : Object) → object_at n w ≡ Some o → (ty : Ty) → o.ty ≡ ty → IsPlainType k ty → step ask code s0 ≡ moved l (freed_by code size failed (own_return (operation_for (λ x. x.deallocate) code ty) a o w) p ks w) → GivesBack s0 c (behind_free failed p) ks (on_some (operation (λ x. x.deallocate) k (record_of ty)) (library_deallocate n a) (deallocates n a size) c l w)
-        typed o there (Record t) ty plain go = operated o there t ty (operation (λ x. x.deallocate) k t) refl (go ∙ ap (λ f. moved l (freed_by code size failed (own_return f a o w) p ks w)) (setting.deallocate t))
-        typed o there Integer ty plain go = absurd plain
-        typed o there Boolean ty plain go = absurd plain
-        typed o there Count ty plain go = absurd plain
-        typed o there Address ty plain go = absurd plain
-        typed o there Handle ty plain go = absurd plain
-        typed o there (Access x) ty plain go = absurd plain
+        typed : (o : Object) → object_at n w ≡ Some o → (ty : Ty) → o.ty ≡ ty → step ask code s0 ≡ moved l (freed_by code size failed (own_return (Table.operation_for (λ x. x.deallocate) code ty) a o w) p ks w) → GivesBack s0 c (behind_free failed p) ks (on_some (operation_for (λ x. x.deallocate) k ty) (library_deallocate n a) (deallocates n a size) c l w)
+        typed o there (Record t) ty go = operated o there t ty (operation (λ x. x.deallocate) k t) refl (go ∙ ap (λ f. moved l (freed_by code size failed (own_return f a o w) p ks w)) (setting.deallocate t))
+        typed o there Integer ty go = by_library o there go
+        typed o there Boolean ty go = by_library o there go
+        typed o there Count ty go = by_library o there go
+        typed o there Address ty go = by_library o there go
+        typed o there Handle ty go = by_library o there go
+        typed o there (Access x) ty go = by_library o there go
 
-        by : (y : Option Object) → object_at n w ≡ y → step ask code s0 ≡ moved l (freed_by code size failed (object_return code a y w) p ks w) → GivesBack s0 c (behind_free failed p) ks (on_some y gone (λ o. on_some (operation (λ x. x.deallocate) k (record_of o.ty)) (library_deallocate n a) (deallocates n a size)) c l w)
+        by : (y : Option Object) → object_at n w ≡ y → step ask code s0 ≡ moved l (freed_by code size failed (object_return code a y w) p ks w) → GivesBack s0 c (behind_free failed p) ks (on_some y gone (λ o. on_some (operation_for (λ x. x.deallocate) k o.ty) (library_deallocate n a) (deallocates n a size)) c l w)
         by None there go = stop_step ask code (Told k code w0) 2 3 s0 _ c 0 (behind_it (behind_free failed p) ks) UseAfterFree l (omega arith) go refl refl
-        by (Some o) there go = typed o there o.ty refl (settled_there n w o fits there).plain go
+        by (Some o) there go = typed o there o.ty refl go
 
     -- the storage of an object: nothing is given back to the standard pool
     storage_runs : (ty : Ty) (x : Origin) (failed : Bool) (p : Point) (ks : List Frame) (s0 : State) (c : ℕ) (l : Log) (w : World) → c ≤ bound → Since k code w0 w → step ask code s0 ≡ moved l (freed_by code (size_of k ty) failed (return_to code (storage_of x) w) p ks w) → GivesBack s0 c (behind_free failed p) ks (returns_storage K ty x c l w)
@@ -264,16 +269,6 @@ module _ (ask : Ask) (k : Tables) (code : Code) (setting : Setting k code) (call
     storage_runs ty (Allocated set Standard) failed p ks s0 c l w le fits first = last_step ask code (Told k code w0) 2 3 s0 c 0 (behind_it (behind_free failed p) ks) (Goes tt) l w (omega arith) (tt, fits) first
     storage_runs ty (Allocated set (InBlock n a)) failed p ks s0 c l w le fits first = block_runs n a (size_of k ty) failed p ks s0 c l w le fits first
     storage_runs ty (Allocated set (InSubpool m)) failed p ks s0 c l w le fits first = last_step ask code (Told k code w0) 2 3 s0 c 0 (behind_it (behind_free failed p) ks) (Goes tt) l w (omega arith) (tt, fits) first
-
-    -- both tables say alike how much storage an object takes
-    units_are : (ty : Ty) → IsPlainType k ty → units_for code ty ≡ size_of k ty
-    units_are (Record t) plain = setting.units t plain.2.laid.is
-    units_are Integer plain = absurd plain
-    units_are Boolean plain = absurd plain
-    units_are Count plain = absurd plain
-    units_are Address plain = absurd plain
-    units_are Handle plain = absurd plain
-    units_are (Access x) plain = absurd plain
 
     -- An object is gone ----------------------------------------------------------------------------
 
@@ -296,7 +291,7 @@ module _ (ask : Ask) (k : Tables) (code : Code) (setting : Setting k code) (call
     gone_runs o failed e p ks s0 c l w le fits plain raises first =
         let v = forget o.number w in
         let next : Result Done → Log → World → State = arrives e p.display (p.place + 1) ks p.operands in
-        let units = units_are o.ty plain in
+        let units = units_alike k code setting o.ty plain in
         subst (Frees 1 3 s0 c e p ks) (sym (bind_add 1 (returns_storage K o.ty o.origin c l v) (on_goes (λ _. program_error_if failed))))
         (added ask code (Kept k code w0) 1 3 4 1 3 s0 c next _ (omega arith) (omega arith)
         (both ask code (Told k code w0) (Kept k code w0) 2 3 1 1 3 4 s0 c (behind_it (behind_free failed p) ks) next (returns_storage K o.ty o.origin c l v) (on_goes (λ _. program_error_if failed)) (omega arith) (omega arith) (omega arith)
@@ -427,31 +422,35 @@ module _ (ask : Ask) (k : Tables) (code : Code) (setting : Setting k code) (call
       (by_code ask code d place ks ops l w (InstrOf.Free access out v.slot) has.0
       ∙ ap (λ n. moved l (by_free code (NullVariable out v.slot) (slice_get code.accesses.items access) n ops (here d place ks w))) (cell_is d a.stack v w sees.long))))))))
 
-  -- and one whose access value is in a component: the part that has it is found first
-  pub part_freed_does : (access : ℕ) (first : Start) (given : List ℕ → Act (List ℕ)) → ((w0 : World) → Starts ask k code bound w0 first given) → (steps : List Step) (t position : ℕ) → parts_run k.records first steps t ≡ true → are_followed first steps ≡ true → (find : List ℕ → Act Found) → find ≡ find_by K given (steps ++ Component t position ∷ []) first → Does ask k code bound (λ a. free_part_code access first steps t position a.stack) (λ d caught. ticked (find d >>= free K d access))
-  unfolding found_behind opened_outcome
-  part_freed_does access first given begun steps t position runs followed find is a w0 d place ks ops c l w le fits sees has =
+  -- where the place is that holds an access value says nothing of its path
+  same_place : (access n offset : ℕ) (path other : List ℕ) (d : List ℕ) (c : ℕ) (l : Log) (w : World) → free K d access (Names.InObject n offset path) c l w ≡ free K d access (Names.InObject n offset other) c l w
+  unfolding free free_value free_object freed read_found write_found opened_outcome
+  same_place access n offset path other d c l w = refl
+
+  -- and one whose access value is in a component, or in an object of an access type: what has it is found first
+  pub part_freed_does : (access : ℕ) (first : Start) (given : List ℕ → Act (List ℕ)) → ((w0 : World) → Starts ask k code bound w0 first given) → (steps : List Step) (t position : ℕ) → Agree k code steps → (last : Last code t position) → are_followed first steps ≡ true → (find : List ℕ → Act Found) → Ends K last given steps first find → Does ask k code bound (λ a. free_part_code access first steps t position a.stack) (λ d caught. ticked (find d >>= free K d access))
+  unfolding opened_outcome
+  part_freed_does access first given begun steps t position agree last followed find is a w0 d place ks ops c l w le fits sees has =
       let s = a.stack in
       let front = located_code first steps t s in
-      let last : List Line = (InstrOf.FreePart access t position, Operand (Record t) ∷ s) ∷ failed_code s in
+      let back : List Line = (InstrOf.FreePart access t position, Operand (Record t) ∷ s) ∷ failed_code s in
       let s0 = at d place ks ops l w in
       let next = arrives (lands a place) d (place + length (free_part_code access first steps t position s)) ks ops in
-      let end : place + length front + 1 + 1 ≡ place + length (free_part_code access first steps t position s) = omega (arith, length-append front last) in
-      let agree = agree_run k code setting.places first steps t runs in
+      let end : place + length front + 1 + 1 ≡ place + length (free_part_code access first steps t position s) = omega (arith, length-append front back) in
       let frees : Result Found → Act Done = on_goes (free K d access) in
-      let selected : Result Found → Act Done = λ r c1 l1 w1. bind (on_goes (stepping k t position) r c1 l1 w1) frees in
+      let selected : Result Found → Act Done = λ r c1 l1 w1. bind (on_goes last.step r c1 l1 w1) frees in
       subst (Runs ask code (Kept k code w0) 0 0 s0 c next)
-      (sym (ap (λ (g : List ℕ → Act Found). add 1 (bind (g d c l w) frees)) is
-      ∙ ap (λ z. add 1 (bind z frees)) (component_found K given first steps t position d c l w)
-      ∙ ap (add 1) (bind_bind (find_by K given steps first d c l w) (on_goes (stepping k t position)) frees)))
-      (added ask code (Kept k code w0) 1 0 0 0 0 s0 c next _ (omega arith) (omega arith)
-      (located_then ask k code bound w0 call default (λ r. Since k code w0) next selected d ks ops 0 0 first given (begun w0) steps t s place c l w followed agree.0 le fits (seen sees) (laid_front code place front last has)
+      (sym (ap (λ z. add 1 (bind z frees)) (is d c l w) ∙ ap (add 1) (bind_bind (find_by K given steps first d c l w) (on_goes last.step) frees)))
+      (added ask code (Kept k code w0) 1 4 4 0 0 s0 c next _ (omega arith) (omega arith)
+      (located_then ask k code bound w0 call default (λ r. Since k code w0) next selected d ks ops 4 4 first given (begun w0) steps t s place c l w followed agree le fits (seen sees) (laid_front code place front back has)
       (λ c1 l1 w1 lo fits1 p.
-      let q = component_of p (offset_in position (placed k t)) position in
+      let q = component_of p last.offset position in
       let s1 = at d (place + length front) ks (Located p ∷ ops) l1 w1 in
-      added ask code (Kept k code w0) 1 4 4 0 0 s1 c1 next (free K d access (found_at q) c1 l1 w1) (omega arith) (omega arith)
+      subst (λ o. Runs ask code (Kept k code w0) 4 4 s1 c1 next (bind o frees)) (sym (last.is p c1 l1 w1))
+      (added ask code (Kept k code w0) last.ticks 4 4 4 4 s1 c1 next (free K d access (Names.InObject p.object (p.offset + last.offset) (last.path p)) c1 l1 w1) (omega arith) (omega arith)
+      (subst (λ o. Runs ask code (Kept k code w0) 4 4 s1 c1 next o) (same_place access p.object (p.offset + last.offset) q.path (last.path p) d c1 l1 w1)
       (subst (λ z. Runs ask code (Kept k code w0) 4 4 s1 c1 (arrives (lands a place) d z ks ops) (free K d access (found_at q) c1 l1 w1)) end
-      (component_frees w0 q access (lands a place) d (place + length front) ks ops s1 c1 l1 w1 (omega (arith, lo, le)) fits1 (laid_back code place front last has).2.0
-      (by_code ask code d (place + length front) ks (Located p ∷ ops) l1 w1 (InstrOf.FreePart access t position) (laid_back code place front last has).0
-      ∙ ap (λ j. let x = component_of p j position in moved l1 (by_free_part code x (slice_get code.accesses.items access) (object_at x.object w1) ops (here d (place + length front) ks w1))) (agree.1 position)))))
-      (λ y c1 l1 w1 lo fits1. no_step ask code (Kept k code w0) 0 0 _ c1 0 next (Leaves (ByRaise y)) l1 w1 fits1 refl)))
+      (component_frees w0 q access (lands a place) d (place + length front) ks ops s1 c1 l1 w1 (omega (arith, lo, le)) fits1 (laid_back code place front back has).2.0
+      (by_code ask code d (place + length front) ks (Located p ∷ ops) l1 w1 (InstrOf.FreePart access t position) (laid_back code place front back has).0
+      ∙ ap (λ j. let x = component_of p j position in moved l1 (by_free_part code x (slice_get code.accesses.items access) (object_at x.object w1) ops (here d (place + length front) ks w1))) last.there))))))
+      (λ y c1 l1 w1 lo fits1. no_step ask code (Kept k code w0) 4 4 _ c1 0 next (Leaves (ByRaise y)) l1 w1 fits1 refl)))

@@ -9,7 +9,7 @@ use Rattle.ctl_program.specs.declared.types.Root.{Root}
 use Rattle.ctl_program.specs.declared.types.Root.TheVariants.{Controlled, Untagged, BlockPool, MarkPool}
 use Rattle.ctl_program.specs.declared.types.Component.{Component}
 use Rattle.ctl_program.specs.declared.types.RecordType.{RecordType}
-use Rattle.ctl_meaning.specs.Types.{Tables, Elementary, category_of, of_record, operation, operation_in, record_of, root_in, root_of}
+use Rattle.ctl_meaning.specs.Types.{Tables, Elementary, category_of, of_record, root_for, root_in, root_of}
 use Rattle.ctl_layout.specs.declared.forms.Form.{Form}
 use Rattle.ctl_layout.specs.declared.forms.Form.TheVariants as FormOf
 use Rattle.ctl_layout.specs.Records.{are_parts, extends_such, form_by, forms_of, have_constants, is_laid, is_laid_by, is_laid_form, is_part, is_plain, is_plain_by, is_plain_form, is_root_run, is_run_type, may_default}
@@ -80,7 +80,17 @@ pub record IsPlain (k : Tables) (t : ℕ) (r : RecordType) : Type 0 where
 
 abbrev pub IsPlainType : Tables → Ty → Type 0
 IsPlainType k (Record t) = (r : RecordType) × (slice_get k.records t ≡ Some r) × IsPlain k t r
-IsPlainType k _ = ⊥
+IsPlainType k _ = Unit {0}
+
+-- a scalar type is one of them
+pub scalar_plain : (k : Tables) (ty : Ty) → IsScalar ty → IsPlainType k ty
+scalar_plain k Integer h = tt
+scalar_plain k Count h = tt
+scalar_plain k Boolean h = tt
+scalar_plain k Address h = tt
+scalar_plain k Handle h = absurd h
+scalar_plain k (Access a) h = tt
+scalar_plain k (Record t) h = absurd h
 
 none_if : {A : Type 0} (o : Option A) → is_none o ≡ true → o ≡ None
 none_if None e = refl
@@ -290,12 +300,12 @@ never_mark_pool r (inl (inr h)) e = let bad : BlockPool ≡ MarkPool = sym h ∙
 never_mark_pool r (inr h) e = let bad : Untagged ≡ MarkPool = sym h ∙ e in cc
 
 -- an object of such a type is no mark pool
-pub no_mark_pool : (k : Tables) (ty : Ty) → IsPlainType k ty → root_of k (record_of ty) ≢ MarkPool
-unfolding root_of root_in record_of of_record
+pub no_mark_pool : (k : Tables) (ty : Ty) → IsPlainType k ty → root_for k ty ≢ MarkPool
+unfolding root_for root_of root_in of_record
 no_mark_pool k (Record t) h = λ e. never_mark_pool h.0 h.2.kind (sym (ap root_in h.1) ∙ e)
-no_mark_pool k Integer h = absurd h
-no_mark_pool k Count h = absurd h
-no_mark_pool k Boolean h = absurd h
-no_mark_pool k Address h = absurd h
-no_mark_pool k Handle h = absurd h
-no_mark_pool k (Access a) h = absurd h
+no_mark_pool k Integer h = λ e. absurd (cc e)
+no_mark_pool k Count h = λ e. absurd (cc e)
+no_mark_pool k Boolean h = λ e. absurd (cc e)
+no_mark_pool k Address h = λ e. absurd (cc e)
+no_mark_pool k Handle h = λ e. absurd (cc e)
+no_mark_pool k (Access a) h = λ e. absurd (cc e)

@@ -4,13 +4,14 @@ use Rattle.std.specs.Prelude.{◌||◌, slice_get}
 use Rattle.ctl_program.specs.declared.types.Ty.{Ty}
 use Rattle.ctl_program.specs.declared.types.Ty.TheVariants.{Integer, Count, Boolean, Address, Handle, Access, Record}
 use Rattle.ctl_tree.specs.declared.ending.Stop.TheVariants.{UseAfterFree}
+use Rattle.ctl_tree.specs.declared.event.Cause.TheVariants.{Scope}
 use Rattle.ctl_meaning.specs.World.{Slot, Object, Layer, Single, Sets, Log, World}
 use Rattle.ctl_meaning.specs.Ledger.{layers_of, drop_layer}
 use Rattle.ctl_meaning.specs.Activations.{slots_in, activation_at}
 use Rattle.ctl_meaning.specs.Changes.{object_at, take_layer, close_master, start_collections}
 use Rattle.ctl_meaning.specs.Choice.{Ask, picked}
 use Rattle.ctl_meaning.specs.Outcome.{program_error, raised_by, Way, ByRaise, Result, Goes, Leaves, Out, Act, Done, Fine, add, bind, on_goes, ◌>>◌, ticked, change, on_some, opened_outcome}
-use Rattle.ctl_meaning.specs.Types.{Tables}
+use Rattle.ctl_meaning.specs.Types.{Tables, has_controlled, of_record}
 use Rattle.ctl_meaning.specs.Names.{Call, Default, Tools, gone, existing}
 use Rattle.ctl_meaning.specs.Storage.{program_error_if}
 use Rattle.ctl_meaning.specs.Masters as Masters
@@ -19,7 +20,7 @@ use Rattle.ctl_code.specs.declared.code.Code.{Code}
 use Rattle.ctl_code.specs.declared.code.Instr.TheVariants as InstrOf
 use Rattle.ctl_code.specs.States.{After, AfterBlock, AfterProcedure, AfterFunction, AfterBody, Complete, Frame, Handling, handling, InMaster, Leaving, Emptying, State}
 use Rattle.ctl_code.specs.Table as Table
-use Rattle.ctl_code.specs.Table.{behind, by_transfer, handlers_in, finalize_declared, next_layer}
+use Rattle.ctl_code.specs.Table.{behind, by_transfer, handlers_in, finalize_declared, next_layer, with_end}
 use Rattle.ctl_code.specs.Steps.{moved, step}
 use Rattle.ctl_gen.proofs.Known.{IsPlainType}
 use Rattle.ctl_gen.proofs.Parted.{GivesDefaults}
@@ -28,7 +29,7 @@ use Rattle.ctl_gen.proofs.Worlds.{Settled, Since, object_fits, since_take, since
 use Rattle.ctl_gen.proofs.Setting.{Setting, tools_with, Calls, Told, Sure}
 use Rattle.ctl_gen.proofs.Cells.{by_code}
 use Rattle.ctl_gen.proofs.FinalizedParts.{heard, tells}
-use Rattle.ctl_gen.proofs.Finalize.{finalize_as, declared_runs}
+use Rattle.ctl_gen.proofs.Finalize.{finalize_as, declared_runs, untouched_runs}
 use Rattle.ctl_gen.proofs.Emptied.{group_runs}
 use Rattle.ctl_gen.proofs.Follow.{Runs, Comes, OutOf, at, gives, transferred, arrives, leads_out, raised_is, way_of, both, added, after_paid, one_step, stop_step, end_step, bind_bind}
 
@@ -92,21 +93,25 @@ module _ (ask : Ask) (k : Tables) (code : Code) (setting : Setting k code) (call
 
   -- a declared object that is found, or not, from the step that looks for it
   found_runs : (n : ℕ) (w0 : World) (ks : List Frame) (c : ℕ) (l : Log) (w : World) (s0 : State) → c ≤ bound → Since k code w0 w → (y : Option Object) → object_at n w ≡ y → IfFound (Settled k code w.ledger.next_master w.activations w.ledger.collections) y → step ask code s0 ≡ moved l (finalize_declared code n y ks w) → Runs ask code (Sure k code w0) 3 3 s0 c (tells ks) (on_some y gone (λ o. finalize_as K n o.ty) c l w)
-  unfolding opened_outcome gone
+  unfolding opened_outcome gone has_controlled of_record
   found_runs n w0 ks c l w s0 le fits None at known first = stop_step ask code (Sure k code w0) 3 3 s0 _ c 0 (tells ks) UseAfterFree l (omega arith) first refl refl
   found_runs n w0 ks c l w s0 le fits (Some o) at known first = by o.ty refl known.plain first
     where
       goal : Out Bool → Type 0
       goal x = Runs ask code (Sure k code w0) 3 3 s0 c (tells ks) x
 
+      -- one that is no record has no controlled part
+      elementary : (ty : Ty) → has_controlled k ty ≡ false → step ask code s0 ≡ tells ks (Goes false) l (with_end Scope n w) → Runs ask code (Sure k code w0) 3 3 s0 c (tells ks) (finalize_as K n ty c l w)
+      elementary ty none e = untouched_runs ask k code setting call default constants bound calls ty n w0 ks c l w s0 none fits e
+
       by : (ty : Ty) → o.ty ≡ ty → IsPlainType k ty → step ask code s0 ≡ moved l (finalize_declared code n (Some (record o { ty = ty })) ks w) → Runs ask code (Sure k code w0) 3 3 s0 c (tells ks) (finalize_as K n ty c l w)
       by (Record t) is known1 e = declared_runs ask k code setting call default constants bound calls t n w0 ks c l w s0 o le fits at is known1 e
-      by Integer is known1 e = absurd known1
-      by Boolean is known1 e = absurd known1
-      by Count is known1 e = absurd known1
-      by Address is known1 e = absurd known1
-      by Handle is known1 e = absurd known1
-      by (Access a) is known1 e = absurd known1
+      by Integer is known1 e = elementary Integer refl e
+      by Boolean is known1 e = elementary Boolean refl e
+      by Count is known1 e = elementary Count refl e
+      by Address is known1 e = elementary Address refl e
+      by Handle is known1 e = elementary Handle refl e
+      by (Access a) is known1 e = elementary (Access a) refl e
 
   -- a layer is taken out and finalized
   layer_runs : (n m : ℕ) (w0 : World) (ks : List Frame) (c : ℕ) (l : Log) (w : World) (s0 : State) → c ≤ bound → Since k code w0 w → step ask code s0 ≡ moved l (finalize_declared code n (object_at n w) ks (take_layer m w)) → Runs ask code (Sure k code w0) 0 0 s0 c (tells ks) (ticked (change (take_layer m) >> finalize_layer K (Single n)) c l w)

@@ -1,4 +1,6 @@
 pub mod Layouts
+pub mod FirstComponent
+pub mod GivenValue
 pub mod Depths
 pub mod Known
 pub mod Place
@@ -10,6 +12,7 @@ pub mod Values
 pub mod Cells
 pub mod Walked
 pub mod Parts
+pub mod LastSteps
 pub mod Begun
 pub mod Components
 pub mod Worth
@@ -39,7 +42,9 @@ pub mod KeptPaths
 pub mod CreatedParts
 pub mod TakenValues
 pub mod PartValues
+pub mod Storage
 pub mod Allocators
+pub mod AllocatedValues
 pub mod Designated
 pub mod Discriminants
 pub mod Sources

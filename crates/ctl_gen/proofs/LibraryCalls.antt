@@ -6,7 +6,6 @@ use Rattle.ctl_program.specs.declared.types.Ty.{Ty}
 use Rattle.ctl_program.specs.declared.types.Ty.TheVariants.{Count, Address}
 use Rattle.ctl_program.specs.declared.types.Var.{Var}
 use Rattle.ctl_program.specs.declared.expression.Step.{Step}
-use Rattle.ctl_program.specs.declared.expression.Step.TheVariants.{Component}
 use Rattle.ctl_tree.specs.declared.ending.Stop.TheVariants.{UseAfterFree}
 use Rattle.ctl_meaning.specs.World.{InBlock, BlockPool, Object, Log, World}
 use Rattle.ctl_meaning.specs.Lists.{opened_lists}
@@ -15,8 +14,8 @@ use Rattle.ctl_meaning.specs.Changes.{in_pools, object_at, set_value, write_cell
 use Rattle.ctl_meaning.specs.Pools.{block_pool_at, take_block}
 use Rattle.ctl_meaning.specs.Choice.{Ask}
 use Rattle.ctl_meaning.specs.Outcome.{storage_error, Way, ByRaise, Result, Goes, Leaves, Out, Gives, Stops, Act, Done, add, bind, on_goes, ◌>>=◌, ◌>>◌, done, nothing, raise, look, change, either, on_some, opened_outcome}
-use Rattle.ctl_meaning.specs.Types.{Tables, Composite, Elementary, offset_in, placed}
-use Rattle.ctl_meaning.specs.Names.{Found, InVariable, Call, Default, Tools, existing, gone, moved as found_behind, object_of, scalar_of, write_found, write_part, opened_names}
+use Rattle.ctl_meaning.specs.Types.{Tables, Composite, Elementary}
+use Rattle.ctl_meaning.specs.Names.{Found, InObject, InVariable, Call, Default, Tools, existing, gone, object_of, scalar_of, write_found, write_part, opened_names}
 use Rattle.ctl_meaning.specs.Finalization.{Spot}
 use Rattle.ctl_meaning.specs.Expressions.{Naming, Valued}
 use Rattle.ctl_meaning.specs.Storage.{library_allocate, library_deallocate, with_block_pool}
@@ -29,19 +28,20 @@ use Rattle.ctl_code.specs.declared.kinds.Kind.{Kind}
 use Rattle.ctl_code.specs.declared.kinds.Kind.TheVariants.{Operand}
 use Rattle.ctl_code.specs.States.{Word, Scalar, Located, Frame, Move, State}
 use Rattle.ctl_code.specs.Table as Table
-use Rattle.ctl_code.specs.Table.{GivenBack, Grant, Granted, Exhausted, UnknownPool, Returned, NotReturned, block_given, block_taken, block_taken_into, component_of, pool_grant, pool_return, stored, transfers}
+use Rattle.ctl_code.specs.Table.{GivenBack, Grant, Granted, Exhausted, UnknownPool, Returned, NotReturned, block_given, block_taken, block_taken_into, pool_grant, pool_return, stored, transfers}
 use Rattle.ctl_code.specs.Steps.{moved, step}
 use Rattle.ctl_code.specs.Windows.{depth}
 use Rattle.ctl_layout.specs.Around.{Line, new_operand, out_to}
-use Rattle.ctl_layout.specs.Parts.{Start, Variable, are_followed, located_code, parts_run}
+use Rattle.ctl_layout.specs.Parts.{Start, Variable, are_followed, located_code}
 use Rattle.ctl_layout.specs.Values.{ValueCode}
 use Rattle.ctl_layout.specs.Layout.{on_pool, on_pool_and_part, pool_operand, pool_type, request, values_code, values_then, with_pool, with_pool_and_part, with_types}
 use Rattle.ctl_code.proofs.Storage.{OnGrant, OnReturn}
 use Rattle.ctl_gen.proofs.Place.{Laid, laid_front, laid_back}
 use Rattle.ctl_gen.proofs.Worlds.{Since, Kept, since_of_pool, since_to_pool, since_value, since_written}
-use Rattle.ctl_gen.proofs.Setting.{ArePlaced, IsSeen, seen, tools_with}
+use Rattle.ctl_gen.proofs.Setting.{IsSeen, seen, tools_with}
 use Rattle.ctl_gen.proofs.Cells.{Any, by_code, here, landed, out_is}
-use Rattle.ctl_gen.proofs.Parts.{Leads, agree_run, component_found, composite_leads, find_by, found_at, stepping}
+use Rattle.ctl_gen.proofs.Parts.{Agree, Leads, composite_leads, find_by, found_at}
+use Rattle.ctl_gen.proofs.LastSteps.{Ends, Last}
 use Rattle.ctl_gen.proofs.Begun.{Starts, located_then, part_then}
 use Rattle.ctl_gen.proofs.Worth.{both_cell}
 use Rattle.ctl_gen.proofs.Expressions.{Uses, Value, value_runs}
@@ -313,28 +313,28 @@ module _ (ask : Ask) (k : Tables) (code : Code) (call : Call) (default : Default
         (λ q. taking_evaluates q g (sizes K) (alignments K) d) le fits (seen sees) has
         (λ q there c1. takes_runs v w0 d (lands a place) ks ops s c1 sees.long q there))
 
-    -- A component takes the address, of the part that is found behind the pool -----------------------------
+    -- A component takes the address, or an object of an elementary type: what has it is found behind the pool ----
 
-    module _ (placed_so : ArePlaced k code) (first : Start) (given : List ℕ → Act (List ℕ)) (begun : (w0 : World) → Starts ask k code bound w0 first given) (steps : List Step) (t position : ℕ) (runs : parts_run k.records first steps t ≡ true) (followed : are_followed first steps ≡ true) where
-      -- the component of a part
-      abbrev component : Spot → Spot
-      component r = component_of r (offset_in position (placed k t)) position
+    module _ (first : Start) (given : List ℕ → Act (List ℕ)) (begun : (w0 : World) → Starts ask k code bound w0 first given) (steps : List Step) (t position : ℕ) (agree : Agree k code steps) (last : Last code t position) (followed : are_followed first steps ≡ true) where
+      -- where it stands, behind the part that the steps find
+      abbrev holds_it : Spot → Found
+      holds_it r = InObject r.object (r.offset + last.offset) (last.path r)
 
       -- the instruction, behind the values
-      takes_into_runs : (w0 : World) (d : List ℕ) (e : Target) (ks : List Frame) (ops : List Word) (c : ℕ) (q r : Spot) (there : ℕ) → slice_get code.instructions.items there ≡ Some (InstrOf.TakeBlockInto pool_type t position) → Follows w0 d ks (arrives e d (there + 1) ks ops) (Located r ∷ Located q ∷ ops) 2 (takes q (found_at (component r))) there c
+      takes_into_runs : (w0 : World) (d : List ℕ) (e : Target) (ks : List Frame) (ops : List Word) (c : ℕ) (q r : Spot) (there : ℕ) → slice_get code.instructions.items there ≡ Some (InstrOf.TakeBlockInto pool_type t position) → Follows w0 d ks (arrives e d (there + 1) ks ops) (Located r ∷ Located q ∷ ops) 2 (takes q (holds_it r)) there c
       unfolding write_found write_part existing gone opened_outcome
       takes_into_runs w0 d e ks ops c q r there has [] c1 l w many lo fits = absurd (cc many)
       takes_into_runs w0 d e ks ops c q r there has (x ∷ []) c1 l w many lo fits = absurd (cc many)
       takes_into_runs w0 d e ks ops c q r there has (x ∷ y ∷ z ∷ ns) c1 l w many lo fits = absurd (cc many)
       takes_into_runs w0 d e ks ops c q r there has (alignment ∷ size ∷ []) c1 l w many lo fits =
-          requests (λ a. write_found (found_at (component r)) (a ∷ [])) (λ g. block_taken_into offset r g ops (here d there ks w)) w0 next ks s0 q size c1 l w fits
+          requests (λ a. write_found (holds_it r) (a ∷ [])) (λ g. block_taken_into offset r g ops (here d there ks w)) w0 next ks s0 q size c1 l w fits
           (by_code ask code d there ks (Scalar alignment ∷ Scalar size ∷ Located r ∷ Located q ∷ ops) l w (InstrOf.TakeBlockInto pool_type t position) has
-          ∙ ap (λ n. moved l (block_taken_into n r (pool_grant q.object size (block_pool_at q.object w.pools) w) ops (here d there ks w))) ((agree_run k code placed_so first steps t runs).1 position))
+          ∙ ap (λ n. moved l (block_taken_into n r (pool_grant q.object size (block_pool_at q.object w.pools) w) ops (here d there ks w))) last.there)
           refl refl refl
           (λ a u since go. writes a u (object_at r.object u) since go)
         where
           offset : ℕ
-          offset = offset_in position (placed k t)
+          offset = last.offset
 
           s0 : State
           s0 = at d there ks (Scalar alignment ∷ Scalar size ∷ Located r ∷ Located q ∷ ops) l w
@@ -349,8 +349,8 @@ module _ (ask : Ask) (k : Tables) (code : Code) (call : Call) (default : Default
           writes a u (Some o) since go = last_step ask code (Kept k code w0) 8 8 s0 c1 0 next (Goes tt) l (write_cells r.object (r.offset + offset) (a ∷ []) u) (omega arith) (since_written k code r.object (r.offset + offset) (a ∷ []) w0 u since) go
 
       -- a call of the library's Allocate, whose address it takes
-      pub part_allocated_does : (address : Naming) → address Elementary K ≡ find_by K given (steps ++ Component t position ∷ []) first → (size alignment : ValueCode) (sizes alignments : Valued) → ((w0 : World) → Value ask k code bound w0 size (sizes K)) → ((w0 : World) → Value ask k code bound w0 alignment (alignments K)) → Does ask k code bound (λ a. on_pool_and_part p first steps t (request size alignment) (InstrOf.TakeBlockInto pool_type t position) a.stack) (λ d caught. call_allocate pool address sizes alignments K d caught)
-      unfolding call_allocate object_of scalar found_behind opened_outcome
+      pub part_allocated_does : (address : Naming) → Ends K last given steps first (address Elementary K) → (size alignment : ValueCode) (sizes alignments : Valued) → ((w0 : World) → Value ask k code bound w0 size (sizes K)) → ((w0 : World) → Value ask k code bound w0 alignment (alignments K)) → Does ask k code bound (λ a. on_pool_and_part p first steps t (request size alignment) (InstrOf.TakeBlockInto pool_type t position) a.stack) (λ d caught. call_allocate pool address sizes alignments K d caught)
+      unfolding call_allocate object_of scalar opened_outcome
       part_allocated_does address is size alignment sizes alignments known also a w0 d place ks ops c l w le fits sees has =
           added ask code (Kept k code w0) 1 8 8 0 0 _ c next _ (omega arith) (omega arith)
           (pool_then (middle ++ back) m w0 d (lands a place) ks ops s place end c l w le fits (seen sees) has behind)
@@ -386,23 +386,22 @@ module _ (ask : Ask) (k : Tables) (code : Code) (call : Call) (default : Default
           behind : (q : Spot) (c1 : ℕ) (l1 : Log) (w1 : World) → c1 ≤ c → Since k code w0 w1 → Runs ask code (Kept k code w0) 8 8 (at d (place + length front) ks (Located q ∷ ops) l1 w1) c1 next (m (found_at q) c1 l1 w1)
           behind q c1 l1 w1 lo fits1 =
               let there = place + length front in
-              let last = place + length front + length middle in
+              let found = place + length front + length middle in
               let takes_it : Result Found → Act Done = on_goes (λ g. taking_of q g (sizes K) (alignments K) d) in
-              let selected : Result Found → Act Done = λ r c2 l2 w2. bind (on_goes (stepping k t position) r c2 l2 w2) takes_it in
-              let over : last + length back ≡ end = omega (arith, length-append front (middle ++ back), length-append middle back) in
+              let selected : Result Found → Act Done = λ r c2 l2 w2. bind (on_goes last.step r c2 l2 w2) takes_it in
+              let over : found + length back ≡ end = omega (arith, length-append front (middle ++ back), length-append middle back) in
               let rest = laid_back code place front (middle ++ back) has in
-              let agree = agree_run k code placed_so first steps t runs in
               subst (Runs ask code (Kept k code w0) 8 8 (at d there ks (Located q ∷ ops) l1 w1) c1 next)
-              (sym (ap (λ (g : List ℕ → Act Found). bind (g d c1 l1 w1) takes_it) is
-              ∙ ap (λ z. bind z takes_it) (component_found K given first steps t position d c1 l1 w1)
-              ∙ bind_bind (find_by K given steps first d c1 l1 w1) (on_goes (stepping k t position)) takes_it))
-              (located_then ask k code bound w0 call default (λ r. Kept k code w0 (way_of r)) next selected d ks (Located q ∷ ops) 8 8 first given (begun w0) steps t (with_pool s) there c1 l1 w1 followed agree.0 (omega (arith, lo, le)) fits1 (seen sees) (laid_front code there middle back rest)
+              (sym (ap (λ z. bind z takes_it) (is d c1 l1 w1) ∙ bind_bind (find_by K given steps first d c1 l1 w1) (on_goes last.step) takes_it))
+              (located_then ask k code bound w0 call default (λ r. Kept k code w0 (way_of r)) next selected d ks (Located q ∷ ops) 8 8 first given (begun w0) steps t (with_pool s) there c1 l1 w1 followed agree (omega (arith, lo, le)) fits1 (seen sees) (laid_front code there middle back rest)
               (λ c2 l2 w2 lo2 fits2 r.
-              let g = found_at (component r) in
-              added ask code (Kept k code w0) 1 8 8 8 8 _ c2 next (taking_of q g (sizes K) (alignments K) d c2 l2 w2) (omega arith) (omega arith)
-              (subst (λ z. Runs ask code (Kept k code w0) 8 8 (at d last ks (Located r ∷ Located q ∷ ops) l2 w2) c2 (arrives (lands a place) d z ks ops) (taking_of q g (sizes K) (alignments K) d c2 l2 w2)) over
-              (values_end xs (sizes K ∷ alignments K ∷ []) i (takes q g) (taking_of q g (sizes K) (alignments K) d) w0 d (lands a place) ks ops (Located r ∷ Located q ∷ ops) (with_pool_and_part t s) last c2 l2 w2 (known w0, (also w0, tt)) (taking_evaluates q g (sizes K) (alignments K) d) (omega (arith, lo, lo2, le)) fits2 (seen sees) (laid_back code there middle back rest)
-              (λ here_it. takes_into_runs w0 d (lands a place) ks ops c2 q r here_it))))
+              let g = holds_it r in
+              let s1 = at d found ks (Located r ∷ Located q ∷ ops) l2 w2 in
+              subst (λ o. Runs ask code (Kept k code w0) 8 8 s1 c2 next (bind o takes_it)) (sym (last.is r c2 l2 w2))
+              (added ask code (Kept k code w0) last.ticks 8 8 8 8 s1 c2 next (taking_of q g (sizes K) (alignments K) d c2 l2 w2) (omega arith) (omega arith)
+              (subst (λ z. Runs ask code (Kept k code w0) 8 8 s1 c2 (arrives (lands a place) d z ks ops) (taking_of q g (sizes K) (alignments K) d c2 l2 w2)) over
+              (values_end xs (sizes K ∷ alignments K ∷ []) i (takes q g) (taking_of q g (sizes K) (alignments K) d) w0 d (lands a place) ks ops (Located r ∷ Located q ∷ ops) (with_pool_and_part t s) found c2 l2 w2 (known w0, (also w0, tt)) (taking_evaluates q g (sizes K) (alignments K) d) (omega (arith, lo, lo2, le)) fits2 (seen sees) (laid_back code there middle back rest)
+              (λ here_it. takes_into_runs w0 d (lands a place) ks ops c2 q r here_it)))))
               (λ y c2 l2 w2 lo2 fits2. no_step ask code (Kept k code w0) 8 8 _ c2 0 next (Leaves (ByRaise y)) l2 w2 fits2 refl))
 
     -- Deallocate -----------------------------------------------------------------------------------------

@@ -1,7 +1,7 @@
 -- Parts of objects (4.1, 4.1.3): what a name denotes, what it means to find that, and the instructions that find it behind a variable. The
 -- walk of a name reads values on its way, so that what is said is what follows it: the part is on top, or an exception is under way, or it
 -- has stopped.
-use Rattle.std.proofs.Common.{◌≡◌, ℕ, zero, suc, ◌+◌, ◌≤◌, List, [], ◌∷◌, ◌++◌, length, Option, Some, None, true, false, refl, sym, ap, ◌∙◌, subst, arith}
+use Rattle.std.proofs.Common.{◌≡◌, ℕ, zero, suc, ◌+◌, ◌≤◌, List, [], ◌∷◌, ◌++◌, length, Option, Some, None, true, refl, sym, ap, ◌∙◌, subst, arith}
 use Rattle.std.specs.Prelude.{slice_get}
 use Rattle.ctl_program.specs.declared.types.Var.{Var}
 use Rattle.ctl_program.specs.declared.expression.Name.{Name, roll-Name, out-Name, roll-out-Name}
@@ -19,7 +19,7 @@ use Rattle.ctl_meaning.specs.Activations.{master_of}
 use Rattle.ctl_meaning.specs.Changes.{object_at, slot_at}
 use Rattle.ctl_meaning.specs.Choice.{Ask}
 use Rattle.ctl_meaning.specs.Outcome.{constraint_error, ByRaise, Result, Goes, Leaves, Out, Gives, Stops, Cut, Act, add, bind, on_goes, ◌>>=◌, done, nothing, stop, ticked, on_some, opened_outcome}
-use Rattle.ctl_meaning.specs.Types.{Tables, Category, Composite, offset_in, placed}
+use Rattle.ctl_meaning.specs.Types.{Tables, Category, Composite, Elementary, offset_in, placed}
 use Rattle.ctl_meaning.specs.Names.{Found, Alone, InObject, found_in, find_var, Tools, gone, existing, must_exist, dereferenced, read_found, read_part, scalar_of, moved as found_behind, one_step as step_meant, walk, begins_as}
 use Rattle.ctl_meaning.specs.Finalization.{Spot}
 use Rattle.ctl_meaning.specs.Expressions.{Naming, Valued, eval, eval_name, name_step as name_meaning, var_part}
@@ -33,11 +33,11 @@ use Rattle.ctl_code.specs.Steps.{moved, step}
 use Rattle.ctl_code.specs.Table.{by_locate, component_of, designated, fetch_from, fetched, offset_of, spot_of}
 use Rattle.ctl_code.specs.Windows.{depth, height}
 use Rattle.ctl_layout.specs.Around.{local_at, new_operand, out_to}
-use Rattle.ctl_layout.specs.Parts.{Start, OfVariable, OfValue, Reached, Variable, Part, Object, access_value, are_followed, are_walked, first_type, located_code, part_runs, parts_run, selects_code, selectors_run}
+use Rattle.ctl_layout.specs.Parts.{Start, OfVariable, OfValue, Reached, Variable, Part, Object, access_value, any_type, are_followed, are_walked, first_position, first_type, located_code, onward_code, part_runs, parts_run, selectors_run}
 use Rattle.ctl_layout.specs.Values.{given, reached_by, value_code}
 use Rattle.ctl_layout.proofs.TreeLayers.{reached_roll}
 use Rattle.ctl_gen.proofs.Known.{both_true}
-use Rattle.ctl_gen.proofs.Walked.{behind_is, start_of, steps_before, steps_of}
+use Rattle.ctl_gen.proofs.Walked.{AreSome, IsLed, behind_is, start_of, steps_before, steps_of}
 use Rattle.ctl_gen.proofs.Place.{Laid}
 use Rattle.ctl_gen.proofs.Worlds.{IsNoCopy}
 use Rattle.ctl_gen.proofs.Setting.{ArePlaced}
@@ -78,6 +78,7 @@ given_by n = given_layer (out-Name n)
 -- what a name means that reaches this, and begins with the value of this act, if it begins with one
 pub record Leads (K : Tools) (x : Reached) (act : List ℕ → Act (List ℕ)) (find : Naming) : Type 0 where
   pub walked : are_followed (start_of x) (steps_before x) ≡ true
+  pub led : IsLed x
   pub finds : (c : Category) → find c K ≡ find_as K act (begins_as (steps_of x) c) (steps_of x) (start_of x)
 
 name_rolled : (K : Tools) (y : Name-F Actual Expr Name Operand) (x : Reached) → reached_by (roll-Name y) ≡ Some x → Leads K x (given_layer y K) (eval_name (roll-Name y))
@@ -87,6 +88,7 @@ name_rolled K (Name-F.Variable v ss) x is =
     let h = behind_is (OfVariable v) ss x (sym (reached_roll (Name-F.Variable v ss)) ∙ is) in
     record {
       walked = h.walked;
+      led = h.led;
       finds = λ c. ap (λ (m : Naming). m c K) (name_roll (Name-F.Variable v ss)) ∙ ap (λ s. find_as K act (begins_as s c) s (OfVariable v)) h.steps ∙ ap (find_as K act (begins_as (steps_of x) c) (steps_of x)) h.start;
     }
 name_rolled K (Name-F.Given e ss) x is =
@@ -94,6 +96,7 @@ name_rolled K (Name-F.Given e ss) x is =
     let h = behind_is b ss x (sym (reached_roll (Name-F.Given e ss)) ∙ is) in
     record {
       walked = h.walked;
+      led = h.led;
       finds = λ c. ap (λ (m : Naming). m c K) (name_roll (Name-F.Given e ss)) ∙ ap (λ s. find_as K (eval e K) (begins_as s c) s b) h.steps ∙ ap (find_as K (eval e K) (begins_as (steps_of x) c) (steps_of x)) h.start;
     }
 
@@ -116,6 +119,17 @@ pub part_leads : (K : Tools) (b : Start) (steps : List Step) (t position : ℕ) 
 part_leads K b steps t position act find c h =
     let all = steps ++ Component t position ∷ [] in
     h.finds c ∙ ap (λ q. find_as K act q all b) (begins_part steps t position c ∙ sym (begins_part steps t position Composite))
+
+-- and so it is of an object, to which steps lead
+pub object_leads : (K : Tools) (b : Start) (steps : List Step) (act : List ℕ → Act (List ℕ)) (find : Naming) → Leads K (Object b steps) act find → find Elementary K ≡ find_by K act steps b
+unfolding begins_as
+object_leads K b steps act find h = h.finds Elementary ∙ ap (λ q. find_as K act q steps b) (by steps h.led)
+  where
+    by : (ss : List Step) → AreSome ss → begins_as ss Elementary ≡ begins_as ss Composite
+    by [] some = absurd some
+    by (Component u i ∷ ss) some = refl
+    by (Dereference ∷ ss) some = refl
+    by (Narrow u ∷ ss) some = refl
 
 -- What is found -----------------------------------------------------------------------------------
 
@@ -199,10 +213,11 @@ on_top n d place ks ops l w = refl
 -- Where components lie ------------------------------------------------------------------------------
 
 module _ (k : Tables) (code : Code) where
-  -- the component of each of these selectors lies where the tables say
+  -- the component of each of these selectors lies where the tables say, and the value of each object that is dereferenced in its first cell
   abbrev pub Agree : List Step → Type 0
   Agree [] = Unit {0}
   Agree (Component t position ∷ steps) = (offset_of code t position ≡ offset_in position (placed k t)) × Agree steps
+  Agree (Dereference ∷ steps) = (offset_of code any_type first_position ≡ 0) × Agree steps
   Agree (_ ∷ steps) = Agree steps
 
   -- and so does the one that a name denotes
@@ -214,13 +229,13 @@ module _ (k : Tables) (code : Code) where
   module _ (placed_so : ArePlaced k code) where
     agree_steps : (steps : List Step) → selectors_run k.records steps ≡ true → Agree steps
     agree_steps [] h = tt
-    agree_steps (Component u i ∷ steps) h = let g = both_true _ _ h in (placed_so u i g.0, agree_steps steps g.1)
-    agree_steps (Dereference ∷ steps) h = agree_steps steps h
+    agree_steps (Component u i ∷ steps) h = let g = both_true _ _ h in (placed_so.each u i g.0, agree_steps steps g.1)
+    agree_steps (Dereference ∷ steps) h = (placed_so.first any_type, agree_steps steps h)
     agree_steps (Narrow u ∷ steps) h = agree_steps steps h
 
     -- and so does each component of the type behind them
     pub agree_run : (b : Start) (steps : List Step) (t : ℕ) → parts_run k.records b steps t ≡ true → Agree steps × ((position : ℕ) → offset_of code t position ≡ offset_in position (placed k t))
-    agree_run b steps t h = let g = both_true _ _ (both_true _ _ h).1 in (agree_steps steps g.0, λ position. placed_so t position g.1)
+    agree_run b steps t h = let g = both_true _ _ (both_true _ _ h).1 in (agree_steps steps g.0, λ position. placed_so.each t position g.1)
 
     pub agree_part : (x : Reached) → part_runs x k.records ≡ true → AgreePart x
     agree_part (Variable v) h = tt
@@ -229,12 +244,12 @@ module _ (k : Tables) (code : Code) where
 
 -- Instructions ------------------------------------------------------------------------------------
 
--- a cell is read and dereferenced, each of which is paid by the tick of its step
-paid_twice : {A : Type 0} (o : Out Found) (f : Result Found → Act Found) (g : Result Found → Act A) → bind (add 1 (bind (add 1 (add 0 o)) f)) g ≡ add 1 (add 1 (add 0 (bind (bind o f) g)))
-paid_twice o f g =
-    ap (λ z. bind (add 1 z) g) (bind_add 1 (add 0 o) f ∙ ap (add 1) (bind_add 0 o f))
-    ∙ bind_add 1 (add 1 (add 0 (bind o f))) g
-    ∙ ap (add 1) (bind_add 1 (add 0 (bind o f)) g ∙ ap (add 1) (bind_add 0 (bind o f) g))
+-- a value is dereferenced, which is paid by the tick of its step
+paid_first : {A : Type 0} (o : Out Found) (f : Result Found → Act Found) (g : Result Found → Act A) → bind (bind (add 1 (add 0 o)) f) g ≡ add 1 (add 0 (bind (bind o f) g))
+paid_first o f g =
+    ap (λ z. bind z g) (bind_add 1 (add 0 o) f ∙ ap (add 1) (bind_add 0 o f))
+    ∙ bind_add 1 (add 0 (bind o f)) g
+    ∙ ap (add 1) (bind_add 0 (bind o f) g)
 
 module _ (ask : Ask) (code : Code) (K : Tools) where
   -- what follows a name, where this is seen, with these operands below the part: it is on top, or it was null that was dereferenced
@@ -267,14 +282,19 @@ module _ (ask : Ask) (code : Code) (K : Tools) where
             (added_to ask code Ends 0 (b + 3) (h + 3) (b + 3) (h + 3) s0 c next (bind (f m c l w) g) (omega arith) (omega arith)
             (one_step_to ask code Ends b h (b + 3) (h + 3) s0 (at d (place + 1) ks (Located (whole_spot (suc n)) ∷ ops) l w) c c next _ (omega arith) (omega arith) (omega arith) (omega arith) first (then (suc n))))
 
-    -- the step that reads an access value, and what follows
-    reads_access : (b h n t cell place : ℕ) (s0 : State) (f : Found → Act Found) → step ask code s0 ≡ at d place ks (Scalar n ∷ ops) l w → slice_get code.instructions.items place ≡ Some (InstrOf.Dereference t cell) → ((m : ℕ) → Meets b h (at d (place + 1) ks (Located (whole_spot m) ∷ ops) l w) (f (found_at (whole_spot m)) c l w)) → Raises b h → Meets b h s0 (add 1 (bind (add 1 (add 0 (dereferenced n c l w))) (on_goes f)))
-    reads_access b h n t cell place s0 f first has then raises =
-        subst (RunsTo ask code Ends b h s0 c next) (sym (paid_twice (dereferenced n c l w) (on_goes f) g))
-        (added_to ask code Ends 1 b h b h s0 c next _ (omega arith) (omega arith)
+    -- the step that puts an access value on top, and what follows its dereference
+    reads_value : (b h n t cell place : ℕ) (s0 : State) (f : Found → Act Found) → step ask code s0 ≡ at d place ks (Scalar n ∷ ops) l w → slice_get code.instructions.items place ≡ Some (InstrOf.Dereference t cell) → ((m : ℕ) → Meets b h (at d (place + 1) ks (Located (whole_spot m) ∷ ops) l w) (f (found_at (whole_spot m)) c l w)) → Raises b h → Meets b h s0 (bind (add 1 (add 0 (dereferenced n c l w))) (on_goes f))
+    reads_value b h n t cell place s0 f first has then raises =
+        subst (RunsTo ask code Ends b h s0 c next) (sym (paid_first (dereferenced n c l w) (on_goes f) g))
         (added_to ask code Ends 1 (b + 4) (h + 4) b h s0 c next _ (omega arith) (omega arith)
         (added_to ask code Ends 0 (b + 4) (h + 4) (b + 4) (h + 4) s0 c next _ (omega arith) (omega arith)
-        (one_step_to ask code Ends (b + 3) (h + 3) (b + 4) (h + 4) s0 (at d place ks (Scalar n ∷ ops) l w) c c next _ (omega arith) (omega arith) (omega arith) (omega arith) first (designates b h n t cell place f has then raises)))))
+        (one_step_to ask code Ends (b + 3) (h + 3) (b + 4) (h + 4) s0 (at d place ks (Scalar n ∷ ops) l w) c c next _ (omega arith) (omega arith) (omega arith) (omega arith) first (designates b h n t cell place f has then raises))))
+
+    -- where the tick of another step of the name comes before
+    reads_access : (b h n t cell place : ℕ) (s0 : State) (f : Found → Act Found) → step ask code s0 ≡ at d place ks (Scalar n ∷ ops) l w → slice_get code.instructions.items place ≡ Some (InstrOf.Dereference t cell) → ((m : ℕ) → Meets b h (at d (place + 1) ks (Located (whole_spot m) ∷ ops) l w) (f (found_at (whole_spot m)) c l w)) → Raises b h → Meets b h s0 (add 1 (bind (add 1 (add 0 (dereferenced n c l w))) (on_goes f)))
+    reads_access b h n t cell place s0 f first has then raises =
+        subst (RunsTo ask code Ends b h s0 c next) (sym (bind_add 1 (bind (add 1 (add 0 (dereferenced n c l w))) (on_goes f)) g))
+        (added_to ask code Ends 1 b h b h s0 c next _ (omega arith) (omega arith) (reads_value b h n t cell place s0 f first has then raises))
 
     -- a component in place of the part that has it
     puts_part : (b h u i part place : ℕ) (p : Spot) (f : Found → Act Found) → offset_of code u i ≡ offset_in i (placed K.tables u) → slice_get code.instructions.items place ≡ Some (InstrOf.Select u i part) → ((q : Spot) → Meets b h (at d (place + 1) ks (Located q ∷ ops) l w) (f (found_at q) c l w)) → Meets b h (at d place ks (Located p ∷ ops) l w) (add 1 (f (found_behind (offset_in i (placed K.tables u)) i (found_at p)) c l w))
@@ -306,8 +326,26 @@ module _ (ask : Ask) (code : Code) (K : Tools) where
         by None first = stop_step_to ask code Ends b h s0 _ c 2 next UseAfterFree l (omega arith) first refl refl
         by (Some o) first = reads_access b h (scalar_of (cells_at offset 1 o)) t cell (place + 1) s0 (walk K more) first has1 then raises
 
-    -- from a part on top to the one behind these steps, the first of which is no dereference; there are at most n of them
-    selects_in : (n b h : ℕ) (steps : List Step) (t : ℕ) (s : List Kind) (p : Spot) (place : ℕ) → length steps ≤ n → are_walked true steps ≡ true → Agree K.tables code steps → Laid code place (selects_code steps t s) → Puts b h (place + length (selects_code steps t s)) → Raises b h → Meets b h (at d place ks (Located p ∷ ops) l w) (walk K steps (found_at p) c l w)
+    -- the object on top, whose value is dereferenced
+    takes_whole : (b h t cell place : ℕ) (s : List Kind) (p : Spot) (more : List Step) → offset_of code any_type first_position ≡ 0 → slice_get code.instructions.items place ≡ Some (InstrOf.TakePart any_type first_position access_value (new_operand s)) → slice_get code.instructions.items (place + 1) ≡ Some (InstrOf.Dereference t cell) → ((m : ℕ) → Meets b h (at d (place + 1 + 1) ks (Located (whole_spot m) ∷ ops) l w) (walk K more (found_at (whole_spot m)) c l w)) → Raises b h
+        → Meets b h (at d place ks (Located p ∷ ops) l w) (walk K (Dereference ∷ more) (found_at p) c l w)
+    unfolding walk step_meant read_found read_part existing gone opened_outcome
+    takes_whole b h t cell place s p more lies has has1 then raises =
+        let same : p.offset + 0 ≡ p.offset = omega arith in
+        by (object_at p.object w)
+        (by_code ask code d place ks (Located p ∷ ops) l w (InstrOf.TakePart any_type first_position access_value (new_operand s)) has
+        ∙ ap (λ j. moved l (fetch_from j p NamedOf.Operand ops (here d place ks w))) lies
+        ∙ ap (λ j. moved l (fetched j (object_at p.object w) NamedOf.Operand ops (here d place ks w))) same)
+      where
+        s0 : State
+        s0 = at d place ks (Located p ∷ ops) l w
+
+        by : (x : Option ObjectOf) → step ask code (at d place ks (Located p ∷ ops) l w) ≡ moved l (fetched p.offset x NamedOf.Operand ops (here d place ks w)) → Meets b h (at d place ks (Located p ∷ ops) l w) (bind (add 1 (bind (on_some x (stop UseAfterFree) (λ o. done (cells_at p.offset 1 o)) c l w) (on_goes (λ v. dereferenced (scalar_of v))))) (on_goes (walk K more)))
+        by None first = stop_step_to ask code Ends b h s0 _ c 1 next UseAfterFree l (omega arith) first refl refl
+        by (Some o) first = reads_value b h (scalar_of (cells_at p.offset 1 o)) t cell (place + 1) s0 (walk K more) first has1 then raises
+
+    -- from a part on top to the one behind these steps; there are at most n of them
+    selects_in : (n b h : ℕ) (steps : List Step) (t : ℕ) (s : List Kind) (p : Spot) (place : ℕ) → length steps ≤ n → are_walked steps ≡ true → Agree K.tables code steps → Laid code place (onward_code steps t s) → Puts b h (place + length (onward_code steps t s)) → Raises b h → Meets b h (at d place ks (Located p ∷ ops) l w) (walk K steps (found_at p) c l w)
     unfolding walk step_meant opened_outcome
     selects_in n b h [] t s p place le walked agree has then raises =
         let e : place + 0 ≡ place = omega arith in
@@ -318,20 +356,22 @@ module _ (ask : Ask) (code : Code) (K : Tools) where
         puts_part b h u i t place p (walk K []) agree.0 has.0 (λ q. selects_in n b h [] t s q (place + 1) (omega arith) refl tt tt (subst (Puts b h) e then) raises)
     selects_in (suc n) b h (Component u i ∷ Component u2 i2 ∷ more) t s p place le walked agree has then raises =
         let rest = Component u2 i2 ∷ more in
-        let e : place + length (selects_code (Component u i ∷ rest) t s) ≡ place + 1 + length (selects_code rest t s) = omega arith in
+        let e : place + length (onward_code (Component u i ∷ rest) t s) ≡ place + 1 + length (onward_code rest t s) = omega arith in
         puts_part b h u i u2 place p (walk K rest) agree.0 has.0 (λ q. selects_in n b h rest t s q (place + 1) (omega (arith, le)) walked agree.1 has.2 (subst (Puts b h) e then) raises)
     selects_in (suc n) b h (Component u i ∷ Dereference ∷ more) t s p place le walked agree has then raises =
-        let e : place + length (selects_code (Component u i ∷ Dereference ∷ more) t s) ≡ place + 1 + 1 + length (selects_code more t s) = omega arith in
-        takes_part b h u i (first_type more t) (height s) place s p more agree.0 has.0 has.2.0 (λ m. selects_in n b h more t s (whole_spot m) (place + 1 + 1) (omega (arith, le)) walked agree.1 has.2.2 (subst (Puts b h) e then) raises) raises
+        let e : place + length (onward_code (Component u i ∷ Dereference ∷ more) t s) ≡ place + 1 + 1 + length (onward_code more t s) = omega arith in
+        takes_part b h u i (first_type more t) (height s) place s p more agree.0 has.0 has.2.0 (λ m. selects_in n b h more t s (whole_spot m) (place + 1 + 1) (omega (arith, le)) walked agree.1.1 has.2.2 (subst (Puts b h) e then) raises) raises
     selects_in (suc n) b h (Component u i ∷ Narrow u2 ∷ more) t s p place le walked agree has then raises = absurd (cc walked)
-    selects_in (suc n) b h (Dereference ∷ steps) t s p place le walked agree has then raises = absurd (cc walked)
+    selects_in (suc n) b h (Dereference ∷ more) t s p place le walked agree has then raises =
+        let e : place + length (onward_code (Dereference ∷ more) t s) ≡ place + 1 + 1 + length (onward_code more t s) = omega arith in
+        takes_whole b h (first_type more t) (height s) place s p more agree.0 has.0 has.2.0 (λ m. selects_in n b h more t s (whole_spot m) (place + 1 + 1) (omega (arith, le)) walked agree.1 has.2.2 (subst (Puts b h) e then) raises) raises
     selects_in (suc n) b h (Narrow u ∷ steps) t s p place le walked agree has then raises = absurd (cc walked)
 
-    pub selects : (b h : ℕ) (steps : List Step) (t : ℕ) (s : List Kind) (p : Spot) (place : ℕ) → are_walked true steps ≡ true → Agree K.tables code steps → Laid code place (selects_code steps t s) → Puts b h (place + length (selects_code steps t s)) → Raises b h → Meets b h (at d place ks (Located p ∷ ops) l w) (walk K steps (found_at p) c l w)
+    pub selects : (b h : ℕ) (steps : List Step) (t : ℕ) (s : List Kind) (p : Spot) (place : ℕ) → are_walked steps ≡ true → Agree K.tables code steps → Laid code place (onward_code steps t s) → Puts b h (place + length (onward_code steps t s)) → Raises b h → Meets b h (at d place ks (Located p ∷ ops) l w) (walk K steps (found_at p) c l w)
     selects b h steps t s p place = selects_in (length steps) b h steps t s p place (omega arith)
 
     -- from a variable of a record type
-    object_from : (b h : ℕ) (v : Var) (steps : List Step) (first t : ℕ) (s : List Kind) (place : ℕ) → are_walked true steps ≡ true → Agree K.tables code steps → IsNoCopy (content_of d v w) → length d ≡ depth s → slice_get code.instructions.items place ≡ Some (InstrOf.Locate (out_to s v) v.slot first (height s)) → Laid code (place + 1) (selects_code steps t s) → Puts b h (place + 1 + length (selects_code steps t s)) → Raises b h → Meets b h (at d place ks ops l w) (variable_as K Composite steps v d c l w)
+    object_from : (b h : ℕ) (v : Var) (steps : List Step) (first t : ℕ) (s : List Kind) (place : ℕ) → are_walked steps ≡ true → Agree K.tables code steps → IsNoCopy (content_of d v w) → length d ≡ depth s → slice_get code.instructions.items place ≡ Some (InstrOf.Locate (out_to s v) v.slot first (height s)) → Laid code (place + 1) (onward_code steps t s) → Puts b h (place + 1 + length (onward_code steps t s)) → Raises b h → Meets b h (at d place ks ops l w) (variable_as K Composite steps v d c l w)
     unfolding opened_outcome
     object_from b h v steps first t s place walked agree uncopied long has rest then raises =
         subst (Meets b h (at d place ks ops l w)) (sym (finds_composite K v steps d c l w uncopied))
@@ -347,19 +387,19 @@ module _ (ask : Ask) (code : Code) (K : Tools) where
             (selects b h steps t s p (place + 1) walked agree rest then raises)))
 
     -- what finds a part behind a variable, and what follows it: each instruction is paid by the tick of its step of the name
-    pub variable_from : (b h : ℕ) (v : Var) (steps : List Step) (t : ℕ) (s : List Kind) (place : ℕ) → are_walked false steps ≡ true → Agree K.tables code steps → IsNoCopy (content_of d v w) → length d ≡ depth s → Laid code place (located_code (OfVariable v) steps t s) → Puts b h (place + length (located_code (OfVariable v) steps t s)) → Raises b h → Meets b h (at d place ks ops l w) (variable_by K steps v d c l w)
+    pub variable_from : (b h : ℕ) (v : Var) (steps : List Step) (t : ℕ) (s : List Kind) (place : ℕ) → are_walked steps ≡ true → Agree K.tables code steps → IsNoCopy (content_of d v w) → length d ≡ depth s → Laid code place (located_code (OfVariable v) steps t s) → Puts b h (place + length (located_code (OfVariable v) steps t s)) → Raises b h → Meets b h (at d place ks ops l w) (variable_by K steps v d c l w)
     unfolding begins_as
     variable_from b h v [] t s place walked agree uncopied long has then raises =
         let e : place + 1 ≡ place + 1 + 0 = omega arith in
         object_from b h v [] t t s place refl tt uncopied long has.0 has.2 (subst (Puts b h) e then) raises
     variable_from b h v (Component u i ∷ steps) t s place walked agree uncopied long has then raises =
         let all = Component u i ∷ steps in
-        let e : place + length (located_code (OfVariable v) all t s) ≡ place + 1 + length (selects_code all t s) = omega arith in
+        let e : place + length (located_code (OfVariable v) all t s) ≡ place + 1 + length (onward_code all t s) = omega arith in
         object_from b h v all u t s place walked agree uncopied long has.0 has.2 (subst (Puts b h) e then) raises
     variable_from b h v (Dereference ∷ steps) t s place walked agree uncopied long has then raises =
         let s0 = at d place ks ops l w in
-        let e : place + length (located_code (OfVariable v) (Dereference ∷ steps) t s) ≡ place + 1 + 1 + length (selects_code steps t s) = omega arith in
+        let e : place + length (located_code (OfVariable v) (Dereference ∷ steps) t s) ≡ place + 1 + 1 + length (onward_code steps t s) = omega arith in
         subst (Meets b h s0) (sym (reads_variable K v steps d c l w))
         (reads_access b h (value_of d v w) (first_type steps t) (height s) (place + 1) s0 (walk K steps) (read_step ask K.tables code 0 w (local_at s v) v access_value (new_operand s) s d place ks ops l w long has.0 ∙ on_top (value_of d v w) d (place + 1) ks ops l w) has.2.0
-        (λ m. selects b h steps t s (whole_spot m) (place + 1 + 1) walked agree has.2.2 (subst (Puts b h) e then) raises) raises)
+        (λ m. selects b h steps t s (whole_spot m) (place + 1 + 1) walked agree.1 has.2.2 (subst (Puts b h) e then) raises) raises)
     variable_from b h v (Narrow u ∷ steps) t s place walked agree uncopied long has then raises = absurd (cc walked)

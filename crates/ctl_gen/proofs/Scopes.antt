@@ -16,11 +16,11 @@ use Rattle.ctl_code.specs.declared.code.Layout.{Layout}
 use Rattle.ctl_code.specs.declared.code.Operations.{Operations}
 use Rattle.ctl_code.specs.declared.code.Code.{Code}
 use Rattle.ctl_code.specs.Table.{begun_in, begun_of, called_among, controlled_in, controlled_of, operation_in, operation_of}
-use Rattle.ctl_code.specs.Valid.{AreBegunBy, AreInScope, HasFormals, IsBegunBy, IsDeclarable, IsDeclaredIn, IsInScope, IsStorageInScope, IsValid, PositionsRise, TakesObject, TakesStorage, storage_formals}
+use Rattle.ctl_code.specs.Valid.{AreBegunBy, AreInScope, HasFormals, IsBegunBy, IsDeclarable, IsDeclaredIn, IsInScope, IsStorageInScope, IsValid, MayLie, PositionsRise, TakesObject, TakesStorage, storage_formals}
 use Rattle.ctl_code.proofs.Declarable.{layout_of}
 use Rattle.ctl_gen.proofs.Each.{IfFound}
 use Rattle.ctl_gen.proofs.Collections.{home, belongs_home}
-use Rattle.ctl_gen.proofs.Worlds.{Fits, IsInside, IsNested, Settled, Since, object_fits, origin_nested, still_home}
+use Rattle.ctl_gen.proofs.Worlds.{Fits, IsNested, Settled, Since, object_fits, origin_nested, still_home}
 
 -- Inside more masters -------------------------------------------------------------------------------
 
@@ -144,7 +144,7 @@ home_is k code w o h = belongs_home h.master w o.origin h.origin
 pub type_inside : (k : Tables) (code : Code) (n : ℕ) (w : World) (o : Object) (t : ℕ) → Fits k code w → object_at n w ≡ Some o → o.ty ≡ Record t → IsDeclarable code (length (home_of o.origin w)) t
 type_inside k code n w o t fits at ty =
     let h = subst (IfFound (Settled k code w.ledger.next_master w.activations w.ledger.collections)) at (object_fits k code n w fits) in
-    subst (λ (d : List ℕ). IsDeclarable code (length d) t) (sym (home_is k code w o h)) (subst (λ y. IsInside code y (length (home h.master w.activations))) ty h.inside)
+    subst (λ (d : List ℕ). IsDeclarable code (length d) t) (sym (home_is k code w o h)) (subst (λ y. MayLie code (length (home h.master w.activations)) y) ty h.inside)
 
 -- since an earlier world the operations of the object of this number have been called among at least so many masters, whenever it existed,
 -- which are nested: those of a statement that assigns, if one does, or else its own

@@ -26,12 +26,13 @@ use Rattle.ctl_code.specs.declared.kinds.Kind.{Kind}
 use Rattle.ctl_code.specs.States.{Move, Word, Scalar, Handed, Complete, After, AfterBlock, AfterProcedure, AfterFunction, AfterBody, Frame, State}
 use Rattle.ctl_code.specs.Table.{Here, by_new, called_among, enter_body, new_with, offset_of, operation_of, or_complete, pool_in, set_seen, size_of, units_of, with_values}
 use Rattle.ctl_code.specs.Steps.{moved, step}
-use Rattle.ctl_code.specs.Valid.{IsDeclarable, IsValid, kinds_at}
+use Rattle.ctl_code.specs.Valid.{IsValid, MayLie, kinds_at}
 use Rattle.ctl_code.specs.Windows.{depth}
+use Rattle.ctl_layout.specs.Parts.{first_position}
 use Rattle.ctl_layout.specs.Records.{adjust_by, is_laid}
 use Rattle.ctl_layout.specs.Layout.{home_of}
 use Rattle.ctl_layout.specs.Run.{IsBody}
-use Rattle.ctl_gen.proofs.Known.{IsPlainType}
+use Rattle.ctl_gen.proofs.Known.{IsPlainType, IsScalar}
 use Rattle.ctl_gen.proofs.Parted.{Agree, GivesDefaults}
 use Rattle.ctl_gen.proofs.Each.{Each}
 use Rattle.ctl_gen.proofs.Collections.{home}
@@ -39,9 +40,11 @@ use Rattle.ctl_gen.proofs.Worlds.{IsNested, IsPlainSlot, Since, home_nested}
 use Rattle.ctl_gen.proofs.Scopes.{IsCallable, IsSurrounded}
 use Rattle.ctl_gen.proofs.Follow.{IsRaise, Runs, RunsTo, at, gives, transferred}
 
--- the first cells of the components of types that are laid out are those of the tables
-abbrev pub ArePlaced : Tables → Code → Type 0
-ArePlaced k code = (t position : ℕ) → is_laid k.records t ≡ true → offset_of code t position ≡ offset_in position (placed k t)
+-- the first cells of the components of types that are laid out are those of the tables, and the first component of each type begins with the
+-- first cell
+pub record ArePlaced (k : Tables) (code : Code) : Type 0 where
+  pub each : (t position : ℕ) → is_laid k.records t ≡ true → offset_of code t position ≡ offset_in position (placed k t)
+  pub first : (t : ℕ) → offset_of code t first_position ≡ 0
 
 -- the machine's table names the operations and the components of the record types, the operations and all that have an entry are among
 -- these subprograms, and the code is well formed
@@ -148,28 +151,45 @@ IsSure (Some y) = ⊥
 abbrev pub Sure : (k : Tables) (code : Code) → World → Option Way → World → Type 0
 Sure k code w0 y w = IsSure y × Since k code w0 w
 
--- a record type is declared around the collection that an access type has where a display is seen, if one stands
-abbrev pub MayAllocate : Code → ℕ → ℕ → List ℕ → World → Type 0
-MayAllocate code access t d w = (x : Collection) → set_seen (slice_get code.accesses.items access) d w ≡ Some x → IsDeclarable code (length (home x.master w.activations)) t
+-- what a step of an allocator makes: an object of a type by default, or one of a record type with a value that is at hand
+pub data Made : Type 0 where
+  ByDefault : (ty : Ty) → Made
+  Copied : (t : ℕ) (v : List ℕ) → Made
 
--- the step of an allocator whose value is at hand, if it has one, with storage of a pool
-abbrev pub by_allocator : Code → ℕ → Option (List ℕ) → Option Var → Option Collection → List Word → Here → Move
-by_allocator code t None = by_new code t
-by_allocator code t (Some v) = new_with code t v
+abbrev pub made_type : Made → Ty
+made_type (ByDefault ty) = ty
+made_type (Copied t v) = Record t
+
+abbrev pub made_value : Made → Option (List ℕ)
+made_value (ByDefault ty) = None
+made_value (Copied t v) = Some v
+
+-- objects of a type may lie in the collection that an access type has where a display is seen, if one stands
+abbrev pub MayAllocate : Code → ℕ → Ty → List ℕ → World → Type 0
+MayAllocate code access ty d w = (x : Collection) → set_seen (slice_get code.accesses.items access) d w ≡ Some x → MayLie code (length (home x.master w.activations)) ty
+
+-- that step, with storage of a pool
+abbrev pub by_allocator : Code → Made → Option Var → Option Collection → List Word → Here → Move
+by_allocator code (ByDefault ty) = by_new code ty
+by_allocator code (Copied t v) = new_with code t v
 
 -- the place that an allocator leads to, behind two instructions: the next one is for the address that a user's Allocate gave (13.11)
 abbrev pub behind_allocator : ℕ → ℕ
 behind_allocator place = place + 1 + 1
 
 -- that instruction stands behind it
-abbrev pub IsServed : (code : Code) → ℕ → Option (List ℕ) → ℕ → Type 0
-IsServed code t None place = (ty : Ty) × (at : ℕ) × (slice_get code.instructions.items (place + 1) ≡ Some (InstrOf.NewIn t ty at))
-IsServed code t (Some v) place = (ty : Ty) × (at : ℕ) × (slice_get code.instructions.items (place + 1) ≡ Some (InstrOf.NewCopyIn t ty at))
+abbrev pub IsServed : (code : Code) → Made → ℕ → Type 0
+IsServed code (ByDefault of) place = (ty : Ty) × (at : ℕ) × (slice_get code.instructions.items (place + 1) ≡ Some (InstrOf.NewIn of ty at))
+IsServed code (Copied t v) place = (ty : Ty) × (at : ℕ) × (slice_get code.instructions.items (place + 1) ≡ Some (InstrOf.NewCopyIn t ty at))
+
+-- behind both, a new object of an elementary type takes its value
+abbrev pub IsGiven : (code : Code) → Ty → ℕ → Type 0
+IsGiven code of place = IsServed code (ByDefault of) place × ((ty : Ty) × (at : ℕ) × (slice_get code.instructions.items (behind_allocator place) ≡ Some (InstrOf.GiveValue of ty at)))
 
 -- how many steps that no tick pays come at most before an allocator is cut or has stopped, from its own step on
-abbrev pub allocator_steps : Option (List ℕ) → ℕ
-allocator_steps None = 7
-allocator_steps (Some v) = 8
+abbrev pub allocator_steps : Made → ℕ
+allocator_steps (ByDefault ty) = 7
+allocator_steps (Copied t v) = 8
 
 -- an allocator gives one cell, and nothing but an exception leaves it
 abbrev pub Allocates : (k : Tables) (code : Code) → World → Result Returned → World → Type 0
@@ -178,11 +198,12 @@ Allocates k code w0 (Leaves y) w = IsRaise y × Since k code w0 w
 
 -- bodies behave, while at most this much is on the clock: from the state whose step enters the body, in so many masters as are around it,
 -- which are nested, to where a body of its kind leads. And so do allocators without a handle, behind the one that they take from the clock: from
--- the state whose step is theirs. The finalization of a member, with all that its operations do, leaves no more on the clock and members to
--- be finalized together than there were
+-- the state whose step is theirs, also where the object takes a value of an elementary type, which stands below it. The finalization of a
+-- member, with all that its operations do, leaves no more on the clock and members to be finalized together than there were
 pub record Calls (ask : Ask) (k : Tables) (code : Code) (setting : Setting k code) (bound : ℕ) (call : Call) : Type 0 where
   pub runs : (f : ℕ) (s : Subprogram) → slice_get setting.subprograms f ≡ Some s → (w0 : World) (v : List ℕ) (actuals : List Slot) (after : After) (ks : List Frame) (c : ℕ) (l : Log) (w : World) (s0 : State) (kind : SubprogramKind) (count : ℕ) → EndsIn kind after → c ≤ bound → Since k code w0 w → IsCallable code kind (length v) f count → IsNested w v → Each IsPlainSlot actuals → step ask code s0 ≡ moved l (enter_body (slice_get code.entries.items f) [] v actuals after ks w) → Runs ask code (Told k code w0) 0 3 s0 c (returned_to after ks) (call (OfSubprogram f actuals) v c l w)
-  pub allocates : (access t : ℕ) → IsPlainType k (Record t) → (value : Option (List ℕ)) (w0 : World) (d : List ℕ) (place : ℕ) (ks : List Frame) (ops : List Word) (c : ℕ) (l : Log) (w : World) (s0 : State) → c + 1 ≤ bound → Since k code w0 w → MayAllocate code access t d w → IsServed code t value place → step ask code s0 ≡ moved l (by_allocator code t value (pool_in (slice_get code.accesses.items access)) (set_seen (slice_get code.accesses.items access) d w) ops (record { display = d; place = place; control = ks; world = w })) → RunsTo ask code (Allocates k code w0) 6 (allocator_steps value) s0 c (returned_to (AfterFunction (record { display = d; place = behind_allocator place; operands = ops })) ks) (call (OfAllocator access (Record t) None value) d c l w)
+  pub allocates : (access : ℕ) (m : Made) → IsPlainType k (made_type m) → (w0 : World) (d : List ℕ) (place : ℕ) (ks : List Frame) (ops : List Word) (c : ℕ) (l : Log) (w : World) (s0 : State) → c + 1 ≤ bound → Since k code w0 w → MayAllocate code access (made_type m) d w → IsServed code m place → step ask code s0 ≡ moved l (by_allocator code m (pool_in (slice_get code.accesses.items access)) (set_seen (slice_get code.accesses.items access) d w) ops (record { display = d; place = place; control = ks; world = w })) → RunsTo ask code (Allocates k code w0) 6 (allocator_steps m) s0 c (returned_to (AfterFunction (record { display = d; place = behind_allocator place; operands = ops })) ks) (call (OfAllocator access (made_type m) None (made_value m)) d c l w)
+  pub gives_value : (access : ℕ) (of : Ty) → IsScalar of → (x : ℕ) (w0 : World) (d : List ℕ) (place : ℕ) (ks : List Frame) (ops : List Word) (c : ℕ) (l : Log) (w : World) (s0 : State) → c + 1 ≤ bound → Since k code w0 w → MayAllocate code access of d w → IsGiven code of place → step ask code s0 ≡ moved l (by_new code of (pool_in (slice_get code.accesses.items access)) (set_seen (slice_get code.accesses.items access) d w) (Scalar x ∷ ops) (record { display = d; place = place; control = ks; world = w })) → RunsTo ask code (Allocates k code w0) 7 9 s0 c (returned_to (AfterFunction (record { display = d; place = behind_allocator place + 1; operands = ops })) ks) (call (OfAllocator access of None (Some (x ∷ []))) d c l w)
   pub counts : (default : Default) (m : Member) → UpTo k ask bound (finalize_begun (tools_with ask k call default) CauseOf.Collection m)
 
 -- what is shown when a body is entered is shown before

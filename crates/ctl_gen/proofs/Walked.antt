@@ -30,11 +30,25 @@ steps_before (Variable v) = []
 steps_before (Part b steps t position) = steps
 steps_before (Object b steps) = steps
 
+-- to a whole object lead steps
+abbrev pub AreSome : List Step → Type 0
+AreSome [] = ⊥
+AreSome (step ∷ steps) = Unit {0}
+
+abbrev pub IsLed : Reached → Type 0
+IsLed (Object b steps) = AreSome steps
+IsLed _ = Unit {0}
+
+some_last : (steps : List Step) (step : Step) → AreSome (steps ++ step ∷ [])
+some_last [] step = tt
+some_last (first ∷ steps) step = tt
+
 -- behind these steps from what a name begins with, which are run, this is reached
 pub record Denoted (b : Start) (ss : List Step) (x : Reached) : Type 0 where
   pub start : b ≡ start_of x
   pub steps : ss ≡ steps_of x
   pub walked : are_followed (start_of x) (steps_before x) ≡ true
+  pub led : IsLed x
 
 last_is : (b : Start) (steps : List Step) (s : Step) (x : Reached) → behind_last b steps s ≡ Some x → Denoted b (steps ++ s ∷ []) x
 last_is b steps (Component t position) x is = by (are_followed b steps) refl is
@@ -42,14 +56,14 @@ last_is b steps (Component t position) x is = by (are_followed b steps) refl is
     by : (f : Bool) → are_followed b steps ≡ f → part_if f b steps t position ≡ Some x → Denoted b (steps ++ Component t position ∷ []) x
     by true e h =
         let same : Part b steps t position ≡ x = cc h in
-        subst (Denoted b (steps ++ Component t position ∷ [])) same (record { start = refl; steps = refl; walked = e })
+        subst (Denoted b (steps ++ Component t position ∷ [])) same (record { start = refl; steps = refl; walked = e; led = tt })
     by false e h = absurd (cc h)
 last_is b steps Dereference x is = by (are_followed b (steps ++ Dereference ∷ [])) refl is
   where
     by : (f : Bool) → are_followed b (steps ++ Dereference ∷ []) ≡ f → object_if f b (steps ++ Dereference ∷ []) ≡ Some x → Denoted b (steps ++ Dereference ∷ []) x
     by true e h =
         let same : Object b (steps ++ Dereference ∷ []) ≡ x = cc h in
-        subst (Denoted b (steps ++ Dereference ∷ [])) same (record { start = refl; steps = refl; walked = e })
+        subst (Denoted b (steps ++ Dereference ∷ [])) same (record { start = refl; steps = refl; walked = e; led = some_last steps Dereference })
     by false e h = absurd (cc h)
 last_is b steps (Narrow t) x is = absurd (cc is)
 
@@ -58,7 +72,7 @@ further_is b before s [] x is = last_is b before s x is
 further_is b before s (next ∷ more) x is = subst (λ ss. Denoted b ss x) (append_assoc before (s ∷ []) (next ∷ more)) (further_is b (before ++ s ∷ []) next more x is)
 
 pub behind_is : (b : Start) (ss : List Step) (x : Reached) → behind_steps b ss ≡ Some x → Denoted b ss x
-behind_is (OfVariable v) [] x is = let same : Variable v ≡ x = cc is in subst (Denoted (OfVariable v) []) same (record { start = refl; steps = refl; walked = refl })
+behind_is (OfVariable v) [] x is = let same : Variable v ≡ x = cc is in subst (Denoted (OfVariable v) []) same (record { start = refl; steps = refl; walked = refl; led = tt })
 behind_is (OfValue runs code) [] x is = absurd (cc is)
 behind_is b (s ∷ ss) x is = further_is b [] s ss x is
 

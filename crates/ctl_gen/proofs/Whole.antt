@@ -28,6 +28,7 @@ use Rattle.ctl_code.proofs.Logs.{obeys_none, obeys_itself, no_more_than, Stays, 
 use Rattle.ctl_layout.specs.Around.{Line}
 use Rattle.ctl_layout.specs.Layout.{HasKinds, IsLaidOut, bodies, body_code, entries_from, entry_at, instructions_of, kinds_of, nowhere, outside, operations_of, program_code}
 use Rattle.ctl_gen.proofs.Defaults.{agrees}
+use Rattle.ctl_gen.proofs.FirstComponent.{first_offset}
 use Rattle.ctl_gen.proofs.Layouts.{places, sizes, units}
 use Rattle.ctl_gen.proofs.Rows.{gives_defaults}
 use Rattle.ctl_layout.specs.Records.{adjust_by}
@@ -203,7 +204,7 @@ module _ (program : Checked) (code : Code) (laid : IsLaidOut program code) (kind
     subprograms = program.subprograms;
     valid = valid;
     accesses = λ a. ap (λ xs. slice_get xs a) laid.accesses ∙ home_in program.accesses a;
-    places = places (tables_of program) code.layouts.items laid.layouts;
+    places = record { each = places (tables_of program) code.layouts.items laid.layouts; first = first_offset code.layouts.items program.records laid.layouts };
     sizes = sizes (tables_of program) code.layouts.items laid.layouts;
     units = units (tables_of program) code.layouts.items laid.layouts;
     agrees = agrees (tables_of program) code laid.layouts;

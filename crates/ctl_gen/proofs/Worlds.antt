@@ -6,7 +6,6 @@ use Rattle.std.proofs.Common.{◌≡◌, ℕ, zero, suc, ◌+◌, ◌<◌, ◌�
 use Rattle.std.specs.Prelude.{if◌then◌else◌, nat_eq, not, slice_get, replicate}
 use Rattle.std.proofs.lemmas.Bool.{eqb-true, eqb-false, eq-eqb, ne_eqb}
 use Rattle.ctl_program.specs.declared.types.Ty.{Ty}
-use Rattle.ctl_program.specs.declared.types.Ty.TheVariants.{Record}
 use Rattle.ctl_program.specs.declared.types.Var.{Var}
 use Rattle.ctl_tree.specs.declared.event.Cause.{Cause}
 use Rattle.ctl_meaning.specs.Types.{Tables}
@@ -20,7 +19,7 @@ use Rattle.ctl_meaning.specs.Outcome.{Way}
 use Rattle.ctl_meaning.specs.Changes.{ends_with, new_object, object_at, take_object_number, close_pool_at, create, create_at, in_pools, put_into, write_cells, forget, open_master, add_layer, take_layer, set_slot, slot_at, set_value, close_master, add_collection, start_collections, join, begin_finalization, end_finalization, home_master, home_of, opened_changes}
 use Rattle.ctl_code.specs.declared.code.Code.{Code}
 use Rattle.ctl_code.specs.Table.{grant, pool_grant, pool_return, return_to, with_end}
-use Rattle.ctl_code.specs.Valid.{IsDeclarable}
+use Rattle.ctl_code.specs.Valid.{MayLie}
 use Rattle.ctl_code.proofs.Storage.{OnGrant, OnReturn, granted_keeps, granted_of_pool, returned_keeps, returned_to_pool, end_keeps}
 use Rattle.ctl_gen.proofs.Known.{IsPlainType}
 use Rattle.ctl_gen.proofs.Each.{Each, IfFound, each_found, each_and, each_changed, each_changed_first, each_kept, not_true, found_passes, each_all, each_set, each_get}
@@ -167,11 +166,6 @@ SeesNested next as' a = AreNested next as' 0 a.display
 nested_all : (next next1 : ℕ) (as' bs cs : List Activation) → next ≤ next1 → ((m : ℕ) → m < next → home m bs ≡ home m as') → Each (SeesNested next as') cs → Each (SeesNested next1 bs) cs
 nested_all next next1 as' bs cs le same h = each_all (SeesNested next as') (SeesNested next1 bs) (λ a. nested_alike next next1 as' bs le same 0 a.display) cs h
 
--- the operations of a type are declared in so many masters
-abbrev pub IsInside : Code → Ty → ℕ → Type 0
-IsInside code (Record t) n = IsDeclarable code n t
-IsInside code ty n = Unit {0}
-
 module _ (k : Tables) (code : Code) where
   -- where the next master has this number, and these masters and collections are active
   pub record Settled (next : ℕ) (as' : List Activation) (cs : List Collection) (o : Object) : Type 0 where
@@ -179,7 +173,7 @@ module _ (k : Tables) (code : Code) where
     pub master : ℕ
     pub origin : Belongs cs master o.origin
     pub old : master < next
-    pub inside : IsInside code o.ty (length (home master as'))
+    pub inside : MayLie code (length (home master as')) o.ty
     -- that is the main procedure's own master, or one inside it
     pub deep : 1 ≤ length (home master as')
 
@@ -233,7 +227,7 @@ module _ (k : Tables) (code : Code) where
     master = h.master;
     origin = belongs_in cs ds h.master (λ c. kept c h.master h.old) o.origin h.origin;
     old = omega (arith, h.old, le);
-    inside = subst (λ d. IsInside code o.ty (length d)) (sym (same h.master h.old)) h.inside;
+    inside = subst (λ d. MayLie code (length d) o.ty) (sym (same h.master h.old)) h.inside;
     deep = subst (λ (d : List ℕ). 1 ≤ length d) (sym (same h.master h.old)) h.deep;
   }
 
@@ -328,7 +322,7 @@ module _ (k : Tables) (code : Code) where
   since_value n i x w0 w h = since_held n i _ w0 w (held_at n i w h.0) h
 
   -- an object of either origin is created
-  fits_new : (ty : Ty) (cells : List ℕ) (x : Origin) (m : ℕ) (w : World) → Belongs w.ledger.collections m x → IsPlainType k ty → m < w.ledger.next_master → IsInside code ty (length (home m w.activations)) → 1 ≤ length (home m w.activations) → Fits w → Fits (create ty cells x w)
+  fits_new : (ty : Ty) (cells : List ℕ) (x : Origin) (m : ℕ) (w : World) → Belongs w.ledger.collections m x → IsPlainType k ty → m < w.ledger.next_master → MayLie code (length (home m w.activations)) ty → 1 ≤ length (home m w.activations) → Fits w → Fits (create ty cells x w)
   unfolding opened_changes opened_ledger
   fits_new ty cells x m w origin known old inside deep h = record {
     objects = each_and (Settled w.ledger.next_master w.activations w.ledger.collections) w.objects _ (record { plain = known; master = m; origin = origin; old = old; inside = inside; deep = deep }) h.objects;
@@ -341,7 +335,7 @@ module _ (k : Tables) (code : Code) where
     mark_pools = h.mark_pools;
   }
 
-  since_new : (ty : Ty) (cells : List ℕ) (x : Origin) (m : ℕ) (w0 w : World) → Belongs w.ledger.collections m x → IsPlainType k ty → m < w.ledger.next_master → IsInside code ty (length (home m w.activations)) → 1 ≤ length (home m w.activations) → Since w0 w → Since w0 (create ty cells x w)
+  since_new : (ty : Ty) (cells : List ℕ) (x : Origin) (m : ℕ) (w0 w : World) → Belongs w.ledger.collections m x → IsPlainType k ty → m < w.ledger.next_master → MayLie code (length (home m w.activations)) ty → 1 ≤ length (home m w.activations) → Since w0 w → Since w0 (create ty cells x w)
   unfolding opened_changes opened_ledger
   since_new ty cells x m w0 w origin known old inside deep h = (
     fits_new ty cells x m w origin known old inside deep h.0,
@@ -355,7 +349,7 @@ module _ (k : Tables) (code : Code) where
     },
   )
 
-  pub since_create : (ty : Ty) (cells : List ℕ) (m : ℕ) (w0 w : World) → IsPlainType k ty → m < w.ledger.next_master → IsInside code ty (length (home m w.activations)) → 1 ≤ length (home m w.activations) → Since w0 w → Since w0 (create ty cells (Declared m) w)
+  pub since_create : (ty : Ty) (cells : List ℕ) (m : ℕ) (w0 w : World) → IsPlainType k ty → m < w.ledger.next_master → MayLie code (length (home m w.activations)) ty → 1 ≤ length (home m w.activations) → Since w0 w → Since w0 (create ty cells (Declared m) w)
   since_create ty cells m w0 w = since_new ty cells (Declared m) m w0 w refl
 
   -- Layers and collections ---------------------------------------------------------------------------
@@ -475,7 +469,7 @@ module _ (k : Tables) (code : Code) where
       by false = refl
 
   settled_as : (next : ℕ) (as' : List Activation) (cs : List Collection) (o p : Object) → p.ty ≡ o.ty → p.origin ≡ o.origin → Settled next as' cs o → Settled next as' cs p
-  settled_as next as' cs o p ty origin h = record { plain = subst (IsPlainType k) (sym ty) h.plain; master = h.master; origin = subst (Belongs cs h.master) (sym origin) h.origin; old = h.old; inside = subst (λ t. IsInside code t (length (home h.master as'))) (sym ty) h.inside; deep = h.deep }
+  settled_as next as' cs o p ty origin h = record { plain = subst (IsPlainType k) (sym ty) h.plain; master = h.master; origin = subst (Belongs cs h.master) (sym origin) h.origin; old = h.old; inside = subst (λ t. MayLie code (length (home h.master as')) t) (sym ty) h.inside; deep = h.deep }
 
   -- the objects are others, or changed, or fewer
   fits_objects : (os : List Object) (w : World) → Each (Settled w.ledger.next_master w.activations w.ledger.collections) os → Each (λ o. o.number < w.ledger.next_object) os → AreApart os → Fits w → Fits (record w { objects = os })
@@ -610,7 +604,7 @@ module _ (k : Tables) (code : Code) where
 
   -- an object is allocated at a place: where its collection stands, the operations of its type are to be declared around the collection's
   -- master
-  pub since_allocate : (ty : Ty) (cells : List ℕ) (c : ℕ) (place : Place) (m : ℕ) (w0 w : World) → IsOf c m w.ledger.collections → IsPlainType k ty → IsInside code ty (length (home m w.activations)) → Since w0 w → Since w0 (create_at ty cells c place w)
+  pub since_allocate : (ty : Ty) (cells : List ℕ) (c : ℕ) (place : Place) (m : ℕ) (w0 w : World) → IsOf c m w.ledger.collections → IsPlainType k ty → MayLie code (length (home m w.activations)) ty → Since w0 w → Since w0 (create_at ty cells c place w)
   unfolding create_at
   since_allocate ty cells c place m w0 w is known inside h =
       let of = of_gathered w.ledger.next_collection w.ledger.next_master w.activations c m w.ledger.collections h.0.collections is in
@@ -696,7 +690,7 @@ module _ (k : Tables) (code : Code) where
             master = y.master;
             origin = belongs_in w.ledger.collections ds y.master (λ c is. of_kept m c y.master w.ledger.collections other is) o.origin y.origin;
             old = y.old;
-            inside = subst (λ d. IsInside code o.ty (length d)) (sym same) y.inside;
+            inside = subst (λ d. MayLie code (length d) o.ty) (sym same) y.inside;
             deep = subst (λ (d : List ℕ). 1 ≤ length d) (sym same) y.deep;
           }
 

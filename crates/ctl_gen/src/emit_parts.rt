@@ -19,6 +19,13 @@ use std::alloc::AllocError;
 /// The type that an access value stands as which is dereferenced: whatever it is, its value is a number.
 const ACCESS_VALUE: Ty = Ty::Integer;
 
+/// The record type of a part whose type is of no account: of a pool, which is found by its object, and of an object of an elementary type,
+/// which is found by its first cell.
+pub const ANY_TYPE: usize = 0;
+
+/// The position of the first component of a record type.
+pub const FIRST_POSITION: usize = 1;
+
 impl Emitter {
     /// Emits the access value that a name begins with, if it begins with one, as a new operand (RM 4.1).
     #[cycle(expressions)]
@@ -87,6 +94,25 @@ impl Emitter {
         }
     }
 
+    /// Emits what takes the value of the object on top, which stands over what stands there, where a dereference follows (RM 4.1).
+    fn take_whole(&mut self, steps: &[Step]) -> Result<(), AllocError>
+        ensures { OnOk result (self.new ≡ lined (spec.whole_code steps.now) self.old) }
+    {
+        if !is_dereferenced(steps) {
+            return Ok(());
+        }
+        let to = self.new_operand();
+        self.over_operand(
+            Ty::Record(ANY_TYPE),
+            Instr::TakePart {
+                record: ANY_TYPE,
+                position: FIRST_POSITION,
+                ty: ACCESS_VALUE,
+                to,
+            },
+        )
+    }
+
     /// Emits what leads from the part on top, or the access value, which stands over what stands there, to the part behind these steps,
     /// of this record type.
     fn selects(&mut self, steps: &[Step], record: usize) -> Result<(), AllocError>
@@ -102,6 +128,7 @@ impl Emitter {
                 Step::Dereference => {
                     let dereference = self.dereference(behind, record);
                     self.over_operand(ACCESS_VALUE, dereference)?;
+                    self.take_whole(behind)?;
                 }
                 Step::Narrow(_) => {
                     return self.over_operand(Ty::Record(record), Instr::Missing);
@@ -238,13 +265,15 @@ impl Emitter {
     }
 }
 
-/// Gives the record type of what stands before these steps, the first of which is a selector, or this one, of what they lead to.
+/// Gives the record type of what stands before these steps, or this one, of what they lead to: of no account, where they begin with a
+/// dereference.
 fn first_type(steps: &[Step], record: usize) -> usize
     ensures { result ≡ spec.first_type steps.now «record» }
 {
     match steps {
         [] => record,
         [Step::Component(first, _), ..] => *first,
-        [Step::Dereference | Step::Narrow(_), ..] => record,
+        [Step::Dereference, ..] => ANY_TYPE,
+        [Step::Narrow(_), ..] => record,
     }
 }

@@ -13,6 +13,7 @@ ghost use Rattle.ctl_layout.specs.Texts as texts;
 ghost use Rattle.ctl_layout.specs.Layout as spec;
 
 use crate::emit::Emitter;
+use crate::emit_parts::{ANY_TYPE, FIRST_POSITION};
 use ctl_code::code::{DiscriminantOrder, Instr, Way};
 use ctl_code::kinds::Kind;
 use ctl_layout::right::{Denoted, Reached, denoted_by, reached_by, sourced};
@@ -282,7 +283,10 @@ impl Emitter {
                     position,
                 },
             ) => self.assign_component(name, steps, record, position, value),
-            Some(Reached::Object { .. }) | None => self.put(Instr::Missing),
+            Some(Reached::Object { steps }) => {
+                self.assign_component(name, steps, ANY_TYPE, FIRST_POSITION, value)
+            }
+            None => self.put(Instr::Missing),
         }
     }
 
@@ -358,7 +362,10 @@ impl Emitter {
                     position,
                 },
             ) => self.free_component(access, name, steps, record, position),
-            Some(Reached::Object { .. }) | None => self.put(Instr::Missing),
+            Some(Reached::Object { steps }) => {
+                self.free_component(access, name, steps, ANY_TYPE, FIRST_POSITION)
+            }
+            None => self.put(Instr::Missing),
         }
     }
 

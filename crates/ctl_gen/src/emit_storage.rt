@@ -12,6 +12,7 @@ ghost use Rattle.ctl_layout.specs.Values as values;
 ghost use Rattle.ctl_layout.specs.Layout as spec;
 
 use crate::emit::Emitter;
+use crate::emit_parts::{ANY_TYPE, FIRST_POSITION};
 use ctl_code::code::{Instr, Way};
 use ctl_code::kinds::Kind;
 use ctl_layout::right::{Reached, reached_by};
@@ -27,7 +28,7 @@ const PROGRAM_ERROR: usize = 1;
 const ADDRESS_NUMBERS: usize = 4;
 
 /// The record type of the operand that is a pool: of no account, since the pool is found by its object.
-const POOL_TYPE: usize = 0;
+const POOL_TYPE: usize = ANY_TYPE;
 
 impl Emitter {
     /// Adds an instruction over what an Allocate left, which it takes (RM 13.11).
@@ -166,7 +167,8 @@ impl Emitter {
         Ok(())
     }
 
-    /// Emits a call of the library's Allocate: of a pool in a variable, whose address a variable takes, or a component (RM 13.11).
+    /// Emits a call of the library's Allocate: of a pool in a variable, whose address a variable takes, or a component, or an object
+    /// that an access value designates (RM 13.11).
     pub fn library_allocate(
         &mut self,
         pool: &Name,
@@ -192,6 +194,10 @@ impl Emitter {
             ) => {
                 self.pool_and_part(pool, address, steps, record)?;
                 self.request_into(record, position, size, alignment)
+            }
+            (Some(Reached::Variable(pool)), Some(Reached::Object { steps })) => {
+                self.pool_and_part(pool, address, steps, ANY_TYPE)?;
+                self.request_into(ANY_TYPE, FIRST_POSITION, size, alignment)
             }
             _ => self.put(Instr::Missing),
         }

@@ -1,7 +1,7 @@
 -- The programs that this version runs: blocks; objects of types that extend Controlled, Limited_Controlled or Block_Pool and of records that
 -- are not tagged, whose components are scalar, access values, addresses or of such types again, with their Initialize, Adjust, Finalize,
--- Allocate and Deallocate; access types whose objects lie in the standard pool or in a block pool, their collections,
--- allocators of such objects, without a value or with that of a part, access attributes, and instances of
+-- Allocate and Deallocate; access types whose objects, of any of these types, lie in the standard pool or in a block pool, their collections,
+-- allocators, without a value or with one, which for a record is that of a part, access attributes, and instances of
 -- Unchecked_Deallocation; calls of the library's Allocate and Deallocate; expressions over constants, variables, components, discriminants of
 -- block pools, conversions of numbers and calls of functions, of scalar and access types; assignments to variables and components, also of
 -- what access values designate, and calls give these too; calls of procedures, whose actuals are values, copies of variables and parts of

@@ -1,6 +1,6 @@
 //! Whether this version runs each construct of a checked program.
 
-ghost use Rattle.std.specs.Prelude.{◌≡◌, ℕ, List, [], ◌∷◌, is_some, map, option_map, slice_get, IfOk, Some};
+ghost use Rattle.std.specs.Prelude.{◌≡◌, ℕ, List, [], ◌∷◌, is_some, map, option_map, slice_get, IfOk, None, Some};
 ghost use Rattle.ctl_program.specs.declared.operators.CopyStart.{CopyStart};
 ghost use Rattle.ctl_program.specs.declared.types.RecordType.{RecordType};
 ghost use Rattle.ctl_program.specs.declared.types.Var.{Var};
@@ -79,7 +79,17 @@ fn are_laid_out(name: &Name, steps: &[Step], number: usize, table: &Table) -> bo
     is_begun(name, table) && (do_selectors_run(table, steps) && table.is_laid(number))
 }
 
-/// Tells whether the value of a name is run: of a variable, or of a component of what the steps of the name lead to.
+/// Tells whether what a name begins with is run, with the record types of the selectors on the way to the object that these steps lead to
+/// (RM 4.1).
+#[cycle(values)]
+fn is_object(name: &Name, steps: &[Step], table: &Table) -> bool
+    ensures { result ≡ parts.part_runs (parts.Object (values.begun_by name.now) steps.now) table.now.records.now }
+{
+    is_begun(name, table) && do_selectors_run(table, steps)
+}
+
+/// Tells whether the value of a name is run: of a variable, of a component of what the steps of the name lead to, or of the object that they
+/// lead to.
 #[cycle(values)]
 fn is_read(name: &Name, ty: Ty, table: &Table) -> bool
     ensures { result ≡ (values.read (values.reached_by name.now) ty).runs table.now.records.now }
@@ -89,7 +99,8 @@ fn is_read(name: &Name, ty: Ty, table: &Table) -> bool
         Some(Reached::Part { steps, record, .. }) => {
             is_run_type(ty) && are_laid_out(name, steps, record, table)
         }
-        Some(Reached::Object { .. }) | None => false,
+        Some(Reached::Object { steps }) => is_run_type(ty) && is_object(name, steps, table),
+        None => false,
     }
 }
 
@@ -101,7 +112,7 @@ fn is_part(name: &Name, reached: Option<Reached<'_>>, table: &Table) -> bool
     match reached {
         Some(Reached::Variable(_)) => true,
         Some(Reached::Part { steps, record, .. }) => are_laid_out(name, steps, record, table),
-        Some(Reached::Object { steps }) => is_begun(name, table) && do_selectors_run(table, steps),
+        Some(Reached::Object { steps }) => is_object(name, steps, table),
         None => false,
     }
 }
@@ -143,8 +154,18 @@ fn is_copied_anew(expression: &Expr, number: usize, table: &Table) -> bool
     table.is_plain(number) && is_part_value(expression, number, table)
 }
 
-/// Tells whether an allocator is run: of an object of a record type, without a handle; its value, if it has one, is that of a part of the type
-/// (RM 4.8).
+/// Tells whether an allocator of an object with this value is run: with that of a part, where the object is of a record type (RM 4.8).
+#[cycle(values)]
+fn is_given_anew(ty: Ty, expression: &Expr, table: &Table) -> bool
+    ensures { (access : ℕ) → result ≡ (values.new access ty None (Some (values.value_code expression.now))).runs table.now.records.now }
+{
+    match ty {
+        Ty::Record(number) => is_copied_anew(expression, number, table),
+        _ => is_run_type(ty) && value(expression, table),
+    }
+}
+
+/// Tells whether an allocator is run: of an object without a handle (RM 4.8).
 #[cycle(values)]
 fn is_allocated(
     ty: Ty,
@@ -154,13 +175,10 @@ fn is_allocated(
 ) -> bool
     ensures { (access : ℕ) → result ≡ (values.new access ty (option_map values.value_code handle.now) (option_map values.value_code value.now)).runs table.now.records.now }
 {
-    match ty {
-        Ty::Record(number) => match (handle, value) {
-            (None, None) => table.is_plain(number),
-            (None, Some(value)) => is_copied_anew(value.get(), number, table),
-            (Some(_), _) => false,
-        },
-        _ => false,
+    match (handle, value) {
+        (None, None) => is_declared(table, ty),
+        (None, Some(value)) => is_given_anew(ty, value.get(), table),
+        (Some(_), _) => false,
     }
 }
 
@@ -377,7 +395,10 @@ fn is_assigned(name: &Name, expression: &Expr, table: &Table) -> bool
         Some(Reached::Part { steps, record, .. }) => {
             are_laid_out(name, steps, record, table) && value(expression, table)
         }
-        Some(Reached::Object { .. }) | None => false,
+        Some(Reached::Object { steps }) => {
+            is_object(name, steps, table) && value(expression, table)
+        }
+        None => false,
     }
 }
 
@@ -395,19 +416,21 @@ fn is_record_assigned(
         && (may_be_part(sourced(value), table) && is_assignable(table, masters, number))
 }
 
-/// Tells whether what is freed is run: what a variable designates, or a component of what the steps of the name lead to (RM 13.11.2).
+/// Tells whether what is freed is run: what a variable designates, or a component of what the steps of the name lead to, or the object that
+/// they lead to (RM 13.11.2).
 fn is_freed(name: &Name, table: &Table) -> bool
     ensures { (access masters : ℕ) → result ≡ (spec.free access (values.reached_by name.now)).runs (among table.now.records.now masters) }
 {
     match reached_by(name) {
         Some(Reached::Variable(_)) => true,
         Some(Reached::Part { steps, record, .. }) => are_laid_out(name, steps, record, table),
-        Some(Reached::Object { .. }) | None => false,
+        Some(Reached::Object { steps }) => is_object(name, steps, table),
+        None => false,
     }
 }
 
 /// Tells whether a call of the library's Allocate is run: of a pool in a variable, whose address a variable takes, or a component of what the
-/// steps of the name lead to (RM 13.11).
+/// steps of the name lead to, or the object that they lead to (RM 13.11).
 fn is_taken(pool: &Name, address: &Name, size: &Expr, alignment: &Expr, table: &Table) -> bool
     ensures { (masters : ℕ) → result ≡ (spec.library_allocate (values.reached_by pool.now) (values.reached_by address.now) (values.value_code size.now) (values.value_code alignment.now)).runs (among table.now.records.now masters) }
 {
@@ -419,6 +442,9 @@ fn is_taken(pool: &Name, address: &Name, size: &Expr, alignment: &Expr, table: &
             are_laid_out(address, steps, record, table)
                 && value(size, table)
                 && value(alignment, table)
+        }
+        (Some(Reached::Variable(_)), Some(Reached::Object { steps })) => {
+            is_object(address, steps, table) && value(size, table) && value(alignment, table)
         }
         _ => false,
     }

@@ -84,7 +84,7 @@ with_taken value number spots e = record e { spots = spots; objects = change_in 
 
 -- it is allocated, and then its cells are copied from an object that was there
 pub taken_kept : (code : Code) (old made : Kept) (objects : List W.Object) (set t source start offset size number : ℕ) (place : Place) (v : World) (o : W.Object)
-    → IsNewMember code old made set t place v → number ≡ old.next_object → object_in source old.objects ≡ Some o → start ≡ offset → size ≡ size_of code t
+    → IsNewMember code old made set (Record t) place v → number ≡ old.next_object → object_in source old.objects ≡ Some o → start ≡ offset → size ≡ size_of code t
     → objects ≡ option_map_or (λ z. change_in number (with_cells 0 (cells_at start size z)) made.objects) (object_in source made.objects) made.objects
     → objects ≡ change_in old.next_object (with_cells 0 (cells_at offset (size_of code t) o)) made.objects
 taken_kept code old made objects set t source start offset size number place v o added next there from all copied =
@@ -94,31 +94,31 @@ taken_kept code old made objects set t source start offset size number place v o
     ∙ ap (λ (l : List W.Object). change_in old.next_object (with_cells 0 (cells_at offset (size_of code t) o)) l) (sym more)
 
 -- other parts may stand beside the window
-spots_apart : (code : Code) (old made : Kept) (set t : ℕ) (place : Place) (v : World) (spots : List Spot) → IsNewMember code old made set t place v → IsNewMember code (with_spots old spots) (with_spots made spots) set t place v
+spots_apart : (code : Code) (old made : Kept) (set t : ℕ) (place : Place) (v : World) (spots : List Spot) → IsNewMember code old made set (Record t) place v → IsNewMember code (with_spots old spots) (with_spots made spots) set (Record t) place v
 spots_apart code old made set t place v spots i = record { kept = ap (λ (e : Kept). with_spots e spots) i.kept; pools = i.pools }
 
 -- what is shown then
-taken_holds : (code : Code) (old made : Kept) (set t : ℕ) (place : Place) (value : List ℕ) (k : List T.Frame) (ops : List Word) (w v : World) → Holds code old k ops w → IsBeside w v → IsNewMember code old made set t place v
-    → Holds code (with_objects (change_in old.next_object (with_cells 0 value) made.objects) made) k ops (write_cells v.ledger.next_object 0 value (with_member code set t place v))
+taken_holds : (code : Code) (old made : Kept) (set t : ℕ) (place : Place) (value : List ℕ) (k : List T.Frame) (ops : List Word) (w v : World) → Holds code old k ops w → IsBeside w v → IsNewMember code old made set (Record t) place v
+    → Holds code (with_objects (change_in old.next_object (with_cells 0 value) made.objects) made) k ops (write_cells v.ledger.next_object 0 value (with_member code set (Record t) place v))
 unfolding opened_changes
 taken_holds code old made set t place value k ops w v h b i =
-    let u = with_member code set t place v in
-    let added = member_added code old made set t place k ops w v h b i in
+    let u = with_member code set (Record t) place v in
+    let added = member_added code old made set (Record t) place k ops w v h b i in
     let taken = holds_changed code made k ops u old.next_object (with_cells 0 value) (cells_keep 0 value) added in
     let next : v.ledger.next_object ≡ old.next_object = ap (λ (z : World). z.ledger.next_object) b ∙ h.next_object in
     subst (λ c. Holds code (with_objects (change_in old.next_object (with_cells 0 value) made.objects) made) k ops (write_cells c 0 value u)) (sym next) taken
 
-taken_heads : (code : Code) (n set t : ℕ) (place : Place) (value : List ℕ) (w v : World) → IsBeside w v → heads_of (write_cells n 0 value (with_member code set t place v)).activations ≡ heads_of w.activations
+taken_heads : (code : Code) (n set t : ℕ) (place : Place) (value : List ℕ) (w v : World) → IsBeside w v → heads_of (write_cells n 0 value (with_member code set (Record t) place v)).activations ≡ heads_of w.activations
 unfolding opened_changes
-taken_heads code n set t place value w v b = member_heads code set t place w v b
+taken_heads code n set t place value w v b = member_heads code set (Record t) place w v b
 
-member_there : (code : Code) (old made : Kept) (set t : ℕ) (place : Place) (k : List T.Frame) (ops : List Word) (w v : World) → Holds code old k ops w → IsBeside w v → IsNewMember code old made set t place v
-    → object_at v.ledger.next_object (with_member code set t place v) ≡ Some (new_object old.next_object (Record t) (replicate (size_of code t) 0) (Allocated set place))
+member_there : (code : Code) (old made : Kept) (set t : ℕ) (place : Place) (k : List T.Frame) (ops : List Word) (w v : World) → Holds code old k ops w → IsBeside w v → IsNewMember code old made set (Record t) place v
+    → object_at v.ledger.next_object (with_member code set (Record t) place v) ≡ Some (new_object old.next_object (Record t) (replicate (size_of code t) 0) (Allocated set place))
 unfolding opened_changes
 member_there code old made set t place k ops w v h b i =
-    let u = with_member code set t place v in
+    let u = with_member code set (Record t) place v in
     let x = new_object old.next_object (Record t) (replicate (size_of code t) 0) (Allocated set place) in
-    let added = member_added code old made set t place k ops w v h b i in
+    let added = member_added code old made set (Record t) place k ops w v h b i in
     let next : v.ledger.next_object ≡ old.next_object = ap (λ (z : World). z.ledger.next_object) b ∙ h.next_object in
     ap (λ c. object_at c u) next
     ∙ (object_shown code made k ops u old.next_object added
@@ -126,20 +126,20 @@ member_there code old made set t place k ops w v h b i =
 
 -- the state then, with these operands
 abbrev pub taken_by : Code → ℕ → ℕ → Place → World → List ℕ → List Word → State → State
-taken_by code set t place v value rest s = record s { operands = rest; world = write_cells v.ledger.next_object 0 value (with_member code set t place v) }
+taken_by code set t place v value rest s = record s { operands = rest; world = write_cells v.ledger.next_object 0 value (with_member code set (Record t) place v) }
 
 -- the move of the table, by which the allocator goes on there
 abbrev pub copy_move : Code → ℕ → ℕ → ℕ → Place → World → List ℕ → List Word → State → T.Move
 copy_move code at set t place v value rest s = copy_begins code t value set place (record { display = first_display (heads_of s.world.activations); place = at; operands = rest }) s.control v
 
 -- what the table makes of it
-table_takes : (code : Code) (old made : Kept) (at set t : ℕ) (place : Place) (v : World) (value : List ℕ) (rest : List Word) (s : State) → Holds code old s.control s.operands s.world → IsBeside s.world v → IsNewMember code old made set t place v
+table_takes : (code : Code) (old made : Kept) (at set t : ℕ) (place : Place) (v : World) (value : List ℕ) (rest : List Word) (s : State) → Holds code old s.control s.operands s.world → IsBeside s.world v → IsNewMember code old made set (Record t) place v
     → copy_move code at set t place v value rest s
     ≡ (let x = taken_by code set t place v value rest s in adjust_new code (parts_of code t) T.ByAllocator (newborn v.ledger.next_object t (OwnerOf.Collection set)) (point_at at (record x { world = s.world })) x.control x.world)
 table_takes code old made at set t place v value rest s h b i = rw (member_there code old made set t place s.control s.operands s.world v h b i) refl
 
 -- the new object has taken the value, and its allocator goes on there
-pub value_is : (code : Code) (old made new : Engine) (at set t : ℕ) (ty : Ty) (stack : List Kind) (place : Place) (v : World) (value : List ℕ) (rest : List Word) (s : State) → IsScalar ty → Leads code at (Operand ty ∷ stack) → Inside code (with_spots (kept old) (standing s.control rest)) stack s.control rest s.world → IsBeside s.world v → IsNewMember code (kept old) (kept made) set t place v
+pub value_is : (code : Code) (old made new : Engine) (at set t : ℕ) (ty : Ty) (stack : List Kind) (place : Place) (v : World) (value : List ℕ) (rest : List Word) (s : State) → IsScalar ty → Leads code at (Operand ty ∷ stack) → Inside code (with_spots (kept old) (standing s.control rest)) stack s.control rest s.world → IsBeside s.world v → IsNewMember code (kept old) (kept made) set (Record t) place v
     → kept new ≡ with_taken value (old.numbered.objects + 1) (standing s.control rest) (kept made)
     → IsMember code new made.numbered.objects at (taken_by code set t place v value rest s)
 value_is code old made new at set t ty stack place v value rest s scalar leads left beside i are =
@@ -153,7 +153,7 @@ value_is code old made new at set t ty stack place v value rest s scalar leads l
       holds = taken_holds code (with_spots (kept old) spots) (with_spots (kept made) spots) set t place value s.control rest s.world v left.holds beside (spots_apart code (kept old) (kept made) set t place v spots i);
       spots = left.spots;
     } in
-    let number : made.numbered.objects ≡ old.numbered.objects + 1 = member_number code old made set t place v i in
+    let number : made.numbered.objects ≡ old.numbered.objects + 1 = member_number code old made set (Record t) place v i in
     let owned : new.owned.items ≡ old.owned.items = ap (λ (z : Kept). z.owned) are ∙ ap (λ (z : Kept). z.owned) i.kept in
     let foreign : OwnsNone (old.numbered.objects + 1) old.owned.items = owns_no_next old.owned.items (old.numbered.objects + 1) old.stock.objects left.holds.owns in
     record {
@@ -165,7 +165,7 @@ value_is code old made new at set t ty stack place v value rest s scalar leads l
       foreign = subst (λ (l : List Owned). OwnsNone made.numbered.objects l) (sym owned) (subst (λ n. OwnsNone n old.owned.items) (sym number) foreign);
     }
 
-pub value_makes : (code : Code) (old made mid new : Engine) (at set t : ℕ) (place : Place) (v : World) (value : List ℕ) (rest : List Word) (s : State) → Holds code (kept old) s.control s.operands s.world → IsBeside s.world v → IsNewMember code (kept old) (kept made) set t place v
+pub value_makes : (code : Code) (old made mid new : Engine) (at set t : ℕ) (place : Place) (v : World) (value : List ℕ) (rest : List Word) (s : State) → Holds code (kept old) s.control s.operands s.world → IsBeside s.world v → IsNewMember code (kept old) (kept made) set (Record t) place v
     → mid.events.items ≡ old.events.items → mid.picks.items ≡ old.picks.items
     → (let x = taken_by code set t place v value rest s in Makes code mid new (adjust_new code (parts_of code t) T.ByAllocator (newborn made.numbered.objects t (OwnerOf.Collection set)) (point_at at x) x.control x.world)) → Makes code old new (copy_move code at set t place v value rest s)
 value_makes code old made mid new at set t place v value rest s h beside i events picks makes =
@@ -173,7 +173,7 @@ value_makes code old made mid new at set t place v value rest s h beside i event
     let goes : List Head → ℕ → T.Move = λ hs n. adjust_new code (parts_of code t) T.ByAllocator (newborn n t (OwnerOf.Collection set)) (record { display = first_display hs; place = at; operands = rest }) x.control x.world in
     let same : copy_move code at set t place v value rest s ≡ goes (heads_of x.world.activations) made.numbered.objects =
     table_takes code (kept old) (kept made) at set t place v value rest s h beside i
-    ∙ (ap (λ n. goes (heads_of s.world.activations) n) (member_next code old made set t place s.world v h.next_object beside i)
+    ∙ (ap (λ n. goes (heads_of s.world.activations) n) (member_next code old made set (Record t) place s.world v h.next_object beside i)
     ∙ ap (λ (hs : List Head). goes hs made.numbered.objects) (sym (taken_heads code v.ledger.next_object set t place value s.world v beside))) in
     subst (λ (m : T.Move). Makes code old new m) (sym same) (makes_later code old mid new _ events picks makes)
 
@@ -195,7 +195,7 @@ member_copied code at set t o s g = copy_at code t (cells_at (first_spot s.opera
 pub source_part : (code : Code) (e : Engine) (access place t at : ℕ) (ty : Ty) (s : State) → (b : Before code e place (NewCopy access t ty at) s) → HasPart code (kept e) b.fine.2.0 s.control s.operands s.world
 source_part code e access place t at ty s b = part_on_top code e t b.stack b.fine.2.0 s b.inside b.fine.2.1
 
-pub taken_is : (code : Code) (old made new : Engine) (access at set t cell : ℕ) (ty : Ty) (place : Place) (v : World) (o : W.Object) (s : State) → Before code old at (NewCopy access t ty cell) s → IsBeside s.world v → IsNewMember code (kept old) (kept made) set t place v
+pub taken_is : (code : Code) (old made new : Engine) (access at set t cell : ℕ) (ty : Ty) (place : Place) (v : World) (o : W.Object) (s : State) → Before code old at (NewCopy access t ty cell) s → IsBeside s.world v → IsNewMember code (kept old) (kept made) set (Record t) place v
     → kept new ≡ with_taken (cells_at (first_spot s.operands).offset (size_of code t) o) (old.numbered.objects + 1) (standing s.control (drop 1 s.operands)) (kept made)
     → IsMember code new made.numbered.objects (at + 2) (taken_state code set t place v o s)
 taken_is code old made new access at set t cell ty place v o s b beside i are =
@@ -203,7 +203,7 @@ taken_is code old made new access at set t cell ty place v o s b beside i are =
     let behind : at + 1 + 1 ≡ at + 2 = omega arith in
     value_is code old made new (at + 2) set t ty b.fine.2.0 place v (cells_at (first_spot s.operands).offset (size_of code t) o) (drop 1 s.operands) s b.fine.0 (subst (λ n. Leads code n (Operand ty ∷ b.fine.2.0)) behind b.fine.2.2.2) p.left beside i are
 
-pub taken_makes : (code : Code) (old made mid new : Engine) (access at set t cell : ℕ) (ty : Ty) (place : Place) (v : World) (o : W.Object) (s : State) → Before code old at (NewCopy access t ty cell) s → IsBeside s.world v → IsNewMember code (kept old) (kept made) set t place v
+pub taken_makes : (code : Code) (old made mid new : Engine) (access at set t cell : ℕ) (ty : Ty) (place : Place) (v : World) (o : W.Object) (s : State) → Before code old at (NewCopy access t ty cell) s → IsBeside s.world v → IsNewMember code (kept old) (kept made) set (Record t) place v
     → mid.events.items ≡ old.events.items → mid.picks.items ≡ old.picks.items
     → (let x = taken_state code set t place v o s in Makes code mid new (adjust_new code (parts_of code t) T.ByAllocator (newborn made.numbered.objects t (OwnerOf.Collection set)) (point_at (at + 2) x) x.control x.world)) → Makes code old new (member_copied code at set t o s (Granted place v))
 taken_makes code old made mid new access at set t cell ty place v o s b beside i events picks makes =
@@ -259,25 +259,25 @@ source_there code old access place t at ty o s b there =
     copied_move code old access place t at ty s b ∙ ap (λ (z : Option W.Object). new_from code t (first_spot s.operands).offset z (pool_of code access) (seen_in code access s) (drop 1 s.operands) (here_of place s)) there
 
 -- no collection takes the new object
-refused_with : (code : Code) (t : ℕ) (mode : Mode) (v : List ℕ) (pool : Option Var) (ops : List Word) (h : Here) (c : Option Collection) → Refuses code t c mode → new_with code t v pool c ops h ≡ not_allocated code t c h
+refused_with : (code : Code) (t : ℕ) (mode : Mode) (v : List ℕ) (pool : Option Var) (ops : List Word) (h : Here) (c : Option Collection) → Refuses code (Record t) c mode → new_with code t v pool c ops h ≡ not_allocated code (Record t) c h
 refused_with code t mode v pool ops h None refuses = refl
 refused_with code t mode v pool ops h (Some c) refuses = rw (refuses.0) refl
 
 pub copy_refused : (code : Code) (old new : Engine) (access place t at : ℕ) (ty : Ty) (mode : Mode) (o : W.Object) (s : State) → Before code old place (NewCopy access t ty at) s → object_at (first_spot s.operands).object s.world ≡ Some o
-    → Refuses code t (seen_in code access s) mode → GoesOn old new mode old.cells.items → Makes code old new (by_instr code (Some (NewCopy access t ty at)) s.operands (here_of place s))
+    → Refuses code (Record t) (seen_in code access s) mode → GoesOn old new mode old.cells.items → Makes code old new (by_instr code (Some (NewCopy access t ty at)) s.operands (here_of place s))
 copy_refused code old new access place t at ty mode o s b there refuses goes =
     subst (λ (m : T.Move). Makes code old new m)
     (sym (source_there code old access place t at ty o s b there ∙ refused_with code t mode (cells_at (first_spot s.operands).offset (size_of code t) o) (pool_of code access) (drop 1 s.operands) (here_of place s) (seen_in code access s) refuses))
-    (refused_makes code old new t mode b.stack s.operands (here_of place s) b.inside (seen_in code access s) refuses goes)
+    (refused_makes code old new (Record t) mode b.stack s.operands (here_of place s) b.inside (seen_in code access s) refuses goes)
 
 -- it takes it, where there is storage
-takes_with : (code : Code) (access place t set : ℕ) (o : W.Object) (s : State) (c : Option Collection) → Takes code t c set
+takes_with : (code : Code) (access place t set : ℕ) (o : W.Object) (s : State) (c : Option Collection) → Takes code (Record t) c set
     → new_with code t (cells_at (first_spot s.operands).offset (size_of code t) o) (pool_of code access) c (drop 1 s.operands) (here_of place s) ≡ member_copied code place set t o s (storage_seen code access s (units_of code t))
 takes_with code access place t set o s c u =
     ap (λ (z : Option Collection). new_with code t (cells_at (first_spot s.operands).offset (size_of code t) o) (pool_of code access) z (drop 1 s.operands) (here_of place s)) u.is
     ∙ rw (u.takes) (ap (λ n. member_copied code place n t o s (storage_seen code access s (units_of code t))) u.number)
 
 pub copy_takes : (code : Code) (old new : Engine) (access place set t at : ℕ) (ty : Ty) (o : W.Object) (s : State) → Before code old place (NewCopy access t ty at) s → object_at (first_spot s.operands).object s.world ≡ Some o
-    → Takes code t (seen_in code access s) set → Makes code old new (member_copied code place set t o s (storage_seen code access s (units_of code t))) → Makes code old new (by_instr code (Some (NewCopy access t ty at)) s.operands (here_of place s))
+    → Takes code (Record t) (seen_in code access s) set → Makes code old new (member_copied code place set t o s (storage_seen code access s (units_of code t))) → Makes code old new (by_instr code (Some (NewCopy access t ty at)) s.operands (here_of place s))
 copy_takes code old new access place set t at ty o s b there u makes =
     subst (λ (m : T.Move). Makes code old new m) (sym (source_there code old access place t at ty o s b there ∙ takes_with code access place t set o s (seen_in code access s) u)) makes

@@ -24,7 +24,7 @@ use Rattle.ctl_code.specs.declared.code.Layout.{Layout}
 use Rattle.ctl_code.specs.declared.code.Way.TheVariants as WayOf
 use Rattle.ctl_code.specs.States as T
 use Rattle.ctl_code.specs.States.{State, Word}
-use Rattle.ctl_code.specs.Table.{Grant, Granted, Exhausted, UnknownPool, AllocateOf, grant, holder_grant, object_grant, operation_for, own_grant, pool_grant, pool_in, size_in, size_of, spot_of, units_in, units_of, with_member}
+use Rattle.ctl_code.specs.Table.{Grant, Granted, Exhausted, UnknownPool, AllocateOf, cells_for, grant, holder_grant, object_grant, operation_for, own_grant, pool_grant, pool_in, size_in, spot_of, units_for, units_in, with_member}
 use Rattle.ctl_code.specs.Valid.{IsValid}
 use Rattle.ctl_machine.specs.declared.engine.Engine.{Engine}
 use Rattle.ctl_machine.specs.declared.frame.Formal.{Formal}
@@ -213,43 +213,44 @@ asks_none code e w g GrantorOf.Gone size o f grants none is = let both = sym (gr
 -- An object is put there -------------------------------------------------------------------------------------
 
 -- each cell of an object has its storage units
-pub units_suffice : (code : Code) (t : ℕ) → IsValid code → 8 * size_of code t ≤ units_of code t
-units_suffice code t v = by (slice_get code.layouts.items t) refl
-  where
-    by : (o : Option Layout) → slice_get code.layouts.items t ≡ o → 8 * size_in o ≤ units_in o
-    by None is = omega arith
-    by (Some x) is = (v.layouts t x is).units
+record_units : (code : Code) (t : ℕ) (o : Option Layout) → IsValid code → slice_get code.layouts.items t ≡ o → 8 * size_in o ≤ units_in o
+record_units code t None v is = omega arith
+record_units code t (Some x) v is = (v.layouts t x is).units
+
+pub units_suffice : (code : Code) (of : Ty) → IsValid code → 8 * cells_for code of ≤ units_for code of
+units_suffice code (Record t) v = record_units code t (slice_get code.layouts.items t) v refl
+units_suffice code of v = omega arith
 
 -- the stock has one object more, and its needs are the same
-pub member_kept : (e : Kept) (x : Stock) (next set t size cells : ℕ) (place : Place) → next ≡ e.next_object → size ≡ cells → x.objects ≡ e.objects ++ new_object next (Record t) (replicate size 0) (Allocated set place) ∷ [] → x.needs ≡ e.needs
-    → record (with_stock x e) { next_object = e.next_object + 1 } ≡ with_new_member set t place (replicate cells 0) x e
-member_kept e x next set t size cells place at all objects needs =
+pub member_kept : (e : Kept) (x : Stock) (next set : ℕ) (of : Ty) (size cells : ℕ) (place : Place) → next ≡ e.next_object → size ≡ cells → x.objects ≡ e.objects ++ new_object next of (replicate size 0) (Allocated set place) ∷ [] → x.needs ≡ e.needs
+    → record (with_stock x e) { next_object = e.next_object + 1 } ≡ with_new_member set of place (replicate cells 0) x e
+member_kept e x next set of size cells place at all objects needs =
     ap (λ (os : List Object). record (with_stock x e) { objects = os; next_object = e.next_object + 1 }) objects
-    ∙ (ap (λ l. record (with_stock x e) { objects = e.objects ++ new_object next (Record t) (replicate size 0) (Allocated set place) ∷ []; needs = l; next_object = e.next_object + 1 }) needs
+    ∙ (ap (λ l. record (with_stock x e) { objects = e.objects ++ new_object next of (replicate size 0) (Allocated set place) ∷ []; needs = l; next_object = e.next_object + 1 }) needs
     ∙ (ap (λ n. with_so n size) at ∙ ap (λ n. with_so e.next_object n) all))
   where
     with_so : ℕ → ℕ → Kept
-    with_so n count = record e { objects = e.objects ++ new_object n (Record t) (replicate count 0) (Allocated set place) ∷ []; sizes = x.sizes; blocks = x.blocks; given = x.given; next_object = e.next_object + 1 }
+    with_so n count = record e { objects = e.objects ++ new_object n of (replicate count 0) (Allocated set place) ∷ []; sizes = x.sizes; blocks = x.blocks; given = x.given; next_object = e.next_object + 1 }
 
 -- in the standard pool
-pub standard_shown : (code : Code) (set t next : ℕ) (w : World) (x : Stock) → ShowsPools next w.pools x → ShowsPools next (with_member code set t Standard w).pools x
+pub standard_shown : (code : Code) (set next : ℕ) (of : Ty) (w : World) (x : Stock) → ShowsPools next w.pools x → ShowsPools next (with_member code set of Standard w).pools x
 unfolding opened_changes
-standard_shown code set t next w x h = h
+standard_shown code set next of w x h = h
 
 -- in a block
-pub block_shown : (code : Code) (set t n a next : ℕ) (v : World) (x : Stock) → ShowsPools next (hold_block n a v.ledger.next_object v.pools) x → ShowsPools next (with_member code set t (InBlock n a) v).pools x
+pub block_shown : (code : Code) (set n a next : ℕ) (of : Ty) (v : World) (x : Stock) → ShowsPools next (hold_block n a v.ledger.next_object v.pools) x → ShowsPools next (with_member code set of (InBlock n a) v).pools x
 unfolding opened_changes
-block_shown code set t n a next v x h = h
+block_shown code set n a next of v x h = h
 
 -- the block that went out
-abbrev pub IsPutThere : Code → Kept → Kept → ℕ → ℕ → ℕ → ℕ → ℕ → World → Type 0
-IsPutThere code old new set t n size a w = (new ≡ with_new_member set t (InBlock n a) (replicate (size_of code t) 0) (stock_of new) old) × ShowsPools (old.next_object + 1) (hold_block n a old.next_object (with_taken n size w.pools)) (stock_of new)
+abbrev pub IsPutThere : Code → Kept → Kept → ℕ → Ty → ℕ → ℕ → ℕ → World → Type 0
+IsPutThere code old new set of n size a w = (new ≡ with_new_member set of (InBlock n a) (replicate (cells_for code of) 0) (stock_of new) old) × ShowsPools (old.next_object + 1) (hold_block n a old.next_object (with_taken n size w.pools)) (stock_of new)
 
-pub adds_block : (code : Code) (old new : Kept) (k : List T.Frame) (ops : List Word) (set t n size a : ℕ) (w : World) → Holds code old k ops w → Some a ≡ taken_at n size w.pools → IsPutThere code old new set t n size a w → Adds code old new set t w (pool_grants n size w)
+pub adds_block : (code : Code) (old new : Kept) (k : List T.Frame) (ops : List Word) (set : ℕ) (of : Ty) (n size a : ℕ) (w : World) → Holds code old k ops w → Some a ≡ taken_at n size w.pools → IsPutThere code old new set of n size a w → Adds code old new set of w (pool_grants n size w)
 unfolding opened_changes
-adds_block code old new k ops set t n size a w h taken put = by (is_exhausted_at n size w.pools) taken put.1
+adds_block code old new k ops set of n size a w h taken put = by (is_exhausted_at n size w.pools) taken put.1
   where
-    by : (full : Bool) → Some a ≡ (if full then None else Some w.pools.next_address) → ShowsPools (old.next_object + 1) (hold_block n a old.next_object (if full then w.pools else take_block n w.pools)) (stock_of new) → Adds code old new set t w (block_unless full n w)
+    by : (full : Bool) → Some a ≡ (if full then None else Some w.pools.next_address) → ShowsPools (old.next_object + 1) (hold_block n a old.next_object (if full then w.pools else take_block n w.pools)) (stock_of new) → Adds code old new set of w (block_unless full n w)
     by true e shown = absurd (cc)
     by false e shown =
         let same : a ≡ w.pools.next_address = same_at a w.pools.next_address (Some a) refl e in
@@ -257,9 +258,9 @@ adds_block code old new k ops set t n size a w h taken put = by (is_exhausted_at
         let at : v.ledger.next_object ≡ old.next_object = h.next_object in
         record {
           granted = refl;
-          member = subst (λ i. IsNewMember code old new set t (InBlock n i) v) same (record {
+          member = subst (λ i. IsNewMember code old new set of (InBlock n i) v) same (record {
             kept = put.0;
-            pools = block_shown code set t n a (old.next_object + 1) v (stock_of new) (subst (λ i. ShowsPools (old.next_object + 1) (hold_block n a i (take_block n w.pools)) (stock_of new)) (sym at) shown);
+            pools = block_shown code set n a (old.next_object + 1) of v (stock_of new) (subst (λ i. ShowsPools (old.next_object + 1) (hold_block n a i (take_block n w.pools)) (stock_of new)) (sym at) shown);
           });
         }
 
@@ -276,6 +277,6 @@ pub goes_both : (old mid new : Engine) (mode : Mode) → GoesOn old mid old.mode
 goes_both old mid new mode a b = record { mode = b.mode; kept = b.kept ∙ a.kept; events = b.events ∙ a.events; picks = b.picks ∙ a.picks }
 
 -- what comes of it is the same, where room was made before
-pub serves_after : (code : Code) (old mid new : Engine) (set t : ℕ) (w : World) (g : Grant) (r : Option Mode) → GoesOn old mid old.mode old.cells.items → Serves code mid new set t w g r → Serves code old new set t w g r
-serves_after code old mid new set t w g None a h = subst (λ (e : Kept). Adds code e (kept new) set t w g) a.kept h
-serves_after code old mid new set t w g (Some mode) a h = (h.0, goes_both old mid new old.mode a (subst (λ (m : Mode). GoesOn mid new m mid.cells.items) a.mode h.1))
+pub serves_after : (code : Code) (old mid new : Engine) (set : ℕ) (of : Ty) (w : World) (g : Grant) (r : Option Mode) → GoesOn old mid old.mode old.cells.items → Serves code mid new set of w g r → Serves code old new set of w g r
+serves_after code old mid new set of w g None a h = subst (λ (e : Kept). Adds code e (kept new) set of w g) a.kept h
+serves_after code old mid new set of w g (Some mode) a h = (h.0, goes_both old mid new old.mode a (subst (λ (m : Mode). GoesOn mid new m mid.cells.items) a.mode h.1))

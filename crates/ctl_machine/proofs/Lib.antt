@@ -92,6 +92,7 @@ pub mod Held
 pub mod HeldThere
 pub mod Touched
 pub mod PartStored
+pub mod ValueGiven
 pub mod Numbers
 pub mod Walked
 pub mod Intervals

@@ -14,7 +14,7 @@ use Rattle.ctl_code.specs.Valid.{Leads}
 use Rattle.ctl_code.specs.Windows.{height}
 use Rattle.ctl_code.specs.States as T
 use Rattle.ctl_code.specs.States.{State, Word}
-use Rattle.ctl_code.specs.Table.{Here, NotPassed, Passed, Test, address_test, at_address, behind_declaration, by_instr, member_begins, new_in_block, stopped, units_of}
+use Rattle.ctl_code.specs.Table.{Here, NotPassed, Passed, Test, address_test, at_address, behind_declaration, by_instr, member_begins, new_in_block, stopped, units_for}
 use Rattle.ctl_machine.specs.declared.engine.Engine.{Engine}
 use Rattle.ctl_machine.specs.declared.frame.Mode.{Mode}
 use Rattle.ctl_machine.specs.declared.frame.Mode.TheVariants as ModeOf
@@ -36,16 +36,16 @@ abbrev pub member_in : List Word → ℕ → State → Member
 member_in ops place s = record { place = InBlock (number_at ops 2) (number_at ops 0); control = s.control; point = behind_declaration (drop 4 ops) (here_of place s); granted = s.world }
 
 -- what stands there before
-pub numbers_of : (code : Code) (e : Engine) (place t at : ℕ) (ty : Ty) (s : State) → (b : Before code e place (NewIn t ty at) s) → HasNumbers code (kept e) b.stack s.control s.operands s.world
-numbers_of code e place t at ty s b = has_numbers code (kept e) b.stack s.control s.operands s.world b.fine.2 b.inside
+pub numbers_of : (code : Code) (e : Engine) (place : ℕ) (of : Ty) (at : ℕ) (ty : Ty) (s : State) → (b : Before code e place (NewIn of ty at) s) → HasNumbers code (kept e) b.stack s.control s.operands s.world
+numbers_of code e place of at ty s b = has_numbers code (kept e) b.stack s.control s.operands s.world b.fine.2 b.inside
 
-pub placed_is : (code : Code) (old added : Engine) (place t at set : ℕ) (ty : Ty) (s : State) → Before code old place (NewIn t ty at) s → IsNewMember code (kept old) (kept added) set t (InBlock (number_at s.operands 2) (number_at s.operands 0)) s.world
-    → IsAdded code added set t (place + 1) (member_in s.operands place s)
-placed_is code old added place t at set ty s b i =
-    let n = numbers_of code old place t at ty s b in
-    let j = subst (λ (l : List Word). IsNewMember code (kept old) (kept added) set t (InBlock (number_at l 2) (number_at l 0)) s.world) n.stand.are i in
-    subst (λ (l : List Word). IsAdded code added set t (place + 1) (member_in l place s)) (sym n.stand.are)
-    (is_added code old added set t (place + 1) ty (drop 4 b.stack) (InBlock n.pool n.address) s.control (behind_declaration n.rest (here_of place s)) s.world s.world n.stand.inside refl refl b.fine.0 b.fine.4 refl j)
+pub placed_is : (code : Code) (old added : Engine) (place : ℕ) (of : Ty) (at set : ℕ) (ty : Ty) (s : State) → Before code old place (NewIn of ty at) s → IsNewMember code (kept old) (kept added) set of (InBlock (number_at s.operands 2) (number_at s.operands 0)) s.world
+    → IsAdded code added set of (place + 1) (member_in s.operands place s)
+placed_is code old added place of at set ty s b i =
+    let n = numbers_of code old place of at ty s b in
+    let j = subst (λ (l : List Word). IsNewMember code (kept old) (kept added) set of (InBlock (number_at l 2) (number_at l 0)) s.world) n.stand.are i in
+    subst (λ (l : List Word). IsAdded code added set of (place + 1) (member_in l place s)) (sym n.stand.are)
+    (is_added code old added set of (place + 1) ty (drop 4 b.stack) (InBlock n.pool n.address) s.control (behind_declaration n.rest (here_of place s)) s.world s.world n.stand.inside refl refl b.fine.0 b.fine.4 refl j)
 
 -- The table's move ---------------------------------------------------------------------------------------
 
@@ -54,21 +54,21 @@ pub at_numbers : (code : Code) (e : Kept) (stack : List Kind) (k : List T.Frame)
 at_numbers code e stack k ops w f h n = subst (λ (l : List Word). at_address f l h ≡ f (number_at l 3) (number_at l 2) (number_at l 0) (drop 4 l)) (sym n.stand.are) refl
 
 -- whether the address that stands there passes its test
-abbrev pub tested_there : Code → ℕ → State → Test
-tested_there code t s = address_test (number_at s.operands 0) (units_of code t) (block_pool_at (number_at s.operands 2) s.world.pools) s.world
+abbrev pub tested_there : Code → Ty → State → Test
+tested_there code of s = address_test (number_at s.operands 0) (units_for code of) (block_pool_at (number_at s.operands 2) s.world.pools) s.world
 
-new_is : (code : Code) (e : Engine) (place t at : ℕ) (ty : Ty) (s : State) (r : Test) → Before code e place (NewIn t ty at) s → tested_there code t s ≡ r
-    → by_instr code (Some (NewIn t ty at)) s.operands (here_of place s) ≡ new_in_block code t (number_at s.operands 3) (number_at s.operands 2) (number_at s.operands 0) r (drop 4 s.operands) (here_of place s)
-new_is code e place t at ty s r b is =
+new_is : (code : Code) (e : Engine) (place : ℕ) (of : Ty) (at : ℕ) (ty : Ty) (s : State) (r : Test) → Before code e place (NewIn of ty at) s → tested_there code of s ≡ r
+    → by_instr code (Some (NewIn of ty at)) s.operands (here_of place s) ≡ new_in_block code of (number_at s.operands 3) (number_at s.operands 2) (number_at s.operands 0) r (drop 4 s.operands) (here_of place s)
+new_is code e place of at ty s r b is =
     let h = here_of place s in
-    at_numbers code (kept e) b.stack s.control s.operands s.world (λ set n a rest. new_in_block code t set n a (address_test a (units_of code t) (block_pool_at n h.world.pools) h.world) rest h) h (numbers_of code e place t at ty s b)
-    ∙ ap (λ (z : Test). new_in_block code t (number_at s.operands 3) (number_at s.operands 2) (number_at s.operands 0) z (drop 4 s.operands) h) is
+    at_numbers code (kept e) b.stack s.control s.operands s.world (λ set n a rest. new_in_block code of set n a (address_test a (units_for code of) (block_pool_at n h.world.pools) h.world) rest h) h (numbers_of code e place of at ty s b)
+    ∙ ap (λ (z : Test). new_in_block code of (number_at s.operands 3) (number_at s.operands 2) (number_at s.operands 0) z (drop 4 s.operands) h) is
 
-pub makes_in_block : (code : Code) (old new : Engine) (place t at set : ℕ) (ty : Ty) (s : State) → Before code old place (NewIn t ty at) s → set ≡ number_at s.operands 3 → tested_there code t s ≡ Passed
-    → (let m = member_in s.operands place s in Makes code old new (member_begins code t set m.place m.point m.control m.granted)) → Makes code old new (by_instr code (Some (NewIn t ty at)) s.operands (here_of place s))
-makes_in_block code old new place t at set ty s b set_is passes made =
+pub makes_in_block : (code : Code) (old new : Engine) (place : ℕ) (of : Ty) (at set : ℕ) (ty : Ty) (s : State) → Before code old place (NewIn of ty at) s → set ≡ number_at s.operands 3 → tested_there code of s ≡ Passed
+    → (let m = member_in s.operands place s in Makes code old new (member_begins code of set m.place m.point m.control m.granted)) → Makes code old new (by_instr code (Some (NewIn of ty at)) s.operands (here_of place s))
+makes_in_block code old new place of at set ty s b set_is passes made =
     let m = member_in s.operands place s in
-    subst (λ (y : T.Move). Makes code old new y) (sym (new_is code old place t at ty s Passed b passes)) (subst (λ i. Makes code old new (member_begins code t i m.place m.point m.control m.granted)) set_is made)
+    subst (λ (y : T.Move). Makes code old new y) (sym (new_is code old place of at ty s Passed b passes)) (subst (λ i. Makes code old new (member_begins code of i m.place m.point m.control m.granted)) set_is made)
 
 pub stops_so : (code : Code) (old new : Engine) (stop : Stop) (k : List T.Frame) (ops : List Word) (w : World) → Holds code (kept old) k ops w → GoesOn old new (ModeOf.Stopped stop) old.cells.items → Makes code old new (stopped stop k w)
 stops_so code old new stop k ops w h g = record {
@@ -79,10 +79,10 @@ stops_so code old new stop k ops w h g = record {
   picks = g.picks;
 }
 
-pub makes_stop : (code : Code) (old new : Engine) (place t at : ℕ) (ty : Ty) (stop : Stop) (s : State) → (b : Before code old place (NewIn t ty at) s)
-    → tested_there code t s ≡ NotPassed stop → GoesOn old new (ModeOf.Stopped stop) old.cells.items → Makes code old new (by_instr code (Some (NewIn t ty at)) s.operands (here_of place s))
-makes_stop code old new place t at ty stop s b fails goes =
-    subst (λ (y : T.Move). Makes code old new y) (sym (new_is code old place t at ty s (NotPassed stop) b fails)) (stops_so code old new stop s.control s.operands s.world b.inside.holds goes)
+pub makes_stop : (code : Code) (old new : Engine) (place : ℕ) (of : Ty) (at : ℕ) (ty : Ty) (stop : Stop) (s : State) → (b : Before code old place (NewIn of ty at) s)
+    → tested_there code of s ≡ NotPassed stop → GoesOn old new (ModeOf.Stopped stop) old.cells.items → Makes code old new (by_instr code (Some (NewIn of ty at)) s.operands (here_of place s))
+makes_stop code old new place of at ty stop s b fails goes =
+    subst (λ (y : T.Move). Makes code old new y) (sym (new_is code old place of at ty s (NotPassed stop) b fails)) (stops_so code old new stop s.control s.operands s.world b.inside.holds goes)
 
 -- The cells ----------------------------------------------------------------------------------------------
 

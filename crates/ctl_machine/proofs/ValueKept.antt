@@ -3,6 +3,7 @@ use Rattle.std.proofs.Common.{◌≡◌, ℕ, ◌+◌, ◌<◌, List, [], ◌∷
 use Rattle.std.specs.Prelude.{slice_get, slice_set}
 use Rattle.std.proofs.lemmas.List.{append_assoc}
 use Rattle.ctl_program.specs.declared.types.Ty.{Ty}
+use Rattle.ctl_program.specs.declared.types.Ty.TheVariants.{Record}
 use Rattle.ctl_meaning.specs.World.{InBlock, World}
 use Rattle.ctl_meaning.specs.Pools.{block_pool_at}
 use Rattle.ctl_tree.specs.declared.ending.Stop.{Stop}
@@ -86,7 +87,7 @@ value_below code e place t at ty s b =
     (has_value code (kept e) (drop 5 b.stack) s.control n.rest s.world (subst (λ (l : List Kind). Inside code (kept e) l s.control n.rest s.world) split n.stand.inside))
 
 -- what the table makes of it
-copy_in_is : (code : Code) (e : Engine) (place t at : ℕ) (ty : Ty) (s : State) (r : Test) → (b : Before code e place (NewCopyIn t ty at) s) → tested_there code t s ≡ r
+copy_in_is : (code : Code) (e : Engine) (place t at : ℕ) (ty : Ty) (s : State) (r : Test) → (b : Before code e place (NewCopyIn t ty at) s) → tested_there code (Record t) s ≡ r
     → by_instr code (Some (NewCopyIn t ty at)) s.operands (here_of place s) ≡ copy_in_block code t (first_cells (drop 4 s.operands)) (number_at s.operands 3) (number_at s.operands 2) (number_at s.operands 0) r (drop 1 (drop 4 s.operands)) (here_of place s)
 copy_in_is code e place t at ty s r b is =
     let h = here_of place s in
@@ -96,13 +97,13 @@ copy_in_is code e place t at ty s r b is =
     ∙ (ap (λ (l : List Word). by_copy_in code t (number_at s.operands 3) (number_at s.operands 2) (number_at s.operands 0) l h) x.are
     ∙ ap (λ (z : Test). copy_in_block code t (first_cells (drop 4 s.operands)) (number_at s.operands 3) (number_at s.operands 2) (number_at s.operands 0) z (drop 1 (drop 4 s.operands)) h) is)
 
-pub copies_in_block : (code : Code) (old new : Engine) (place t at set : ℕ) (ty : Ty) (s : State) → (b : Before code old place (NewCopyIn t ty at) s) → set ≡ number_at s.operands 3 → tested_there code t s ≡ Passed
+pub copies_in_block : (code : Code) (old new : Engine) (place t at set : ℕ) (ty : Ty) (s : State) → (b : Before code old place (NewCopyIn t ty at) s) → set ≡ number_at s.operands 3 → tested_there code (Record t) s ≡ Passed
     → Makes code old new (copy_move code (place + 1) set t (InBlock (number_at s.operands 2) (number_at s.operands 0)) s.world (first_cells (drop 4 s.operands)) (drop 1 (drop 4 s.operands)) s) → Makes code old new (by_instr code (Some (NewCopyIn t ty at)) s.operands (here_of place s))
 copies_in_block code old new place t at set ty s b set_is passes made =
     subst (λ (y : T.Move). Makes code old new y) (sym (copy_in_is code old place t at ty s Passed b passes))
     (subst (λ i. Makes code old new (copy_move code (place + 1) i t (InBlock (number_at s.operands 2) (number_at s.operands 0)) s.world (first_cells (drop 4 s.operands)) (drop 1 (drop 4 s.operands)) s)) set_is made)
 
 pub copy_stops : (code : Code) (old new : Engine) (place t at : ℕ) (ty : Ty) (stop : Stop) (s : State) → (b : Before code old place (NewCopyIn t ty at) s)
-    → tested_there code t s ≡ NotPassed stop → GoesOn old new (ModeOf.Stopped stop) old.cells.items → Makes code old new (by_instr code (Some (NewCopyIn t ty at)) s.operands (here_of place s))
+    → tested_there code (Record t) s ≡ NotPassed stop → GoesOn old new (ModeOf.Stopped stop) old.cells.items → Makes code old new (by_instr code (Some (NewCopyIn t ty at)) s.operands (here_of place s))
 copy_stops code old new place t at ty stop s b fails goes =
     subst (λ (y : T.Move). Makes code old new y) (sym (copy_in_is code old place t at ty s (NotPassed stop) b fails)) (stops_so code old new stop s.control s.operands s.world b.inside.holds goes)

@@ -27,17 +27,17 @@ use Rattle.ctl_machine.specs.declared.frame.Mode.TheVariants as ModeOf
 
 -- Collections that take objects ------------------------------------------------------------------
 
--- the collection of this number takes an object of a record type
-pub record Takes (code : Code) (type : ℕ) (seen : Option Collection) (set : ℕ) : Type 0 where
+-- the collection of this number takes an object of a type
+pub record Takes (code : Code) (of : Ty) (seen : Option Collection) (set : ℕ) : Type 0 where
   pub collection : Collection
   pub is : seen ≡ Some collection
   pub number : collection.number ≡ set
-  pub takes : is_refused code type collection ≡ false
+  pub takes : is_refused code of collection ≡ false
 
 -- no collection does, and this comes instead: it is gone, or its finalization has started (4.8, 13.11.2)
-abbrev pub Refuses : Code → ℕ → Option Collection → Mode → Type 0
-Refuses code type None mode = mode ≡ ModeOf.Stopped UseAfterFree
-Refuses code type (Some c) mode = (is_refused code type c ≡ true) × (mode ≡ ModeOf.Transfers (WayOf.Raise 1))
+abbrev pub Refuses : Code → Ty → Option Collection → Mode → Type 0
+Refuses code of None mode = mode ≡ ModeOf.Stopped UseAfterFree
+Refuses code of (Some c) mode = (is_refused code of c ≡ true) × (mode ≡ ModeOf.Transfers (WayOf.Raise 1))
 
 -- Allocated objects ------------------------------------------------------------------------------
 

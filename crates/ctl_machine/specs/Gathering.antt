@@ -1,5 +1,6 @@
 -- Collections and their objects, as the machine makes them.
 use Rattle.std.specs.Prelude.{ℕ, ◌+◌, List, [], ◌∷◌, ◌++◌, false, nat_lt}
+use Rattle.ctl_program.specs.declared.types.Ty.{Ty}
 use Rattle.ctl_program.specs.declared.types.Ty.TheVariants.{Record}
 use Rattle.ctl_tree.specs.declared.event.Owner.TheVariants as OwnerOf
 use Rattle.ctl_meaning.specs.Changes.{new_object}
@@ -36,18 +37,18 @@ pub record Member : Type 0 where
   pub point : T.Point
   pub granted : World
 
--- as a part that is created behind the frame of its allocator, for a collection
+-- one of a record type, as a part that is created behind the frame of its allocator, for a collection
 abbrev pub member_at : Code → ℕ → ℕ → Member → Grown
 member_at code set t m = record {
   new = newborn m.granted.ledger.next_object t (OwnerOf.Collection set);
   control = T.Creating T.ByAllocator m.granted.ledger.next_object t m.point ∷ m.control;
-  world = with_member code set t m.place m.granted;
+  world = with_member code set (Record t) m.place m.granted;
 }
 
 -- with it, which has these cells, and all pools as this stock has them
-abbrev pub with_new_member : ℕ → ℕ → Place → List ℕ → Stock → Kept → Kept
-with_new_member set t place row x e = record e {
-  objects = e.objects ++ new_object e.next_object (Record t) row (Allocated set place) ∷ [];
+abbrev pub with_new_member : ℕ → Ty → Place → List ℕ → Stock → Kept → Kept
+with_new_member set of place row x e = record e {
+  objects = e.objects ++ new_object e.next_object of row (Allocated set place) ∷ [];
   sizes = x.sizes;
   blocks = x.blocks;
   given = x.given;

@@ -14,7 +14,7 @@ use Rattle.ctl_code.specs.declared.code.Way.TheVariants as WayOf
 use Rattle.ctl_code.specs.Fits.{Stands}
 use Rattle.ctl_code.specs.States.{Scalar, State, Word, worth}
 use Rattle.ctl_code.specs.Valid.{IsScalar, Leads}
-use Rattle.ctl_code.specs.Table.{Grant, Granted, Exhausted, UnknownPool, AllocateOf, NotPassed, Passed, address_test, grant, operation_for, pool_in, size_of, units_of, with_member}
+use Rattle.ctl_code.specs.Table.{Grant, Granted, Exhausted, UnknownPool, AllocateOf, NotPassed, Passed, address_test, cells_for, grant, operation_for, pool_in, units_for, with_member}
 use Rattle.ctl_storage.specs.Calls.{IsOpen, is_exhausted_at}
 use Rattle.ctl_storage.specs.declared.pools.Placing.{Placing}
 use Rattle.ctl_storage.specs.declared.pools.Placing.TheVariants as PlacingOf
@@ -78,14 +78,14 @@ world_granted w _ = w
 -- Objects at their places ------------------------------------------------------------------------
 
 -- an object was allocated at a place, where the world had granted this
-pub record IsNewMember (code : Code) (old new : Kept) (set t : ℕ) (place : Place) (granted : World) : Type 0 where
-  pub kept : new ≡ with_new_member set t place (replicate (size_of code t) 0) (stock_of new) old
-  pub pools : ShowsPools (old.next_object + 1) (with_member code set t place granted).pools (stock_of new)
+pub record IsNewMember (code : Code) (old new : Kept) (set : ℕ) (of : Ty) (place : Place) (granted : World) : Type 0 where
+  pub kept : new ≡ with_new_member set of place (replicate (cells_for code of) 0) (stock_of new) old
+  pub pools : ShowsPools (old.next_object + 1) (with_member code set of place granted).pools (stock_of new)
 
 -- storage was granted, and an object is there
-pub record Adds (code : Code) (old new : Kept) (set t : ℕ) (w : World) (g : Grant) : Type 0 where
+pub record Adds (code : Code) (old new : Kept) (set : ℕ) (of : Ty) (w : World) (g : Grant) : Type 0 where
   pub granted : g ≡ Granted (place_granted g) (world_granted w g)
-  pub member : IsNewMember code old new set t (place_granted g) (world_granted w g)
+  pub member : IsNewMember code old new set of (place_granted g) (world_granted w g)
 
 -- none was, and this comes next: Storage_Error (11.1), or the pool has ceased to exist (13.11.2); where the user wrote the Allocate, it is not
 -- asked here
@@ -96,46 +96,46 @@ Lacks UnknownPool mode = mode ≡ ModeOf.Stopped UseAfterFree
 Lacks (AllocateOf o f) mode = mode ≡ ModeOf.Stopped UseAfterFree
 
 -- the one or the other, where what comes next is answered
-abbrev pub Serves : Code → Engine → Engine → ℕ → ℕ → World → Grant → Option Mode → Type 0
-Serves code old new set t w g None = Adds code (kept old) (kept new) set t w g
-Serves code old new set t w g (Some mode) = Lacks g mode × GoesOn old new old.mode old.cells.items
+abbrev pub Serves : Code → Engine → Engine → ℕ → Ty → World → Grant → Option Mode → Type 0
+Serves code old new set of w g None = Adds code (kept old) (kept new) set of w g
+Serves code old new set of w g (Some mode) = Lacks g mode × GoesOn old new old.mode old.cells.items
 
 -- At an address ----------------------------------------------------------------------------------
 
 -- an object is there, in a block of an open pool, or no block there may hold it, and nothing has changed
-abbrev pub Places : Code → Engine → Engine → ℕ → ℕ → ℕ → ℕ → World → Placing → Type 0
-Places code old new set t n a w PlacingOf.Placed = (address_test a (units_of code t) (block_pool_at n w.pools) w ≡ Passed) × IsNewMember code (kept old) (kept new) set t (InBlock n a) w
-Places code old new set t n a w PlacingOf.Refused = (address_test a (units_of code t) (block_pool_at n w.pools) w ≡ NotPassed BadAddress) × GoesOn old new old.mode old.cells.items
+abbrev pub Places : Code → Engine → Engine → ℕ → Ty → ℕ → ℕ → World → Placing → Type 0
+Places code old new set of n a w PlacingOf.Placed = (address_test a (units_for code of) (block_pool_at n w.pools) w ≡ Passed) × IsNewMember code (kept old) (kept new) set of (InBlock n a) w
+Places code old new set of n a w PlacingOf.Refused = (address_test a (units_for code of) (block_pool_at n w.pools) w ≡ NotPassed BadAddress) × GoesOn old new old.mode old.cells.items
 
 -- the number under so many newer operands
 abbrev pub number_at : List Word → ℕ → ℕ
 number_at ops i = worth (unwrap_or (slice_get ops i) (Scalar 0))
 
 -- an object is at the address that an Allocate gave, for the collection whose number is answered; or that address does not pass its test
-abbrev pub PlacesThere : Code → Engine → Engine → ℕ → State → Result ℕ Mode → Type 0
-PlacesThere code old new t s (Ok set) =
+abbrev pub PlacesThere : Code → Engine → Engine → Ty → State → Result ℕ Mode → Type 0
+PlacesThere code old new of s (Ok set) =
     let n = number_at s.operands 2 in
     let a = number_at s.operands 0 in
-    (set ≡ number_at s.operands 3) × (address_test a (units_of code t) (block_pool_at n s.world.pools) s.world ≡ Passed) × IsNewMember code (kept old) (kept new) set t (InBlock n a) s.world
-PlacesThere code old new t s (Err mode) =
-    (stop : Stop) × (mode ≡ ModeOf.Stopped stop) × (address_test (number_at s.operands 0) (units_of code t) (block_pool_at (number_at s.operands 2) s.world.pools) s.world ≡ NotPassed stop) × GoesOn old new old.mode old.cells.items
+    (set ≡ number_at s.operands 3) × (address_test a (units_for code of) (block_pool_at n s.world.pools) s.world ≡ Passed) × IsNewMember code (kept old) (kept new) set of (InBlock n a) s.world
+PlacesThere code old new of s (Err mode) =
+    (stop : Stop) × (mode ≡ ModeOf.Stopped stop) × (address_test (number_at s.operands 0) (units_for code of) (block_pool_at (number_at s.operands 2) s.world.pools) s.world ≡ NotPassed stop) × GoesOn old new old.mode old.cells.items
 
 -- New objects ------------------------------------------------------------------------------------
 
 -- it was allocated for a collection, is the last one that was given a number, and is to begin; its allocator goes on there
-pub record IsAdded (code : Code) (e : Engine) (set t at : ℕ) (m : Member) : Type 0 where
-  pub holds : Holds code (kept e) m.control m.point.operands (with_member code set t m.place m.granted)
+pub record IsAdded (code : Code) (e : Engine) (set : ℕ) (of : Ty) (at : ℕ) (m : Member) : Type 0 where
+  pub holds : Holds code (kept e) m.control m.point.operands (with_member code set of m.place m.granted)
   pub spots : e.spots.items ≡ standing m.control m.point.operands
   pub number : m.granted.ledger.next_object ≡ e.numbered.objects
   pub foreign : OwnsNone e.numbered.objects e.owned.items
   pub goes_on : m.point.place ≡ at
-  pub seen : m.point.display ≡ first_display (heads_of (with_member code set t m.place m.granted).activations)
+  pub seen : m.point.display ≡ first_display (heads_of (with_member code set of m.place m.granted).activations)
   pub stack : List Kind
   pub type : Ty
   pub scalar : IsScalar type
   pub leads : Leads code m.point.place (Operand type ∷ stack)
   pub stands : Stands code stack m.control m.point.operands
-  pub sized : Sized code stack m.control (heads_of (with_member code set t m.place m.granted).activations)
+  pub sized : Sized code stack m.control (heads_of (with_member code set of m.place m.granted).activations)
 
 -- the numbers of a collection and of a pool stand in two cells
 abbrev pub with_numbers : ℕ → ℕ → ℕ → List ℕ → List ℕ

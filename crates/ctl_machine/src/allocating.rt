@@ -33,17 +33,17 @@ ghost use Rattle.ctl_machine.specs.Shows.{Holds, kept};
 
 use crate::engine::Engine;
 use crate::frame::{After, Ended, Frame, Master, Mode, Owned, Role};
-use crate::granting::{Grantor, units_of};
+use crate::granting::{Grantor, units_for};
 use crate::holders::{find_set, held_set};
 use crate::layers::PROGRAM_ERROR;
-use crate::parts::{is_made_at_once, parts_of};
+use crate::parts::{has_part_in, type_begun};
 use crate::pool_blocks::is_open;
 use crate::spots::Spot;
 use crate::storage_calls::StorageActuals;
-use ctl_code::code::{Code, Parts, Way};
+use ctl_code::code::{Code, Way};
 use ctl_objects::{Life, Origin, Placing, Spot as BlockSpot, Stage};
 use ctl_program::limits::STORAGE_COUNT_LAST;
-use ctl_program::types::Var;
+use ctl_program::types::{Ty, Var};
 use ctl_tree::ending::Stop;
 use ctl_tree::event::{Event, Owner};
 use std::alloc::AllocError;
@@ -61,13 +61,13 @@ fn is_new(stage: Stage) -> bool
     }
 }
 
-/// Tells whether an object with a controlled part is allocated for a collection no more: an object of this record type has one, and the
-/// finalization of the collection has started (RM 4.8).
-fn is_refused(code: &Code, record: usize, set: &Owned) -> bool
-    ensures { result ≡ Table.is_refused code.now «record» (collection_of set.now) }
+/// Tells whether an object with a controlled part is allocated for a collection no more: an object of this type has one, and the finalization
+/// of the collection has started (RM 4.8).
+fn is_refused(code: &Code, of: Ty, set: &Owned) -> bool
+    ensures { result ≡ Table.is_refused code.now of (collection_of set.now) }
 {
     match set.role {
-        Role::Collection { started: true, .. } => !matches!(parts_of(code, record), Parts::Plain),
+        Role::Collection { started: true, .. } => has_part_in(code, of),
         _ => false,
     }
 }
@@ -164,43 +164,43 @@ impl Engine {
         find_set(self.owned.as_slice(), self.set_held(code, access))
     }
 
-    /// Finds the collection of an access type where that is seen, for which an object of a record type is allocated, and answers its number;
-    /// else what comes next: where the finalization of the collection has started, an object with a controlled part is not allocated, and
+    /// Finds the collection of an access type where that is seen, for which an object of a type is allocated, and answers its number; else
+    /// what comes next: where the finalization of the collection has started, an object with a controlled part is not allocated, and
     /// Program_Error is raised (RM 4.8); where the collection is gone, the program is erroneous (RM 13.11.2).
     #[inline(always)]
-    pub(crate) fn set_for(&self, code: &Code, access: usize, record: usize) -> Result<u64, Mode>
+    pub(crate) fn set_for(&self, code: &Code, access: usize, of: Ty) -> Result<u64, Mode>
         ghost s: { State }
         requires holds { Holds code.now (kept self.now) s.control s.operands s.world }
         requires access { (a : AccessHome) × (slice_get code.now.accesses.items access ≡ Some a) × (1 ≤ a.collection.level) }
-        ensures ok { IfOk result (Takes code.now «record» (Table.set_seen (slice_get code.now.accesses.items access) (first_display (heads_of s.world.activations)) s.world)) }
-        ensures err { IfErr result (Refuses code.now «record» (Table.set_seen (slice_get code.now.accesses.items access) (first_display (heads_of s.world.activations)) s.world)) }
+        ensures ok { IfOk result (Takes code.now of (Table.set_seen (slice_get code.now.accesses.items access) (first_display (heads_of s.world.activations)) s.world)) }
+        ensures err { IfErr result (Refuses code.now of (Table.set_seen (slice_get code.now.accesses.items access) (first_display (heads_of s.world.activations)) s.world)) }
     {
         let Some(set) = self.set_seen(code, &code.accesses[access].collection) else {
             return Err(Mode::Stopped(Stop::UseAfterFree));
         };
-        if is_refused(code, record, &set) {
+        if is_refused(code, of, &set) {
             return Err(Mode::Transfers(Way::Raise(PROGRAM_ERROR)));
         }
         Ok(set.number)
     }
 
-    /// Lets the object of a record type that was allocated last, for the collection of this number, begin, for which there is room: its
-    /// components are to begin (RM 4.8, 7.6). Its allocator goes on at this place. Where nothing is executed for its creation, it joins the
-    /// collection at once (RM 4.8).
+    /// Lets the object of a type that was allocated last, for the collection of this number, begin, for which there is room: its components
+    /// are to begin (RM 4.8, 7.6). Its allocator goes on at this place. Where nothing is executed for its creation, it joins the collection at
+    /// once (RM 4.8).
     #[inline(always)]
-    fn begin_member(&mut self, code: &Code, set: u64, record: usize, place: usize)
+    fn begin_member(&mut self, code: &Code, set: u64, of: Ty, place: usize)
         ghost t: { Member × World }
         requires valid { IsValid code.now }
-        requires added { IsAdded code.now self.old set «record» place t.0 }
-        requires world { t.1 ≡ Table.with_member code.now set «record» t.0.place t.0.granted }
+        requires added { IsAdded code.now self.old set of place t.0 }
+        requires world { t.1 ≡ Table.with_member code.now set of t.0.place t.0.granted }
         requires control { vec_len self.old.control + 2 ≤ vec_capacity self.old.control }
         requires spots { vec_len self.old.spots < vec_capacity self.old.spots }
-        ensures makes { Makes code.now self.old self.new (Table.member_begins code.now «record» set t.0.place t.0.point t.0.control t.0.granted) }
+        ensures makes { Makes code.now self.old self.new (Table.member_begins code.now of set t.0.place t.0.point t.0.control t.0.granted) }
     {
         let object = self.numbered.objects;
-        if is_made_at_once(code, record) {
+        let Some(record) = type_begun(code, of) else {
             return self.end_allocation(code, Ended::Complete, object, place);
-        }
+        };
         self.control
             .push_reserved(Frame::Allocating { object, place });
         let whole = Spot::whole(self.alloc, object);
@@ -221,14 +221,14 @@ impl Engine {
         self.cells[cell + 1] = pool;
     }
 
-    /// Calls the Allocate that the user wrote for the type of the pool of this number, for an object of a record type (RM 13.11): it leads to
+    /// Calls the Allocate that the user wrote for the type of the pool of this number, for an object of a type (RM 13.11): it leads to
     /// the next instruction, over the numbers of the collection and of the pool, which stand from this cell on; there is room for it. A size
     /// beyond Storage_Count'Last is Constraint_Error in place of the call.
     pub(crate) fn enter_allocate(
         &mut self,
         code: &Code,
         set: u64,
-        record: usize,
+        of: Ty,
         pool: u64,
         allocate: usize,
         place: usize,
@@ -242,9 +242,9 @@ impl Engine {
         requires operation { Table.operation_for (λ x. x.allocate) code.now s.1.ty ≡ Some allocate }
         requires room { HasRoom code.now self.old (first + 2) }
         requires place { place + 1 < 2 ^ 64 }
-        ensures { Makes code.now self.old self.new (Table.call_allocate code.now (Table.units_of code.now «record») set s.1 allocate s.0.operands (here_of place s.0)) }
+        ensures { Makes code.now self.old self.new (Table.call_allocate code.now (Table.units_for code.now of) set s.1 allocate s.0.operands (here_of place s.0)) }
     {
-        let units = units_of(code, record) as u64;
+        let units = units_for(code, of) as u64;
         if units > STORAGE_COUNT_LAST {
             self.go_on(Mode::Transfers(Way::Raise(CONSTRAINT_ERROR)));
             return;
@@ -275,37 +275,37 @@ impl Engine {
         );
     }
 
-    /// Calls the Allocate that the user wrote for the type of the pool of this number, for an object of a record type without a value, as
+    /// Calls the Allocate that the user wrote for the type of the pool of this number, for an object of a type without a value, as
     /// `enter_allocate` does (RM 13.11). Unchanged where memory is refused.
     fn call_allocate(
         &mut self,
         code: &Code,
         set: u64,
-        record: usize,
+        of: Ty,
         pool: u64,
         allocate: usize,
         place: usize,
     ) -> Result<(), AllocError>
         ghost s: { State × Object × ℕ }
         requires valid { IsValid code.now }
-        requires before { (access : ℕ) × (ty : Ty) × (at : ℕ) × Before code.now self.old place (InstrOf.New access «record» ty at) s.0 }
+        requires before { (access : ℕ) × (ty : Ty) × (at : ℕ) × Before code.now self.old place (InstrOf.New access of ty at) s.0 }
         requires set { s.2 ≡ set }
         requires pool { object_in pool self.old.stock.objects ≡ Some s.1 }
         requires operation { Table.operation_for (λ x. x.allocate) code.now s.1.ty ≡ Some allocate }
         requires place { place + 1 < 2 ^ 64 }
         requires masters { self.old.given_masters + 1 < 2 ^ 64 }
-        ensures ok { OnOk result (Makes code.now self.old self.new (Table.call_allocate code.now (Table.units_of code.now «record») set s.1 allocate s.0.operands (here_of place s.0))) }
+        ensures ok { OnOk result (Makes code.now self.old self.new (Table.call_allocate code.now (Table.units_for code.now of) set s.1 allocate s.0.operands (here_of place s.0))) }
         ensures err { OnErr result (GoesOn self.old self.new self.old.mode self.old.cells.items) }
     {
         let first = self.window() + code.kinds.height_at(place, 0);
         let base = first + 2;
         self.prepare(base, code.room, 1)?;
-        self.enter_allocate(code, set, record, pool, allocate, place, first);
+        self.enter_allocate(code, set, of, pool, allocate, place, first);
         Ok(())
     }
 
-    /// Allocates an object of a record type for the collection of this number, with storage of the pool of an access type (RM 4.8, 13.11): it
-    /// is created, and its components are to begin (RM 7.6); or the Allocate is called that the user wrote for the type of the pool. Where
+    /// Allocates an object of a type for the collection of this number, with storage of the pool of an access type (RM 4.8, 13.11): it is
+    /// created, and its components are to begin (RM 7.6); or the Allocate is called that the user wrote for the type of the pool. Where
     /// there is no storage, Storage_Error is raised, or the program is erroneous (RM 13.11.2). Unchanged where memory is refused.
     #[inline(always)]
     fn create_member(
@@ -313,32 +313,32 @@ impl Engine {
         code: &Code,
         access: usize,
         set: u64,
-        record: usize,
+        of: Ty,
         place: usize,
     ) -> Result<(), AllocError>
         ghost s: { State × (ℕ → Grant) }
         requires valid { IsValid code.now }
-        requires before { (ty : Ty) × (at : ℕ) × Before code.now self.old place (InstrOf.New access «record» ty at) s.0 }
+        requires before { (ty : Ty) × (at : ℕ) × Before code.now self.old place (InstrOf.New access of ty at) s.0 }
         requires storage { s.1 ≡ storage_seen code.now access s.0 }
         requires place { place + 1 + 1 < 2 ^ 64 }
         requires objects { self.old.numbered.objects + 1 < 2 ^ 64 }
         requires masters { self.old.given_masters + 1 < 2 ^ 64 }
-        ensures ok { OnOk result (Makes code.now self.old self.new (Table.new_at code.now «record» set (s.1 (Table.units_of code.now «record»)) s.0.operands (here_of place s.0))) }
+        ensures ok { OnOk result (Makes code.now self.old self.new (Table.new_at code.now of set (s.1 (Table.units_for code.now of)) s.0.operands (here_of place s.0))) }
         ensures err { OnErr result (GoesOn self.old self.new self.old.mode self.old.cells.items) }
     {
         let grantor = self.grantor(code, access);
         if let Grantor::User { pool, allocate } = grantor {
-            return self.call_allocate(code, set, record, pool, allocate, place);
+            return self.call_allocate(code, set, of, pool, allocate, place);
         }
-        if let Some(refused) = self.add_member(code, grantor, set, record)? {
+        if let Some(refused) = self.add_member(code, grantor, set, of)? {
             self.go_on(refused);
             return Ok(());
         }
-        self.begin_member(code, set, record, place + 2);
+        self.begin_member(code, set, of, place + 2);
         Ok(())
     }
 
-    /// Allocates an object of a record type without a value for the collection of an access type (RM 4.8): it is created, and its components
+    /// Allocates an object of a type without a value for the collection of an access type (RM 4.8): it is created, and its components
     /// are to begin (RM 7.6); or the Allocate is called that the user wrote for the type of its storage pool (RM 13.11). Where the
     /// finalization of the collection has started, an object with a controlled part is not: Program_Error is raised; and Storage_Error where
     /// the storage pool of the access type is exhausted (RM 13.11). Where the collection or the pool is gone, the program is erroneous
@@ -348,20 +348,20 @@ impl Engine {
         &mut self,
         code: &Code,
         access: usize,
-        record: usize,
+        of: Ty,
         place: usize,
     ) -> Result<(), AllocError>
         ghost s: { State × Ty × ℕ }
         requires valid { IsValid code.now }
-        requires before { Before code.now self.old place (InstrOf.New access «record» s.1 s.2) s.0 }
+        requires before { Before code.now self.old place (InstrOf.New access of s.1 s.2) s.0 }
         requires place { place + 1 + 1 < 2 ^ 64 }
         requires objects { self.old.numbered.objects + 1 < 2 ^ 64 }
         requires masters { self.old.given_masters + 1 < 2 ^ 64 }
-        ensures ok { OnOk result (Makes code.now self.old self.new (Table.by_instr code.now (Some (InstrOf.New access «record» s.1 s.2)) s.0.operands (here_of place s.0))) }
+        ensures ok { OnOk result (Makes code.now self.old self.new (Table.by_instr code.now (Some (InstrOf.New access of s.1 s.2)) s.0.operands (here_of place s.0))) }
         ensures err { OnErr result (GoesOn self.old self.new self.old.mode self.old.cells.items) }
     {
-        match self.set_for(code, access, record) {
-            Ok(set) => self.create_member(code, access, set, record, place),
+        match self.set_for(code, access, of) {
+            Ok(set) => self.create_member(code, access, set, of, place),
             Err(refused) => {
                 self.go_on(refused);
                 Ok(())
@@ -369,21 +369,21 @@ impl Engine {
         }
     }
 
-    /// Allocates an object of a record type for the collection whose number stands there, at the address of a pool that an Allocate gave, if a
+    /// Allocates an object of a type for the collection whose number stands there, at the address of a pool that an Allocate gave, if a
     /// block of the pool is out there that holds no object and is large enough (RM 13.11), and reserves room for two frames that wait for it
     /// and for the part that it is. Answers the number of the collection, or what comes next: else the program is erroneous (RM 13.11.2).
     /// Unchanged then, and where memory is refused.
     pub(crate) fn place_member(
         &mut self,
         code: &Code,
-        record: usize,
+        of: Ty,
         place: usize,
     ) -> Result<Result<u64, Mode>, AllocError>
         ghost s: { State }
         requires valid { IsValid code.now }
         requires numbers { (stack : List Kind) × Leads code.now place stack × HaveNumbers 4 stack × Inside code.now (kept self.old) stack s.control s.operands s.world }
         requires objects { self.old.numbered.objects + 1 < 2 ^ 64 }
-        ensures ok { IfOk result (PlacesThere code.now self.old self.new «record» s) }
+        ensures ok { IfOk result (PlacesThere code.now self.old self.new of s) }
         ensures err { OnErr result (GoesOn self.old self.new self.old.mode self.old.cells.items) }
         ensures control { IfOk result (λ answer. OnOk answer (vec_len self.new.control + 2 ≤ vec_capacity self.new.control)) }
         ensures spots { IfOk result (λ answer. OnOk answer (vec_len self.new.spots < vec_capacity self.new.spots)) }
@@ -398,30 +398,30 @@ impl Engine {
             return Ok(Err(Mode::Stopped(Stop::UseAfterFree)));
         }
         let block = BlockSpot { pool, address };
-        match self.add_at_address(code, set, record, block)? {
+        match self.add_at_address(code, set, of, block)? {
             Placing::Placed => Ok(Ok(set)),
             Placing::Refused => Ok(Err(Mode::Stopped(Stop::BadAddress))),
         }
     }
 
-    /// Allocates an object of a record type without a value at the address of a pool that an Allocate gave (RM 13.11); where no object may be
+    /// Allocates an object of a type without a value at the address of a pool that an Allocate gave (RM 13.11); where no object may be
     /// there, the program is erroneous (RM 13.11.2). Unchanged where memory is refused.
     pub(crate) fn allocate_at_address(
         &mut self,
         code: &Code,
-        record: usize,
+        of: Ty,
         place: usize,
     ) -> Result<(), AllocError>
         ghost s: { State × Ty × ℕ }
         requires valid { IsValid code.now }
-        requires before { Before code.now self.old place (InstrOf.NewIn «record» s.1 s.2) s.0 }
+        requires before { Before code.now self.old place (InstrOf.NewIn of s.1 s.2) s.0 }
         requires place { place + 1 < 2 ^ 64 }
         requires objects { self.old.numbered.objects + 1 < 2 ^ 64 }
-        ensures ok { OnOk result (Makes code.now self.old self.new (Table.by_instr code.now (Some (InstrOf.NewIn «record» s.1 s.2)) s.0.operands (here_of place s.0))) }
+        ensures ok { OnOk result (Makes code.now self.old self.new (Table.by_instr code.now (Some (InstrOf.NewIn of s.1 s.2)) s.0.operands (here_of place s.0))) }
         ensures err { OnErr result (GoesOn self.old self.new self.old.mode self.old.cells.items) }
     {
-        match self.place_member(code, record, place)? {
-            Ok(set) => self.begin_member(code, set, record, place + 1),
+        match self.place_member(code, of, place)? {
+            Ok(set) => self.begin_member(code, set, of, place + 1),
             Err(refused) => self.go_on(refused),
         }
         Ok(())

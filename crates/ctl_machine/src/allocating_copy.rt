@@ -29,6 +29,7 @@ use crate::parts::{parts_of, size_of};
 use crate::room::reserve;
 use crate::spots::Spot;
 use ctl_code::code::{Code, Parts};
+use ctl_program::types::Ty;
 use ctl_tree::ending::Stop;
 use ctl_tree::event::Owner;
 use std::alloc::AllocError;
@@ -113,7 +114,15 @@ impl Engine {
         let base = cell + 3;
         self.prepare(base, code.room, 1)?;
         self.put_value(cell, value);
-        self.enter_allocate(code, set, record, pool, allocate, place, cell + 1);
+        self.enter_allocate(
+            code,
+            set,
+            Ty::Record(record),
+            pool,
+            allocate,
+            place,
+            cell + 1,
+        );
         Ok(())
     }
 
@@ -148,7 +157,7 @@ impl Engine {
         let spot = &self.spots[newest];
         let start = spot.offset();
         let source = spot.object();
-        if let Some(refused) = self.add_member(code, grantor, set, record)? {
+        if let Some(refused) = self.add_member(code, grantor, set, Ty::Record(record))? {
             self.go_on(refused);
             return Ok(());
         }
@@ -177,7 +186,7 @@ impl Engine {
         ensures ok { OnOk result (Makes code.now self.old self.new (Table.by_instr code.now (Some (InstrOf.NewCopyIn «record» s.1 s.2)) s.0.operands (here_of place s.0))) }
         ensures err { OnErr result (GoesOn self.old self.new self.old.mode self.old.cells.items) }
     {
-        match self.place_member(code, record, place)? {
+        match self.place_member(code, Ty::Record(record), place)? {
             Ok(set) => {
                 let number = self.numbered.objects;
                 let value = self.spots.take_last();
@@ -216,7 +225,7 @@ impl Engine {
             self.go_on(Mode::Stopped(Stop::UseAfterFree));
             return Ok(());
         }
-        match self.set_for(code, access, record) {
+        match self.set_for(code, access, Ty::Record(record)) {
             Ok(set) => self.copy_member(code, access, set, record, place),
             Err(refused) => {
                 self.go_on(refused);

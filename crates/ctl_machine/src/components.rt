@@ -1,4 +1,4 @@
-//! Instructions that reach components of objects, or find parts of them (RM 4.1.3, 5.2).
+//! Instructions that reach components of objects, find parts of them, or give new ones their values (RM 4.1.3, 4.8, 5.2).
 
 ghost use Rattle.std.specs.Prelude.{◌≡◌, ◌+◌, ◌^◌, ◌<◌, ℕ, IfNone, IfOk, IfSome, OnErr, OnOk, Some, length, slice_get};
 ghost use Rattle.ctl_code.specs.declared.code.Instr.TheVariants as InstrOf;
@@ -119,8 +119,9 @@ impl Engine {
         }
     }
 
-    /// Executes this instruction, which stands at this place and reaches a component, or finds a part of an object, and answers what comes
-    /// next; where there is no such object, the program is erroneous (RM 13.11.2), and nothing changes, and so where memory is refused.
+    /// Executes this instruction, which stands at this place and reaches a component, finds a part of an object, or gives a new one its value,
+    /// and answers what comes next; where there is no such object, the program is erroneous (RM 13.11.2), and nothing changes, and so where
+    /// memory is refused.
     #[inline(always)]
     pub(crate) fn touch_object(
         &mut self,
@@ -184,12 +185,13 @@ impl Engine {
             Instr::Designate { out, slot, to, .. } => {
                 Ok(self.designate_slot(code, *out, *slot, to, place))
             }
+            Instr::GiveValue { at, .. } => Ok(self.give_value(code, *at, place)),
             _ => unreachable!(),
         }
     }
 
-    /// Executes this instruction, which stands at this place and reaches a component, or finds a part of an object; where there is no such
-    /// object, the program is erroneous (RM 13.11.2). Unchanged where memory is refused.
+    /// Executes this instruction, which stands at this place and reaches a component, finds a part of an object, or gives a new one its value;
+    /// where there is no such object, the program is erroneous (RM 13.11.2). Unchanged where memory is refused.
     pub(crate) fn touch(
         &mut self,
         code: &Code,

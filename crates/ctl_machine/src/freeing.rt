@@ -38,7 +38,7 @@ ghost use Rattle.ctl_machine.specs.Under.{tall};
 use crate::engine::Engine;
 use crate::finalizing::{Doubles, Finalization, doubled};
 use crate::frame::{After, Ended, Frame, Mode, Nulled, Storage};
-use crate::granting::units_of;
+use crate::granting::units_for;
 use crate::parts::{offset_of, parts_of};
 use crate::spots::Spot;
 use crate::storage_calls::StorageActuals;
@@ -112,9 +112,6 @@ pub enum GivenBack {
     Calls(Deallocation),
 }
 
-/// How many storage units an object of an elementary type takes (RM 13.3).
-const SCALAR_UNITS: usize = 8;
-
 /// Tells whether an object of a record type is still to be finalized: it has joined its collection, its finalization has not begun, and some
 /// part of it is controlled (RM 7.6.1).
 #[tactic(auto, unfolding(ctl_meaning::specs::Objects::is_untouched))]
@@ -162,16 +159,6 @@ fn storage_of(origin: Origin) -> Place
     match origin {
         Origin::Allocated { place, .. } => place,
         Origin::Declared(_) => Place::Standard,
-    }
-}
-
-/// Answers how many storage units an object of a type takes (RM 13.3).
-fn units_for(code: &Code, ty: Ty) -> usize
-    ensures { result ≡ Table.units_for code.now ty }
-{
-    match ty {
-        Ty::Record(record) => units_of(code, record),
-        _ => SCALAR_UNITS,
     }
 }
 

@@ -23,7 +23,7 @@ ghost use Rattle.ctl_machine.specs.Shows.{Holds, kept};
 use crate::engine::Engine;
 use crate::frame::Mode;
 use crate::holders::holder;
-use crate::parts::size_of;
+use crate::parts::cells_for;
 use crate::pool_blocks::is_open;
 use crate::room::reserve;
 use ctl_code::code::{Code, Way};
@@ -48,13 +48,26 @@ pub enum Grantor {
     Gone,
 }
 
+/// How many storage units an object of an elementary type takes (RM 13.3).
+const SCALAR_UNITS: usize = 8;
+
 /// Answers how many storage units an object of a record type takes (RM 13.3); none where the code knows no such type.
-pub(crate) fn units_of(code: &Code, record: usize) -> usize
+fn units_of(code: &Code, record: usize) -> usize
     ensures { result ≡ Table.units_of code.now «record» }
 {
     match code.layouts.as_slice().get(record) {
         Some(layout) => layout.units,
         None => 0,
+    }
+}
+
+/// Answers how many storage units an object of a type takes (RM 13.3).
+pub(crate) fn units_for(code: &Code, ty: Ty) -> usize
+    ensures { result ≡ Table.units_for code.now ty }
+{
+    match ty {
+        Ty::Record(record) => units_of(code, record),
+        _ => SCALAR_UNITS,
     }
 }
 
@@ -155,13 +168,13 @@ impl Engine {
         }
     }
 
-    /// Allocates an object of a record type, with cells of 0, for the collection of this number in the standard pool; unchanged where memory
-    /// is refused.
-    fn add_standard(&mut self, code: &Code, set: u64, record: usize) -> Result<(), AllocError>
+    /// Allocates an object of a type, with cells of 0, for the collection of this number in the standard pool; unchanged where memory is
+    /// refused.
+    fn add_standard(&mut self, code: &Code, set: u64, of: Ty) -> Result<(), AllocError>
         ghost s: { State }
         requires holds { Holds code.now (kept self.old) s.control s.operands s.world }
         requires number { self.old.numbered.objects + 1 < 2 ^ 64 }
-        ensures ok { OnOk result (Adds code.now (kept self.old) (kept self.new) set «record» s.world (Table.Granted W.Standard s.world)) }
+        ensures ok { OnOk result (Adds code.now (kept self.old) (kept self.new) set of s.world (Table.Granted W.Standard s.world)) }
         ensures err { OnErr result (GoesOn self.old self.new self.old.mode self.old.cells.items) }
         ensures control { self.new.control ≡ self.old.control }
         ensures spots { self.new.spots ≡ self.old.spots }
@@ -169,13 +182,13 @@ impl Engine {
         ensures picks { self.new.picks ≡ self.old.picks }
     {
         let number = self.numbered.objects + 1;
-        let size = size_of(code, record);
-        self.stock.allocate(number, Ty::Record(record), set, size)?;
+        let size = cells_for(code, of);
+        self.stock.allocate(number, of, set, size)?;
         self.numbered.objects = number;
         Ok(())
     }
 
-    /// Allocates an object of a record type, with cells of 0, for the collection of this number in a free block of an open pool, whose object
+    /// Allocates an object of a type, with cells of 0, for the collection of this number in a free block of an open pool, whose object
     /// exists; answers what comes next where there is none: Storage_Error is raised (RM 13.11). Unchanged then, and where memory is refused:
     /// there is none for more addresses than a number can be.
     #[inline(always)]
@@ -183,7 +196,7 @@ impl Engine {
         &mut self,
         code: &Code,
         set: u64,
-        record: usize,
+        of: Ty,
         pool: u64,
     ) -> Result<Option<Mode>, AllocError>
         ghost s: { State }
@@ -192,7 +205,7 @@ impl Engine {
         requires number { self.old.numbered.objects + 1 < 2 ^ 64 }
         requires open { IsOpen pool (storage_of self.old.stock) }
         requires exists { is_some (object_in pool self.old.stock.objects) ≡ true }
-        ensures ok { IfOk result (Serves code.now self.old self.new set «record» s.world (pool_grants pool (Table.units_of code.now «record») s.world)) }
+        ensures ok { IfOk result (Serves code.now self.old self.new set of s.world (pool_grants pool (Table.units_for code.now of) s.world)) }
         ensures err { OnErr result (GoesOn self.old self.new self.old.mode self.old.cells.items) }
         ensures control { self.new.control ≡ self.old.control }
         ensures spots { self.new.spots ≡ self.old.spots }
@@ -203,12 +216,11 @@ impl Engine {
             return Err(AllocError);
         }
         let number = self.numbered.objects + 1;
-        let ty = Ty::Record(record);
-        let size = size_of(code, record);
-        let units = units_of(code, record) as u64;
+        let size = cells_for(code, of);
+        let units = units_for(code, of) as u64;
         match self
             .stock
-            .allocate_in_pool(number, ty, set, size, pool, units)?
+            .allocate_in_pool(number, of, set, size, pool, units)?
         {
             Some(_) => {
                 self.numbered.objects = number;
@@ -218,7 +230,7 @@ impl Engine {
         }
     }
 
-    /// Allocates an object of a record type, with cells of 0, for the collection of this number, with storage that is granted so (RM 4.8,
+    /// Allocates an object of a type, with cells of 0, for the collection of this number, with storage that is granted so (RM 4.8,
     /// 13.11), and reserves room for two frames that wait for it and for the part that it is. Answers what comes next where there is no
     /// storage: Storage_Error is raised where the pool is exhausted; where the pool is gone, the program is erroneous (RM 13.11.2), and so it
     /// counts where an Allocate of the user's is to be asked. Unchanged then, and where memory is refused.
@@ -228,14 +240,14 @@ impl Engine {
         code: &Code,
         grantor: Grantor,
         set: u64,
-        record: usize,
+        of: Ty,
     ) -> Result<Option<Mode>, AllocError>
         ghost s: { State × (ℕ → Table.Grant) }
         requires valid { IsValid code.now }
         requires holds { Holds code.now (kept self.old) s.0.control s.0.operands s.0.world }
         requires number { self.old.numbered.objects + 1 < 2 ^ 64 }
         requires grants { Grants code.now self.old s.0.world s.1 grantor }
-        ensures ok { IfOk result (Serves code.now self.old self.new set «record» s.0.world (s.1 (Table.units_of code.now «record»))) }
+        ensures ok { IfOk result (Serves code.now self.old self.new set of s.0.world (s.1 (Table.units_for code.now of))) }
         ensures err { OnErr result (GoesOn self.old self.new self.old.mode self.old.cells.items) }
         ensures control { OnOk result (vec_len self.new.control + 2 ≤ vec_capacity self.new.control) }
         ensures spots { OnOk result (vec_len self.new.spots < vec_capacity self.new.spots) }
@@ -246,22 +258,22 @@ impl Engine {
         reserve(&mut self.spots, 1)?;
         match grantor {
             Grantor::Standard => {
-                self.add_standard(code, set, record)?;
+                self.add_standard(code, set, of)?;
                 Ok(None)
             }
-            Grantor::Library(pool) => self.add_in_pool(code, set, record, pool),
+            Grantor::Library(pool) => self.add_in_pool(code, set, of, pool),
             Grantor::User { .. } | Grantor::Gone => Ok(Some(Mode::Stopped(Stop::UseAfterFree))),
         }
     }
 
-    /// Allocates an object of a record type, with cells of 0, for the collection of this number at an address of an open pool, whose object
+    /// Allocates an object of a type, with cells of 0, for the collection of this number at an address of an open pool, whose object
     /// exists, if a block is out there that holds no object and is large enough (RM 13.11), and reserves room for two frames that wait for it
     /// and for the part that it is. Answers whether one is; unchanged if not, and where memory is refused.
     pub(crate) fn add_at_address(
         &mut self,
         code: &Code,
         set: u64,
-        record: usize,
+        of: Ty,
         block: BlockSpot,
     ) -> Result<Placing, AllocError>
         ghost s: { State }
@@ -271,7 +283,7 @@ impl Engine {
         requires open { IsOpen block.pool (storage_of self.old.stock) }
         requires exists { is_some (object_in block.pool self.old.stock.objects) ≡ true }
         requires stands { is_open_at block.pool s.world.pools ≡ true }
-        ensures ok { IfOk result (Places code.now self.old self.new set «record» block.pool block.address s.world) }
+        ensures ok { IfOk result (Places code.now self.old self.new set of block.pool block.address s.world) }
         ensures err { OnErr result (GoesOn self.old self.new self.old.mode self.old.cells.items) }
         ensures control { OnOk result (vec_len self.new.control + 2 ≤ vec_capacity self.new.control) }
         ensures spots { OnOk result (vec_len self.new.spots < vec_capacity self.new.spots) }
@@ -281,12 +293,11 @@ impl Engine {
         reserve(&mut self.control, 2)?;
         reserve(&mut self.spots, 1)?;
         let number = self.numbered.objects + 1;
-        let ty = Ty::Record(record);
-        let size = size_of(code, record);
-        let units = units_of(code, record) as u64;
+        let size = cells_for(code, of);
+        let units = units_for(code, of) as u64;
         let placing = self
             .stock
-            .allocate_in_block(number, ty, set, size, block, units)?;
+            .allocate_in_block(number, of, set, size, block, units)?;
         if let Placing::Placed = placing {
             self.numbered.objects = number;
         }

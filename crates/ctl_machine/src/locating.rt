@@ -1,5 +1,6 @@
 //! Instructions whose operand is a part of an object (RM 4.1, 4.1.3, 5.2): it is found, one of its components takes its place, or the value
-//! of one does, and a component takes a value; and access values that designate the object of one (RM 3.10.2).
+//! of one does, and a component takes a value; access values that designate the object of one (RM 3.10.2), and a new object that takes the
+//! value below its access value (RM 4.8).
 
 ghost use Rattle.std.specs.Prelude.{◌≡◌, ◌+◌, ◌^◌, ◌<◌, ℕ, IfNone, IfOk, IfSome, OnErr, OnOk, Some, slice_get};
 ghost use Rattle.ctl_code.specs.declared.code.Instr.TheVariants as InstrOf;
@@ -183,6 +184,32 @@ impl Engine {
         self.stock.write_part(object, start, offset, value);
         let _ = self.spots.take_last();
         self.mode = Mode::At(place + 1);
+        Some(place + 1)
+    }
+
+    /// Gives the object that an access value designates, the newest operand, the value below it, which stands in this cell, and puts the access
+    /// value in its place; answers what comes next (RM 4.8). Where there is no such object, the program is erroneous (RM 13.11.2), and nothing
+    /// changes.
+    #[inline(never)]
+    pub(crate) fn give_value(&mut self, code: &Code, at: usize, place: usize) -> Option<usize>
+        ghost s: { State }
+        requires valid { IsValid code.now }
+        requires before { (of : Ty) × (ty : Ty) × Before code.now self.old place (InstrOf.GiveValue of ty at) s }
+        requires place { place + 1 < 2 ^ 64 }
+        ensures passed { (of ty : Ty) → IfSome result (λ next. (self.new.mode ≡ ModeOf.At next) × Makes code.now self.old self.new (Table.by_instr code.now (Some (InstrOf.GiveValue of ty at)) s.operands (here_of place s))) }
+        ensures left { IfNone result (GoesOn self.old self.new self.old.mode self.old.cells.items) }
+        ensures gone { (of ty : Ty) → IfNone result (Comes code.now self.new (ModeOf.Stopped StopOf.UseAfterFree) self.new.cells.items (Table.by_instr code.now (Some (InstrOf.GiveValue of ty at)) s.operands (here_of place s))) }
+    {
+        let _ = code;
+        let named = Named::Operand;
+        let object = self.take(&Cell { at: at + 1, named });
+        let to = Cell { at, named };
+        let value = self.take(&to);
+        if !self.stock.exists(object) {
+            return None;
+        }
+        self.stock.write(object, 0, value);
+        self.put(object, &to, place);
         Some(place + 1)
     }
 }

@@ -1,13 +1,14 @@
-//! What the code knows of record types: how many cells their objects have, their components, and whether they need finalization (RM 3.8,
-//! 7.6, 7.6.1).
+//! What the code knows of types: how many cells their objects have, and of record types their components, and whether they need finalization
+//! (RM 3.8, 7.6, 7.6.1).
 
 ghost use Rattle.std.specs.Prelude.{◌≡◌, ◌-◌, ◌^◌, ◌<◌, IfOk, Some, length, slice_get};
 ghost use Rattle.ctl_meaning.specs.Lists.{item_or};
 ghost use Rattle.ctl_code.specs.Table as Table;
-ghost use Rattle.ctl_machine.specs.Needs.{need_of, needs_of};
+ghost use Rattle.ctl_machine.specs.Needs.{need_of, needs_of, type_begun};
 
 use ctl_code::code::{Begun, Code, Parts};
 use ctl_objects::Need;
+use ctl_program::types::Ty;
 use std::alloc::{AllocError, Global};
 
 /// Answers how many cells an object of a record type has; none where the code knows no such type.
@@ -18,6 +19,17 @@ pub(crate) fn size_of(code: &Code, record: usize) -> usize
     match code.layouts.as_slice().get(record) {
         Some(layout) => layout.cells,
         None => 0,
+    }
+}
+
+/// Answers how many cells an object of a type has: one, if it is no record.
+#[inline(always)]
+pub(crate) fn cells_for(code: &Code, of: Ty) -> usize
+    ensures { result ≡ Table.cells_for code.now of }
+{
+    match of {
+        Ty::Record(record) => size_of(code, record),
+        _ => 1,
     }
 }
 
@@ -72,6 +84,34 @@ pub(crate) fn is_made_at_once(code: &Code, record: usize) -> bool
     match parts_of(code, record) {
         Parts::Plain => count_begun(code, record) == 0,
         _ => false,
+    }
+}
+
+/// Tells whether an object of a type has a controlled part (RM 7.6.1).
+pub(crate) fn has_part_in(code: &Code, of: Ty) -> bool
+    ensures { result ≡ Table.has_part_in code.now of }
+{
+    match of {
+        Ty::Record(record) => !matches!(parts_of(code, record), Parts::Plain),
+        _ => false,
+    }
+}
+
+/// Answers the record type of the objects of a type, if something is executed for their creation (RM 3.3.1, 7.6); nothing is for those that
+/// are no records.
+#[inline(always)]
+pub(crate) fn type_begun(code: &Code, of: Ty) -> Option<usize>
+    ensures { result ≡ type_begun code.now of }
+{
+    match of {
+        Ty::Record(record) => {
+            if is_made_at_once(code, record) {
+                None
+            } else {
+                Some(record)
+            }
+        }
+        _ => None,
     }
 }
 

@@ -222,18 +222,18 @@ impl Engine {
     {
         let entry = code.entries[body];
         let base = window + height_below(code, actuals, place);
-        let link = self.around(entry.level);
-        let depth = self.depth_at(link) + 1;
-        let outer_formals = self.count_formals();
         self.prepare_body(base, code.room, actuals)?;
+        let outer_formals = self.count_formals();
         self.begin_slots(code, place, base, entry.slots, actuals);
+        // Behind what may be a call, over which each number here would be kept.
+        let link = self.around(entry.level);
         let master = Master {
             number: self.given_masters + 1,
             window: base,
             base,
             slots: entry.slots,
             link,
-            depth,
+            depth: self.depth_at(link) + 1,
             owned: self.count_owned(),
             outer_formals,
             formals: self.count_formals(),

@@ -15,7 +15,7 @@ use Rattle.ctl_meaning.specs.Objects.{lies_in_subpool, lies_in_pool}
 use Rattle.ctl_meaning.specs.Changes.{in_pools, is_vacant, is_busy, empty_subpool, close_pool_at, count_of}
 use Rattle.ctl_meaning.specs.Members.{OfSubpool}
 use Rattle.ctl_meaning.specs.Outcome.{constraint_error, program_error, storage_error, Act, Done, ◌>>=◌, ◌>>◌, done, nothing, raise, stop, counted, look, change, show, either, on_some}
-use Rattle.ctl_meaning.specs.Types.{Composite, operation, root_of, record_of}
+use Rattle.ctl_meaning.specs.Types.{Composite, operation_for, root_for}
 use Rattle.ctl_meaning.specs.Names.{OfSubprogram, Returned, Tools, Found, gone, existing, scalar_of, read_found, write_found, find_var, object_of}
 use Rattle.ctl_meaning.specs.Marks.{default_subpool}
 use Rattle.ctl_meaning.specs.Finalization.{with_home, finalize_group}
@@ -54,13 +54,13 @@ user_allocate k n size f =
 
 unfoldable pub block_storage : Tools → ℕ → ℕ → Act Place
 block_storage k n size =
-    existing n (λ o. on_some (operation (λ x. x.allocate) k.tables (record_of o.ty)) (library_allocate n size) (user_allocate k n size))
+    existing n (λ o. on_some (operation_for (λ x. x.allocate) k.tables o.ty) (library_allocate n size) (user_allocate k n size))
     >>= (λ a. done (InBlock n a))
 
 -- the storage of an object that is freed goes back by Deallocate of its pool (13.11.2)
 unfoldable pub give_back : Tools → ℕ → ℕ → ℕ → Act Done
 give_back k n a size =
-    existing n (λ o. on_some (operation (λ x. x.deallocate) k.tables (record_of o.ty)) (library_deallocate n a)
+    existing n (λ o. on_some (operation_for (λ x. x.deallocate) k.tables o.ty) (library_deallocate n a)
     (λ f. show (Deallocate n size) >> with_home n (λ d. k.call (OfSubprogram f (storage_actuals n a size)) d) >> nothing))
 
 -- Mark pools (13.11.6, profile) -----------------------------------------------------
@@ -136,7 +136,7 @@ storage_in k n handle size _ = block_storage k n size
 -- the standard pool where none was specified; its storage is the host's
 unfoldable pub storage : Tools → List ℕ → Option Var → Option (List ℕ) → ℕ → Act Place
 storage k env None handle size = done Standard
-storage k env (Some v) handle size = find_var Composite env v >>= (λ f. existing (object_of f) (λ o. storage_in k (object_of f) handle size (root_of k.tables (record_of o.ty))))
+storage k env (Some v) handle size = find_var Composite env v >>= (λ f. existing (object_of f) (λ o. storage_in k (object_of f) handle size (root_for k.tables o.ty)))
 
 -- everything here, opened at once
 unfoldable pub opened_storage : Unit {0}

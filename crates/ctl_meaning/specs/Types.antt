@@ -166,7 +166,14 @@ operation_in f (Some r) = f r.operations
 unfoldable pub operation : (Operations → Option ℕ) → Tables → ℕ → Option ℕ
 operation f k t = operation_in f (slice_get k.records t)
 
+-- an operation of an object's own type, and what that descends from: an object of an elementary type has none, and descends from nothing
+unfoldable pub operation_for : (Operations → Option ℕ) → Tables → Ty → Option ℕ
+operation_for f k ty = of_record None (operation f k) ty
+
+unfoldable pub root_for : Tables → Ty → Root
+root_for k ty = of_record Untagged (root_of k) ty
+
 -- everything here, opened at once
 unfoldable pub opened_types : Unit {0}
-unfolding tables_of category_of of_parent with_own components of_record record_of total cells_within depth components_of cells_of begin_cells placed_from placed offset_in root_in is_tagged_root root_of is_controlled controlled_within has_controlled default_within has_default is_initialized parent_in descends_within descends as_record_size size_within size_of operation_in operation
+unfolding tables_of category_of of_parent with_own components of_record record_of total cells_within depth components_of cells_of begin_cells placed_from placed offset_in root_in is_tagged_root root_of is_controlled controlled_within has_controlled default_within has_default is_initialized parent_in descends_within descends as_record_size size_within size_of operation_in operation operation_for root_for
 opened_types = tt

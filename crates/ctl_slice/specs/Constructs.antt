@@ -116,13 +116,17 @@ abbrev pub is_specific : Coverage → Bool
 is_specific Specific = true
 is_specific ClassWide = false
 
--- a record of such components (3.8), a type that extends such a type by them (3.9.1), or an access type for one type of the text (3.10)
+-- a type that objects of an access type may have: one of the text, or a scalar one (3.10)
+abbrev pub may_be_designated : Denoted → Bool
+may_be_designated d = is_of_text d || is_scalar d
+
+-- a record of such components (3.8), a type that extends such a type by them (3.9.1), or an access type for one such type (3.10)
 abbrev pub of_type : Type_definition Use → Support
 of_type (Record limitation components) = support_when (may_all_be_components components)
 of_type (Extension parent added) = support_when (may_be_extended parent.first.denoted && may_all_be_components added)
-of_type (Access generality designated coverage pool) = support_when (is_of_text designated.first.denoted && is_specific coverage)
+of_type (Access generality designated coverage pool) = support_when (may_be_designated designated.first.denoted && is_specific coverage)
 
--- discriminants that are all numeric literals, if there are any (13.11)
+-- discriminants that are all such literals, if there are any (13.11)
 abbrev pub are_literals : List (Association Use) → Bool
 are_literals [] = true
 are_literals (x ∷ xs) = is_literal x.value && are_literals xs
@@ -138,14 +142,14 @@ abbrev pub name_layer : {A : Type 0} → Expression-F Use A → Bool
 name_layer (Expression-F.Name place name) = true
 name_layer e = false
 
--- no value of an allocator, or that of what a name denotes (4.8)
-abbrev pub is_name_if_given : Option (Expression Use) → Bool
-is_name_if_given None = true
-is_name_if_given (Some e) = name_layer (out-Expression Use e)
+-- no value of an allocator, that of what a name denotes, or one of a scalar type (4.8)
+abbrev pub is_value_run : Denoted → Option (Expression Use) → Bool
+is_value_run mark None = true
+is_value_run mark (Some e) = is_scalar mark || name_layer (out-Expression Use e)
 
 -- an allocator with another value, or with a handle: one layer of an expression (4.8, 13.11.4)
 abbrev pub allocator_layer : Expression-F Use (Expression Use) → Bool
-allocator_layer (Expression-F.New place handle mark value) = is_some handle || not (is_name_if_given value)
+allocator_layer (Expression-F.New place handle mark value) = is_some handle || not (is_value_run mark.first.denoted value)
 allocator_layer e = false
 
 abbrev pub is_left_out_allocator : Expression Use → Bool

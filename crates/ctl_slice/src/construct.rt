@@ -143,8 +143,15 @@ fn may_all_be_components(all: &[Components<Use>]) -> bool
     true
 }
 
+/// Tells whether objects of an access type may have this type: one of the text, or a scalar one (RM 3.10).
+fn may_be_designated(denoted: Denoted) -> bool
+    ensures { result ≡ spec.may_be_designated denoted }
+{
+    is_of_text(denoted) || is_scalar(denoted)
+}
+
 /// Judges a type: a record with such components alone is run (RM 3.8), and so is one that extends Controlled, Limited_Controlled or a type of
-/// the text by them (RM 3.9.1, 7.6), or Block_Pool (RM 13.11), and an access type for one type of the text (RM 3.10).
+/// the text by them (RM 3.9.1, 7.6), or Block_Pool (RM 13.11), and an access type for one type of the text or a scalar one (RM 3.10).
 pub(crate) fn of_type(definition: &TypeDefinition<Use>) -> Support
     ensures { result ≡ spec.of_type definition.now }
 {
@@ -156,7 +163,7 @@ pub(crate) fn of_type(definition: &TypeDefinition<Use>) -> Support
             may_be_extended(parent.first.denoted) && may_all_be_components(added.as_slice()),
         ),
         TypeDefinition::Access(_, designated, coverage, _) => support_when(
-            is_of_text(designated.first.denoted) && matches!(coverage, Coverage::Specific),
+            may_be_designated(designated.first.denoted) && matches!(coverage, Coverage::Specific),
         ),
     }
 }
@@ -189,12 +196,12 @@ fn is_scalar(denoted: Denoted) -> bool
     )
 }
 
-/// Tells whether an allocator has no value, or that of what a name denotes (RM 4.8).
-fn is_name_if_given(value: &Option<Boxed<Expression<Use>>>) -> bool
-    ensures { result ≡ spec.is_name_if_given value.now }
+/// Tells whether an allocator for objects of this type has no value, that of what a name denotes, or one of a scalar type (RM 4.8).
+fn is_value_run(mark: Denoted, value: &Option<Boxed<Expression<Use>>>) -> bool
+    ensures { result ≡ spec.is_value_run mark value.now }
 {
     match value {
-        Some(value) => matches!(value.get(), Expression::Name(..)),
+        Some(value) => is_scalar(mark) || matches!(value.get(), Expression::Name(..)),
         None => true,
     }
 }
@@ -204,7 +211,9 @@ fn is_left_out_allocator(expression: &Expression<Use>) -> bool
     ensures { result ≡ spec.is_left_out_allocator expression.now }
 {
     match expression {
-        Expression::New(_, handle, _, value) => handle.is_some() || !is_name_if_given(value),
+        Expression::New(_, handle, mark, value) => {
+            handle.is_some() || !is_value_run(mark.first.denoted, value)
+        }
         _ => false,
     }
 }
@@ -233,7 +242,7 @@ pub(crate) fn of_returned(value: &Option<Expression<Use>>) -> Support
     support_when(!has_left_out_allocator(value))
 }
 
-/// Tells whether discriminants are all numeric literals, if there are any (RM 13.11).
+/// Tells whether discriminants are all such literals, if there are any (RM 13.11).
 fn are_literals(discriminants: &[Association<Use>]) -> bool
     ensures { result ≡ spec.are_literals discriminants.now }
 {

@@ -12,14 +12,14 @@ use std::test::Fail;
 /// Allocates an object, whose access value is a new operand.
 const NEW: Instr = Instr::New {
     access: 0,
-    record: 0,
+    of: Ty::Record(0),
     ty: Ty::Integer,
     at: 2,
 };
 
 /// It is created at the address that an Allocate gave, which none does here: where no pool has one, the instruction is passed over.
 const NEW_IN: Instr = Instr::NewIn {
-    record: 0,
+    of: Ty::Record(0),
     ty: Ty::Integer,
     at: 2,
 };
@@ -70,9 +70,6 @@ const GATHER: Instr = Instr::Gather {
     count: 1,
 };
 
-/// Where the Finalize stands.
-const BODY: usize = 17;
-
 /// Two objects are allocated, and a component of the second one takes a value; behind that stands a Finalize that does nothing.
 const LINES: [Line; 18] = [
     (Instr::Start(0), ""),
@@ -91,6 +88,88 @@ const LINES: [Line; 18] = [
     (OBJECT, "mi"),
     (TAKE, "mr"),
     (PRINT, "mi"),
+    (Instr::Leave, "m"),
+    (Instr::Leave, "f"),
+];
+
+/// A value, an operand.
+const SEVEN_BELOW: Instr = Instr::Set {
+    value: 7,
+    ty: Ty::Integer,
+    to: CELL_2,
+};
+
+/// Allocates a number, whose access value is a new operand above the value.
+const NEW_ABOVE: Instr = Instr::New {
+    access: 0,
+    of: Ty::Integer,
+    ty: Ty::Integer,
+    at: 3,
+};
+
+const NEW_IN_ABOVE: Instr = Instr::NewIn {
+    of: Ty::Integer,
+    ty: Ty::Integer,
+    at: 3,
+};
+
+/// The number takes the value, and the access value its place.
+const GIVE: Instr = Instr::GiveValue {
+    of: Ty::Integer,
+    ty: Ty::Integer,
+    at: 2,
+};
+
+/// Allocates a number without a value.
+const NEW_NUMBER: Instr = Instr::New {
+    access: 0,
+    of: Ty::Integer,
+    ty: Ty::Integer,
+    at: 2,
+};
+
+const NEW_NUMBER_IN: Instr = Instr::NewIn {
+    of: Ty::Integer,
+    ty: Ty::Integer,
+    at: 2,
+};
+
+/// Two numbers are allocated and read, the first one with a value.
+const NUMBERS: [Line; 18] = [
+    (Instr::Start(0), ""),
+    (GATHER, "m"),
+    (SEVEN_BELOW, "m"),
+    (NEW_ABOVE, "mi"),
+    (NEW_IN_ABOVE, "miiiii"),
+    (GIVE, "mii"),
+    (KEEP, "mi"),
+    (VALUE, "m"),
+    (OBJECT, "mi"),
+    (TAKE, "mr"),
+    (PRINT, "mi"),
+    (NEW_NUMBER, "m"),
+    (NEW_NUMBER_IN, "miiii"),
+    (OBJECT, "mi"),
+    (TAKE, "mr"),
+    (PRINT, "mi"),
+    (Instr::Leave, "m"),
+    (Instr::Leave, "f"),
+];
+
+/// The number of no object is given a value.
+const NONE_GIVEN: [Line; 7] = [
+    (Instr::Start(0), ""),
+    (SEVEN_BELOW, "m"),
+    (
+        Instr::Set {
+            value: 9,
+            ty: Ty::Integer,
+            to: CELL_3,
+        },
+        "mi",
+    ),
+    (GIVE, "mii"),
+    (Instr::Discard(1), "mi"),
     (Instr::Leave, "m"),
     (Instr::Leave, "f"),
 ];
@@ -114,9 +193,10 @@ fn add_access_type(code: &mut Code, level: usize) -> Result<(), AllocError> {
     Ok(())
 }
 
-/// The code of these lines, where the collection of the access type has this level.
+/// The code of these lines, the last of which is a Finalize, where the collection of the access type has this level.
 fn code_with(alloc: Global, lines: &[Line], level: usize) -> Result<Code, AllocError> {
-    let mut code = code_of(alloc, lines, &[BODY])?;
+    let body = lines.len().saturating_sub(1);
+    let mut code = code_of(alloc, lines, &[body])?;
     let added = add_access_type(&mut code, level);
     completed(code, added)
 }
@@ -171,6 +251,26 @@ fn allocators_need_a_collection(rt: HostRuntime) -> Result<(), Fail> {
     Ok(())
 }
 
+/// An object of an elementary type takes the value below its access value, or begins with 0; its cell is read as the first component of a
+/// record is.
+#[test]
+fn numbers_are_allocated(rt: HostRuntime) -> Result<(), Fail> {
+    let traced = traced_of(rt.alloc(), &NUMBERS, Order::Newest)?;
+    assert_eq!(rt;
+        traced.as_str(),
+        "print  7\nnewline\nprint  0\nnewline\nend done\npicks []\n"
+    );
+    Ok(())
+}
+
+/// What is not there is given no value.
+#[test]
+fn only_objects_are_given_values(rt: HostRuntime) -> Result<(), Fail> {
+    let traced = traced_of(rt.alloc(), &NONE_GIVEN, Order::Newest)?;
+    assert_eq!(rt; traced.as_str(), "end stopped USE_AFTER_FREE\npicks []\n");
+    Ok(())
+}
+
 /// Whether the code of these lines is well formed, where the collection has this level.
 fn is_accepted(alloc: Global, lines: &[Line], level: usize) -> Result<bool, AllocError> {
     Ok(is_well_formed(code_with(alloc, lines, level)?))
@@ -190,7 +290,7 @@ fn access_types_are_in_the_table(rt: HostRuntime) -> Result<(), Fail> {
     };
     let new = Instr::New {
         access: 1,
-        record: 0,
+        of: Ty::Record(0),
         ty: Ty::Integer,
         at: 2,
     };

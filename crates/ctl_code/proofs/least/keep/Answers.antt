@@ -2,10 +2,9 @@ use Rattle.std.proofs.Common.{IfOk, sym, subst}
 use Rattle.ctl_code.specs.declared.least.Demand.{Demand}
 use Rattle.ctl_code.specs.Demands.{IsMet, with_counts}
 use Rattle.ctl_code.specs.Homes.{Raises}
-use Rattle.ctl_code.specs.declared.homes.Declaration.TheVariants.{Record}
 use Rattle.ctl_code.specs.Kinds.{stack_at}
 use Rattle.ctl_code.specs.Valid.{HasCollection}
-use Rattle.ctl_code.specs.Windows.{HasHome}
+use Rattle.ctl_code.specs.Windows.{HasHomeOf}
 use Rattle.ctl_code.proofs.Raising.{both_raised}
 use Rattle.ctl_code.proofs.least.keep.Goals as goal
 
@@ -21,8 +20,8 @@ returns-in_ok-second-in-Allocated c =
     let s = stack_at code.kinds c.args.place in
     let old = c.args.homes.now in
     let mid = c.keep_collection-in-Allocated.new.homes in
-    let new = c.keep_home-in-Allocated.new.homes in
-    let of = Record c.in-Allocated.record in
+    let new = c.keep_home_of.new.homes in
+    let of = c.in-Allocated.of in
     subst (λ (d : Demand). Raises (λ counts. IsMet (with_counts counts code) s d) old new c.either.result) (sym c.in-Allocated.is)
-    (subst (λ r. Raises (λ counts. HasCollection (with_counts counts code) s c.in-Allocated.access × HasHome counts s of) old new r) (sym c.either.ensures)
-    (both_raised (λ counts. HasCollection (with_counts counts code) s c.in-Allocated.access) (λ counts. HasHome counts s of) old mid new c.in_ok-first-in-Allocated.first c.in_ok-second-in-Allocated.second c.in_ok-first-in-Allocated.ensures c.in_ok-second-in-Allocated.ensures))
+    (subst (λ r. Raises (λ counts. HasCollection (with_counts counts code) s c.in-Allocated.access × HasHomeOf counts s of) old new r) (sym c.either.ensures)
+    (both_raised (λ counts. HasCollection (with_counts counts code) s c.in-Allocated.access) (λ counts. HasHomeOf counts s of) old mid new c.in_ok-first-in-Allocated.first c.in_ok-second-in-Allocated.second c.in_ok-first-in-Allocated.ensures c.in_ok-second-in-Allocated.ensures))

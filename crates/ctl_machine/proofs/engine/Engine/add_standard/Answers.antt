@@ -1,5 +1,5 @@
 use Rattle.std.proofs.Common.{◌+◌, refl}
-use Rattle.ctl_code.specs.Table.{size_of}
+use Rattle.ctl_code.specs.Table.{cells_for}
 use Rattle.ctl_meaning.specs.World.{Standard}
 use Rattle.ctl_machine.specs.Shows.{kept}
 use Rattle.ctl_machine.proofs.Granted.{member_kept, standard_shown}
@@ -12,11 +12,11 @@ returns-clause-ok g c =
     let w = g.s.world in
     let n = old.numbered.objects + 1 in
     let x = c.allocate.new.self in
-    let t = c.args.record in
+    let of = c.args.of in
     record {
       granted = refl;
       member = record {
-        kept = member_kept (kept old) x n c.args.set t c.size_of-size.result (size_of code t) Standard refl c.size_of-size.ensures c.in_ok-allocate.ensures.ok c.allocate.ensures.needs;
-        pools = standard_shown code c.args.set t (n + 1) w x (c.in_ok-allocate.ensures.pools w.pools c.requires.0.pools);
+        kept = member_kept (kept old) x n c.args.set of c.cells_for-size.result (cells_for code of) Standard refl c.cells_for-size.ensures c.in_ok-allocate.ensures.ok c.allocate.ensures.needs;
+        pools = standard_shown code c.args.set (n + 1) of w x (c.in_ok-allocate.ensures.pools w.pools c.requires.0.pools);
       };
     }

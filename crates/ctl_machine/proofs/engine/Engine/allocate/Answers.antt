@@ -11,8 +11,8 @@ create_member-requires g c = (c.requires.0, ((g.s.1, g.s.2, c.requires.1.0), (re
 
 pub returns-in-Ok-clause-ok : goal.returns-in-Ok-clause-ok
 returns-in-Ok-clause-ok g c =
-    on_ok c.create_member.result (set_takes c.args.code.now c.args.self.now c.create_member.new.self c.args.access c.args.place c.in-Ok.set c.args.record g.s.2 g.s.1 g.s.0 c.in-Ok.ensures.ok) c.create_member.ensures.ok
+    on_ok c.create_member.result (set_takes c.args.code.now c.args.self.now c.create_member.new.self c.args.access c.args.place c.in-Ok.set c.args.of g.s.2 g.s.1 g.s.0 c.in-Ok.ensures.ok) c.create_member.ensures.ok
 
 pub returns-in-Err-clause-ok : goal.returns-in-Err-clause-ok
 returns-in-Err-clause-ok g c =
-    set_refuses c.args.code.now c.args.self.now c.go_on.new.self c.args.access c.args.place c.args.record g.s.2 g.s.1 c.in-Err.refused g.s.0 c.requires.1.0 c.in-Err.ensures.err c.go_on.ensures
+    set_refuses c.args.code.now c.args.self.now c.go_on.new.self c.args.access c.args.place c.args.of g.s.2 g.s.1 c.in-Err.refused g.s.0 c.requires.1.0 c.in-Err.ensures.err c.go_on.ensures

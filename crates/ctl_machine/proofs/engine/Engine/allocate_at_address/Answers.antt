@@ -19,14 +19,14 @@ begin_member-requires g c =
     let old = c.args.self.now in
     let added = c.place_member.new.self in
     let s = g.s.0 in
-    let t = c.args.record in
+    let of = c.args.of in
     let b = c.requires.1.0 in
     let set = c.in-Ok.set in
-    let placed : PlacesThere code old added t s (Ok set) = subst (λ (z : Result ℕ Mode). PlacesThere code old added t s z) c.in-Ok.is c.in_ok-set.ensures.ok in
-    let is = placed_is code old added c.args.place t g.s.2 set g.s.1 s b placed.2 in
+    let placed : PlacesThere code old added of s (Ok set) = subst (λ (z : Result ℕ Mode). PlacesThere code old added of s z) c.in-Ok.is c.in_ok-set.ensures.ok in
+    let is = placed_is code old added c.args.place of g.s.2 set g.s.1 s b placed.2 in
     let room = subst (λ (z : Result ℕ Mode). OnOk z (vec_len added.control + 2 ≤ vec_capacity added.control)) c.in-Ok.is c.in_ok-set.ensures.control in
     let free = subst (λ (z : Result ℕ Mode). OnOk z (vec_len added.spots < vec_capacity added.spots)) c.in-Ok.is c.in_ok-set.ensures.spots in
-    (c.requires.0, (subst (λ k. IsAdded code added set t (c.args.place + 1) (member_in s.operands k s)) (sym (ap place_in b.mode)) is, (refl, (room, free))))
+    (c.requires.0, (subst (λ k. IsAdded code added set of (c.args.place + 1) (member_in s.operands k s)) (sym (ap place_in b.mode)) is, (refl, (room, free))))
 
 pub returns-in-Ok-clause-ok : goal.returns-in-Ok-clause-ok
 returns-in-Ok-clause-ok g c =
@@ -35,12 +35,12 @@ returns-in-Ok-clause-ok g c =
     let added = c.place_member.new.self in
     let new = c.begin_member.new.self in
     let s = g.s.0 in
-    let t = c.args.record in
+    let of = c.args.of in
     let b = c.requires.1.0 in
     let set = c.in-Ok.set in
-    let placed : PlacesThere code old added t s (Ok set) = subst (λ (z : Result ℕ Mode). PlacesThere code old added t s z) c.in-Ok.is c.in_ok-set.ensures.ok in
-    let made = subst (λ k. let m = member_in s.operands k s in Makes code added new (member_begins code t set m.place m.point m.control m.granted)) (ap place_in b.mode) c.begin_member.ensures.makes in
-    makes_in_block code old new c.args.place t g.s.2 set g.s.1 s b placed.0 placed.1 (makes_later code old added new _ (ap (λ v. v.items) c.place_member.ensures.events) (ap (λ v. v.items) c.place_member.ensures.picks) made)
+    let placed : PlacesThere code old added of s (Ok set) = subst (λ (z : Result ℕ Mode). PlacesThere code old added of s z) c.in-Ok.is c.in_ok-set.ensures.ok in
+    let made = subst (λ k. let m = member_in s.operands k s in Makes code added new (member_begins code of set m.place m.point m.control m.granted)) (ap place_in b.mode) c.begin_member.ensures.makes in
+    makes_in_block code old new c.args.place of g.s.2 set g.s.1 s b placed.0 placed.1 (makes_later code old added new _ (ap (λ v. v.items) c.place_member.ensures.events) (ap (λ v. v.items) c.place_member.ensures.picks) made)
 
 pub returns-in-Err-clause-ok : goal.returns-in-Err-clause-ok
 returns-in-Err-clause-ok g c =
@@ -49,7 +49,7 @@ returns-in-Err-clause-ok g c =
     let added = c.place_member.new.self in
     let new = c.go_on.new.self in
     let s = g.s.0 in
-    let t = c.args.record in
-    let refused : PlacesThere code old added t s (Err c.in-Err.refused) = subst (λ (z : Result ℕ Mode). PlacesThere code old added t s z) c.in-Err.is c.in_ok-set.ensures.ok in
+    let of = c.args.of in
+    let refused : PlacesThere code old added of s (Err c.in-Err.refused) = subst (λ (z : Result ℕ Mode). PlacesThere code old added of s z) c.in-Err.is c.in_ok-set.ensures.ok in
     let goes = goes_both old added new _ refused.3 c.go_on.ensures in
-    makes_stop code old new c.args.place t g.s.2 g.s.1 refused.0 s c.requires.1.0 refused.2 (subst (λ (m : Mode). GoesOn old new m old.cells.items) refused.1 goes)
+    makes_stop code old new c.args.place of g.s.2 g.s.1 refused.0 s c.requires.1.0 refused.2 (subst (λ (m : Mode). GoesOn old new m old.cells.items) refused.1 goes)

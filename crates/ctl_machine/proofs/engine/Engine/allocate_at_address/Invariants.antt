@@ -7,4 +7,4 @@ abbrev pub ghost-place_member : goal.ghost-place_member
 ghost-place_member g a = g.s.0
 
 abbrev pub ghost-begin_member : goal.ghost-begin_member
-ghost-begin_member g a = let m = member_in g.s.0.operands (place_in g.s.0.mode) g.s.0 in (m, with_member a.code.now a.set a.record m.place m.granted)
+ghost-begin_member g a = let m = member_in g.s.0.operands (place_in g.s.0.mode) g.s.0 in (m, with_member a.code.now a.set a.of m.place m.granted)

@@ -1,6 +1,7 @@
 use Rattle.std.specs.Prelude.{◌<◌, ◌≤◌, OnOk, vec_capacity, vec_len}
 use Rattle.std.proofs.Common.{◌≡◌, ◌+◌, ◌∙◌, ◌∷◌, [], length, Err, List, Ok, Result, ap, arith, drop, refl, subst, sym, ℕ}
 use Rattle.std.proofs.lemmas.List.{length-append}
+use Rattle.ctl_program.specs.declared.types.Ty.TheVariants.{Record}
 use Rattle.ctl_meaning.specs.Finalization.{Spot}
 use Rattle.ctl_meaning.specs.Objects.{change_in, with_cells}
 use Rattle.ctl_meaning.specs.World as W
@@ -29,7 +30,7 @@ take_last-value-requires g c =
     let added = c.place_member.new.self in
     let s = g.s.0 in
     let t = c.args.record in
-    let placed : PlacesThere code old added t s (Ok c.in-Ok.set) = subst (λ (z : Result ℕ Mode). PlacesThere code old added t s z) c.in-Ok.is c.in_ok-set.ensures.ok in
+    let placed : PlacesThere code old added (Record t) s (Ok c.in-Ok.set) = subst (λ (z : Result ℕ Mode). PlacesThere code old added (Record t) s z) c.in-Ok.is c.in_ok-set.ensures.ok in
     let x = value_below code old c.args.place t g.s.2 g.s.1 s c.requires.1.0 in
     let spots : added.spots.items ≡ old.spots.items = ap (λ (e : Kept). e.spots) placed.2.kept in
     let below = standing s.control (drop 1 (drop 4 s.operands)) in
@@ -45,7 +46,7 @@ adjust_member-requires g c =
     let t = c.args.record in
     let b = c.requires.1.0 in
     let set = c.in-Ok.set in
-    let placed : PlacesThere code old added t s (Ok set) = subst (λ (z : Result ℕ Mode). PlacesThere code old added t s z) c.in-Ok.is c.in_ok-set.ensures.ok in
+    let placed : PlacesThere code old added (Record t) s (Ok set) = subst (λ (z : Result ℕ Mode). PlacesThere code old added (Record t) s z) c.in-Ok.is c.in_ok-set.ensures.ok in
     let x = value_below code old c.args.place t g.s.2 g.s.1 s b in
     let below = standing s.control (drop 1 (drop 4 s.operands)) in
     let place = InBlock (number_at s.operands 2) (number_at s.operands 0) in
@@ -53,7 +54,7 @@ adjust_member-requires g c =
     let spots : added.spots.items ≡ old.spots.items = ap (λ (e : Kept). e.spots) placed.2.kept in
     let popped = same_front c.take_last-value.new.self.items below c.take_last-value.result (value_spot (first_cells (drop 4 s.operands))) (sym c.take_last-value.ensures.items ∙ (spots ∙ x.spots)) in
     let value : c.cells.result.now ≡ (first_cells (drop 4 s.operands)) = c.cells.ensures ∙ ap (λ (p : Spot). p.path) popped.1 in
-    let given = member_number code old added set t place s.world placed.2 in
+    let given = member_number code old added set (Record t) place s.world placed.2 in
     let written : c.write_all.new.self.objects ≡ change_in (old.numbered.objects + 1) (with_cells 0 (first_cells (drop 4 s.operands))) added.stock.objects =
     c.write_all.ensures.objects ∙ (ap (λ (l : List ℕ). change_in added.numbered.objects (with_cells 0 l) added.stock.objects) value ∙ ap (λ n. change_in n (with_cells 0 (first_cells (drop 4 s.operands))) added.stock.objects) given) in
     let are : kept begun ≡ with_taken (first_cells (drop 4 s.operands)) (old.numbered.objects + 1) below (kept added) =
@@ -76,7 +77,7 @@ returns-in-Ok-clause-ok g c =
     let t = c.args.record in
     let b = c.requires.1.0 in
     let set = c.in-Ok.set in
-    let placed : PlacesThere code old added t s (Ok set) = subst (λ (z : Result ℕ Mode). PlacesThere code old added t s z) c.in-Ok.is c.in_ok-set.ensures.ok in
+    let placed : PlacesThere code old added (Record t) s (Ok set) = subst (λ (z : Result ℕ Mode). PlacesThere code old added (Record t) s z) c.in-Ok.is c.in_ok-set.ensures.ok in
     let place = InBlock (number_at s.operands 2) (number_at s.operands 0) in
     let begun : Engine = record added { spots = c.take_last-value.new.self; stock = c.write_all.new.self } in
     copies_in_block code old new c.args.place t g.s.2 set g.s.1 s b placed.0 placed.1
@@ -90,6 +91,6 @@ returns-in-Err-clause-ok g c =
     let new = c.go_on.new.self in
     let s = g.s.0 in
     let t = c.args.record in
-    let refused : PlacesThere code old added t s (Err c.in-Err.refused) = subst (λ (z : Result ℕ Mode). PlacesThere code old added t s z) c.in-Err.is c.in_ok-set.ensures.ok in
+    let refused : PlacesThere code old added (Record t) s (Err c.in-Err.refused) = subst (λ (z : Result ℕ Mode). PlacesThere code old added (Record t) s z) c.in-Err.is c.in_ok-set.ensures.ok in
     let goes = goes_both old added new _ refused.3 c.go_on.ensures in
     copy_stops code old new c.args.place t g.s.2 g.s.1 refused.0 s c.requires.1.0 refused.2 (subst (λ (m : Mode). GoesOn old new m old.cells.items) refused.1 goes)

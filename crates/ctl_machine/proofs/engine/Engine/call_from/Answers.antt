@@ -1,6 +1,6 @@
 use Rattle.std.proofs.Common.{◌≡◌, ◌+◌, ◌≤◌, ◌∷◌, ◌++◌, ◌∙◌, List, [], ℕ, Some, ap, arith, drop, length, refl, reverse, subst, sym}
 use Rattle.std.specs.Prelude.{slice_get}
-use Rattle.std.proofs.lemmas.List.{append-nil}
+use Rattle.std.proofs.lemmas.List.{append-nil, reverse-reverse}
 use Rattle.std.proofs.lemmas.Option.{slice_get_within}
 use Rattle.ctl_program.specs.declared.operators.SubprogramKind.{SubprogramKind}
 use Rattle.ctl_code.specs.declared.kinds.Kind.{Kind}
@@ -8,8 +8,10 @@ use Rattle.ctl_code.specs.declared.kinds.Kind.TheVariants.{Body}
 use Rattle.ctl_code.specs.Kinds.{stack_at}
 use Rattle.ctl_code.specs.Windows.{height}
 use Rattle.ctl_machine.specs.declared.frame.After.{After}
+use Rattle.ctl_machine.specs.declared.engine.Engine.{Engine}
 use Rattle.ctl_machine.specs.declared.frame.Master.{Master}
 use Rattle.ctl_machine.specs.Calling.{after_for, count_values}
+use Rattle.ctl_machine.specs.Links.{AreLinked}
 use Rattle.ctl_machine.specs.Masters.{first_window, heads_of}
 use Rattle.ctl_machine.specs.Spots.{standing}
 use Rattle.ctl_machine.specs.Passing.{with_actuals}
@@ -21,6 +23,10 @@ use Rattle.ctl_machine.proofs.engine.Engine.call_from.Goals as goal
 -- where the window of the body begins
 begins_at : (kinds : List (List Kind)) (kind : SubprogramKind) (copies place actuals window below first : ℕ) → drop (count_values kind copies) (stack_at kinds (place + 1)) ≡ drop actuals (stack_at kinds place) → window ≡ first → below ≡ height (drop actuals (stack_at kinds place)) → window + below ≡ first + height (drop (count_values kind copies) (stack_at kinds (place + 1)))
 begins_at kinds kind copies place actuals window below first same window_is below_is = ap (λ n. n + below) window_is ∙ ap (λ n. first + n) (below_is ∙ ap (λ (l : List Kind). height l) (sym same))
+
+-- the masters are the same where room was made and the slots were begun
+same_masters : (old ready begun : Engine) (row : List ℕ) → kept ready ≡ with_cells (kept old) row → begun.masters ≡ ready.masters → begun.masters.items ≡ old.masters.items
+same_masters old ready begun row made begins = ap (λ v. v.items) begins ∙ (sym (reverse-reverse ready.masters.items) ∙ (ap (λ (e : Kept). reverse e.masters) made ∙ reverse-reverse old.masters.items))
 
 pub height_below-requires : goal.height_below-requires
 height_below-requires g c = record {
@@ -44,10 +50,16 @@ prepare_body-requires g c =
     omega (arith, is, within)
 
 pub around-link-requires : goal.around-link-requires
-around-link-requires g c = linked_before c.args.code.now c.args.self.now c.args.kind c.args.place c.args.body c.args.actuals c.args.copies g.s c.requires.1.0
+around-link-requires g c =
+    let old = c.args.self.now in
+    let here = same_masters old c.prepare_body.new.self c.begin_slots.new.self (old.cells.items ++ c.in_ok-prepare_body.ensures.ok.0) c.in_ok-prepare_body.ensures.ok.1.kept c.begin_slots.ensures.masters in
+    subst (λ (l : List Master). AreLinked l (heads_of g.s.world.activations)) (sym here) (linked_before c.args.code.now old c.args.kind c.args.place c.args.body c.args.actuals c.args.copies g.s c.requires.1.0)
 
-pub depth_at-depth-requires : goal.depth_at-depth-requires
-depth_at-depth-requires g c = (linked_before c.args.code.now c.args.self.now c.args.kind c.args.place c.args.body c.args.actuals c.args.copies g.s c.requires.1.0, c.around-link.ensures.bound)
+pub depth_at-requires : goal.depth_at-requires
+depth_at-requires g c =
+    let old = c.args.self.now in
+    let here = same_masters old c.prepare_body.new.self c.begin_slots.new.self (old.cells.items ++ c.in_ok-prepare_body.ensures.ok.0) c.in_ok-prepare_body.ensures.ok.1.kept c.begin_slots.ensures.masters in
+    (subst (λ (l : List Master). AreLinked l (heads_of g.s.world.activations)) (sym here) (linked_before c.args.code.now old c.args.kind c.args.place c.args.body c.args.actuals c.args.copies g.s c.requires.1.0), c.around-link.ensures.bound)
 
 pub begin_slots-requires : goal.begin_slots-requires
 begin_slots-requires g c =
@@ -87,22 +99,23 @@ returns-clause-ok g c =
     let ops = g.s.operands in
     let below = standing g.s.control (drop count ops) in
     let base = c.args.window + c.height_below.result in
-    let b : Master = record { number = c.begin_slots.new.self.given_masters + 1; window = base; base = base; slots = entry.slots; link = c.around-link.result; depth = c.depth_at-depth.result + 1; owned = c.count_owned.result; outer_formals = c.count_formals-outer_formals.result; formals = c.count_formals.result; spots = c.count_spots.result } in
+    let b : Master = record { number = c.begin_slots.new.self.given_masters + 1; window = base; base = base; slots = entry.slots; link = c.around-link.result; depth = c.depth_at.result + 1; owned = c.count_owned.result; outer_formals = c.count_formals-outer_formals.result; formals = c.count_formals.result; spots = c.count_spots.result } in
     let begun : kept c.begin_slots.new.self ≡ with_actuals (with_cells (kept old) row) ops below base entry.slots count =
     c.begin_slots.ensures.kept ∙ ap (λ (e : Kept). with_actuals e ops below base entry.slots count) goes.kept in
     let cells : ready.cells.items ≡ row = ap (λ (e : Kept). e.cells) goes.kept in
+    let here = same_masters old ready c.begin_slots.new.self row goes.kept c.begin_slots.ensures.masters in
     call_makes code old c.stand.new.self c.args.kind c.args.place c.args.body count c.args.copies g.s entry b more c.requires.0 c.requires.1.0 found
     (record {
       number = ap (λ n. n + 1) (c.begin_slots.ensures.given ∙ c.in_ok-prepare_body.ensures.number);
       window = refl;
       begins = begins_at code.kinds c.args.kind c.args.copies c.args.place c.args.actuals c.args.window c.height_below.result (first_window (reverse old.masters.items)) (same_below code old c.args.kind c.args.place c.args.body c.args.actuals c.args.copies g.s c.requires.1.0) c.requires.1.1.1.0 c.height_below.ensures;
       slots = refl;
-      link = c.around-link.ensures.bound;
+      link = subst (λ (l : List Master). b.link ≤ length l) here c.around-link.ensures.bound;
       display = c.around-link.ensures.display;
-      depth = ap (λ n. n + 1) c.depth_at-depth.ensures.depth;
-      shallow = let s = c.depth_at-depth.ensures.shallow in omega (arith, s);
+      depth = ap (λ n. n + 1) c.depth_at.ensures.depth;
+      shallow = let s = c.depth_at.ensures.shallow in omega (arith, s);
       owned = c.count_owned.ensures ∙ ap (λ (e : Kept). length e.owned) begun;
-      outer = c.count_formals-outer_formals.ensures.count;
+      outer = c.count_formals-outer_formals.ensures.count ∙ ap (λ (e : Kept). length e.formals) goes.kept;
       formals = c.count_formals.ensures.count ∙ ap (λ (e : Kept). length e.formals) begun;
     })
     (c.count_spots.ensures.count ∙ ap (λ (e : Kept). length e.spots) begun)

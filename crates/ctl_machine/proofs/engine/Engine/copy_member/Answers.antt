@@ -1,4 +1,5 @@
 use Rattle.std.proofs.Common.{◌≡◌, ◌∙◌, ◌+◌, ℕ, List, Option, Some, ap, arith, drop, refl, subst, sym}
+use Rattle.ctl_program.specs.declared.types.Ty.TheVariants.{Record}
 use Rattle.ctl_meaning.specs.Finalization.{Spot}
 use Rattle.ctl_meaning.specs.Objects.{cells_at, object_in}
 use Rattle.ctl_meaning.specs.World as W
@@ -30,7 +31,7 @@ returns-in-Some-clause-ok g c =
     let mode = c.in-Some.refused in
     let grants : Grants code old s.world g.s.2 c.grantor-grantor.result = subst (λ (f : ℕ → Grant). Grants code old s.world f c.grantor-grantor.result) (sym c.requires.1.1.1.0) c.grantor-grantor.ensures in
     let none = no_user c.grantor-grantor.result c.in_default.not-User in
-    let served : Serves code old added set t s.world (g.s.2 size) (Some mode) = subst (λ (o : Option Mode). Serves code old added set t s.world (g.s.2 size) o) c.in-Some.is c.in_ok-refused.ensures.ok in
+    let served : Serves code old added set (Record t) s.world (g.s.2 size) (Some mode) = subst (λ (o : Option Mode). Serves code old added set (Record t) s.world (g.s.2 size) o) c.in-Some.is c.in_ok-refused.ensures.ok in
     lacking_makes code old added c.go_on.new.self mode b.stack s.operands (here_of c.args.place s) (member_copied code c.args.place set t g.s.1 s) (g.s.2 size) (λ o f is. absurd (asks_none code old s.world g.s.2 c.grantor-grantor.result size o f grants none is)) refl refl b.inside served.0 served.1 c.go_on.ensures
 
 pub copy-requires : goal.copy-requires
@@ -49,9 +50,9 @@ copy-requires g c = λ e.
     let number = c.object-source.ensures ∙ ap (λ (x : Spot). x.object) spot in
     let there = sym (object_shown code (kept old) s.control s.operands s.world (first_spot s.operands).object h) ∙ c.requires.1.1.0 in
     let less = found_below old.owned.items (old.numbered.objects + 1) old.stock.objects (first_spot s.operands).object g.s.1 h.owns there in
-    let adds : Adds code (kept old) (kept added) c.args.set t s.world (g.s.2 size) =
-    subst (λ (o : Option Mode). Serves code old added c.args.set t s.world (g.s.2 size) o) c.in_default-2.is c.in_ok-refused.ensures.ok in
-    let given = member_number code old added c.args.set t (place_granted (g.s.2 size)) (world_granted s.world (g.s.2 size)) adds.member in
+    let adds : Adds code (kept old) (kept added) c.args.set (Record t) s.world (g.s.2 size) =
+    subst (λ (o : Option Mode). Serves code old added c.args.set (Record t) s.world (g.s.2 size) o) c.in_default-2.is c.in_ok-refused.ensures.ok in
+    let given = member_number code old added c.args.set (Record t) (place_granted (g.s.2 size)) (world_granted s.world (g.s.2 size)) adds.member in
     omega (arith, e, given, number, less)
 
 pub adjust_member-requires : goal.adjust_member-requires
@@ -70,8 +71,8 @@ adjust_member-requires g c =
     let added = c.add_member.new.self in
     let y = first_spot s.operands in
     let below = standing s.control (drop 1 s.operands) in
-    let adds : Adds code (kept old) (kept added) set t s.world (g.s.2 size) =
-    subst (λ (z : Option Mode). Serves code old added set t s.world (g.s.2 size) z) c.in_default-2.is c.in_ok-refused.ensures.ok in
+    let adds : Adds code (kept old) (kept added) set (Record t) s.world (g.s.2 size) =
+    subst (λ (z : Option Mode). Serves code old added set (Record t) s.world (g.s.2 size) z) c.in_default-2.is c.in_ok-refused.ensures.ok in
     let i = adds.member in
     let beside = grants_beside code old s.world v (storage_seen code c.args.access s) c.grantor-grantor.result size place c.grantor-grantor.ensures (ap (λ (f : ℕ → Grant). f size) (sym c.requires.1.1.1.0) ∙ adds.granted) in
     let p = source_part code old c.args.access c.args.place t before.1 before.0 s b in
@@ -82,7 +83,7 @@ adjust_member-requires g c =
     let spots : added.spots.items ≡ old.spots.items = ap (λ (e : Kept). e.spots) i.kept in
     let popped = (same_front c.take_last.new.self.items below c.take_last.result y (sym c.take_last.ensures.items ∙ (spots ∙ p.spots))).0 in
     let there = sym (object_shown code (kept old) s.control s.operands s.world y.object b.inside.holds) ∙ c.requires.1.1.0 in
-    let given = member_number code old added set t place v i in
+    let given = member_number code old added set (Record t) place v i in
     let begun : Engine = record added { spots = c.take_last.new.self; stock = c.copy.new.self } in
     let value = cells_at y.offset (size_of code t) o in
     let taken = taken_kept code (kept old) (kept added) c.copy.new.self.objects set t c.object-source.result c.offset-start.result y.offset c.size_of-size.result added.numbered.objects place v o
@@ -111,8 +112,8 @@ returns-clause-ok g c =
     let v = world_granted s.world (g.s.2 size) in
     let added = c.add_member.new.self in
     let begun : Engine = record added { spots = c.take_last.new.self; stock = c.copy.new.self } in
-    let adds : Adds code (kept old) (kept added) set t s.world (g.s.2 size) =
-    subst (λ (z : Option Mode). Serves code old added set t s.world (g.s.2 size) z) c.in_default-2.is c.in_ok-refused.ensures.ok in
+    let adds : Adds code (kept old) (kept added) set (Record t) s.world (g.s.2 size) =
+    subst (λ (z : Option Mode). Serves code old added set (Record t) s.world (g.s.2 size) z) c.in_default-2.is c.in_ok-refused.ensures.ok in
     let beside = grants_beside code old s.world v (storage_seen code c.args.access s) c.grantor-grantor.result size place c.grantor-grantor.ensures (ap (λ (f : ℕ → Grant). f size) (sym c.requires.1.1.1.0) ∙ adds.granted) in
     let new = c.adjust_member.new.self in
     subst (λ (x : Grant). Makes code old new (member_copied code c.args.place set t o s x)) (sym adds.granted)

@@ -1,4 +1,4 @@
-use Rattle.ctl_code.specs.Table.{behind_next, units_of, with_member}
+use Rattle.ctl_code.specs.Table.{behind_next, units_for, with_member}
 use Rattle.ctl_machine.specs.Granting.{place_granted, world_granted}
 use Rattle.ctl_machine.specs.Moves.{here_of}
 use Rattle.ctl_machine.proofs.MasterOf.{object_or}
@@ -16,7 +16,7 @@ ghost-add_member g a = g.s
 
 abbrev pub ghost-begin_member : goal.ghost-begin_member
 ghost-begin_member g a =
-    let granted = g.s.1 (units_of a.code.now a.record) in
+    let granted = g.s.1 (units_for a.code.now a.of) in
     let place = place_granted granted in
     let world = world_granted g.s.0.world granted in
-    (record { place = place; control = g.s.0.control; point = behind_next g.s.0.operands (here_of (place_in g.s.0.mode) g.s.0); granted = world }, with_member a.code.now a.set a.record place world)
+    (record { place = place; control = g.s.0.control; point = behind_next g.s.0.operands (here_of (place_in g.s.0.mode) g.s.0); granted = world }, with_member a.code.now a.set a.of place world)

@@ -7,7 +7,7 @@ use Rattle.ctl_meaning.specs.Storage.{storage_actuals}
 use Rattle.ctl_code.specs.declared.code.Entry.{Entry}
 use Rattle.ctl_code.specs.States as T
 use Rattle.ctl_code.specs.States.{AfterProcedure}
-use Rattle.ctl_code.specs.Table.{call_allocate, enter_body, units_of}
+use Rattle.ctl_code.specs.Table.{call_allocate, enter_body, units_for}
 use Rattle.ctl_code.specs.Valid.{storage_formals}
 use Rattle.ctl_machine.specs.declared.frame.After.TheVariants as AfterOf
 use Rattle.ctl_machine.specs.Granting.{with_numbers}
@@ -23,9 +23,9 @@ use Rattle.ctl_machine.proofs.engine.Engine.enter_allocate.Goals as goal
 
 pub returns-then-units-gt-STORAGE_COUNT_LAST : goal.returns-then-units-gt-STORAGE_COUNT_LAST
 returns-then-units-gt-STORAGE_COUNT_LAST g c =
-    let units = c.units_of-units.ensures in
+    let units = c.units_for-units.ensures in
     let more = c.if-units-gt-STORAGE_COUNT_LAST.true in
-    too_large c.args.code.now c.args.self.now c.go_on.new.self c.args.place c.args.first (units_of c.args.code.now c.args.record) c.args.set c.args.allocate g.s.1 g.s.0 c.requires.1.0 (omega (arith, units, more)) c.go_on.ensures
+    too_large c.args.code.now c.args.self.now c.go_on.new.self c.args.place c.args.first (units_for c.args.code.now c.args.of) c.args.set c.args.allocate g.s.1 g.s.0 c.requires.1.0 (omega (arith, units, more)) c.go_on.ensures
 
 pub index-requires : goal.index-requires
 index-requires g c =
@@ -54,8 +54,8 @@ call_storage-requires g c =
     let is : kept c.put_numbers.new.self ≡ with_cells (kept old) (with_numbers first c.args.set o.number old.cells.items) =
     c.put_numbers.ensures.goes.kept ∙ ap (λ n. with_cells (kept old) (with_numbers first c.args.set n old.cells.items)) (sym number) in
     let wide = room.cells in
-    let calls = calls_allocate code old c.put_numbers.new.self c.args.place c.units_of-units.result c.args.set f c.in-Some.master first (first + 2) entry o s asks part found slots refl (omega (arith, wide)) is in
-    let same = call_is code c.args.place f c.units_of-units.result g.s.2 c.args.set o s (ap place_in asks.mode) operation c.requires.1.1.0 in
+    let calls = calls_allocate code old c.put_numbers.new.self c.args.place c.units_for-units.result c.args.set f c.in-Some.master first (first + 2) entry o s asks part found slots refl (omega (arith, wide)) is in
+    let same = call_is code c.args.place f c.units_for-units.result g.s.2 c.args.set o s (ap place_in asks.mode) operation c.requires.1.1.0 in
     let given = c.put_numbers.ensures.given in
     let fewer = room.number in
     let total = ap (λ (e : Kept). length e.cells) c.put_numbers.ensures.goes.kept ∙ length_numbers first c.args.set c.args.pool old.cells.items in (
@@ -83,7 +83,7 @@ returns g c =
     let s = g.s.0 in
     let o = g.s.1 in
     let f = c.args.allocate in
-    let u = c.units_of-units.result in
+    let u = c.units_for-units.result in
     let asks = c.requires.1.0 in
     let set = c.args.set in
     let new = c.call_storage.new.self in
@@ -94,6 +94,6 @@ returns g c =
     let call = allocate_call c.args.place f u set o s in
     let shown = subst (λ n. Makes code mid new (enter_body (slice_get code.entries.items f) (Allocate n u ∷ []) (home_of o.origin s.world) (storage_actuals o.number 0 u) (AfterProcedure 2 call.point) s.control s.world)) (sym number) made in
     let few = c.if-units-gt-STORAGE_COUNT_LAST.false in
-    subst (λ n. Makes code old new (call_allocate code n set o f s.operands (here_of c.args.place s))) c.units_of-units.ensures
+    subst (λ n. Makes code old new (call_allocate code n set o f s.operands (here_of c.args.place s))) c.units_for-units.ensures
     (subst (λ (m : T.Move). Makes code old new m) (sym (table_calls code u set f c.args.place o s (omega (arith, few))))
     (makes_later code old mid new _ c.put_numbers.ensures.goes.events c.put_numbers.ensures.goes.picks shown))

@@ -44,7 +44,7 @@ returns-in_default-clause-err g c =
     let v = c.index.result.now in
     let known = c.requires.1 in
     let found = access_read code c.args.access known.0 v known.1 c.index.ensures in
-    subst (λ (o : Option Collection). Refuses code c.args.record o (ModeOf.Stopped UseAfterFree)) (sym (seen_as code c.args.access v None g.s.world found (c.in_default.ensures v.pool))) refl
+    subst (λ (o : Option Collection). Refuses code c.args.of o (ModeOf.Stopped UseAfterFree)) (sym (seen_as code c.args.access v None g.s.world found (c.in_default.ensures v.pool))) refl
 
 pub returns-then-is_refused-clause-err : goal.returns-then-is_refused-clause-err
 returns-then-is_refused-clause-err g c =
@@ -52,7 +52,7 @@ returns-then-is_refused-clause-err g c =
     let v = c.index.result.now in
     let known = c.requires.1 in
     let found = access_read code c.args.access known.0 v known.1 c.index.ensures in
-    subst (λ (o : Option Collection). Refuses code c.args.record o (ModeOf.Transfers (WayOf.Raise 1))) (sym (seen_as code c.args.access v (Some (collection_of c.in-Some.set)) g.s.world found (c.in-Some.ensures v.pool))) (sym c.if-is_refused.ensures, refl)
+    subst (λ (o : Option Collection). Refuses code c.args.of o (ModeOf.Transfers (WayOf.Raise 1))) (sym (seen_as code c.args.access v (Some (collection_of c.in-Some.set)) g.s.world found (c.in-Some.ensures v.pool))) (sym c.if-is_refused.ensures, refl)
 
 pub returns-clause-ok : goal.returns-clause-ok
 returns-clause-ok g c =

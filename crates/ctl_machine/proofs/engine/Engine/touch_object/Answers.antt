@@ -46,3 +46,9 @@ returns-in-Designate-clause-passed g c = subst (λ (i : Instr). IfSome c.designa
 
 pub returns-in-Designate-clause-gone : goal.returns-in-Designate-clause-gone
 returns-in-Designate-clause-gone g c = subst (λ (i : Instr). IfNone c.designate_slot.result (Comes c.args.code.now c.designate_slot.new.self (Stopped UseAfterFree) c.designate_slot.new.self.cells.items (by_instr c.args.code.now (Some i) g.s.operands (here_of c.args.place g.s)))) (sym c.in-Designate.is) (c.designate_slot.ensures.gone c.in-Designate.ty)
+
+pub returns-in-GiveValue-clause-passed : goal.returns-in-GiveValue-clause-passed
+returns-in-GiveValue-clause-passed g c = subst (λ (i : Instr). IfSome c.give_value.result (λ next. (c.give_value.new.self.mode ≡ At next) × Makes c.args.code.now c.args.self.now c.give_value.new.self (by_instr c.args.code.now (Some i) g.s.operands (here_of c.args.place g.s)))) (sym c.in-GiveValue.is) (c.give_value.ensures.passed c.in-GiveValue.of c.in-GiveValue.ty)
+
+pub returns-in-GiveValue-clause-gone : goal.returns-in-GiveValue-clause-gone
+returns-in-GiveValue-clause-gone g c = subst (λ (i : Instr). IfNone c.give_value.result (Comes c.args.code.now c.give_value.new.self (Stopped UseAfterFree) c.give_value.new.self.cells.items (by_instr c.args.code.now (Some i) g.s.operands (here_of c.args.place g.s)))) (sym c.in-GiveValue.is) (c.give_value.ensures.gone c.in-GiveValue.of c.in-GiveValue.ty)

@@ -20,3 +20,6 @@ ghost-take_discriminant g a = g.s
 
 abbrev pub ghost-designate_slot : goal.ghost-designate_slot
 ghost-designate_slot g a = g.s
+
+abbrev pub ghost-give_value : goal.ghost-give_value
+ghost-give_value g a = g.s
