@@ -162,15 +162,15 @@ TEXTS = [
     (CONTROLLED + "begin declare type T is new Controlled with null record; X, Y : T; begin X := Y; end; end Main;", ACCEPTED, 1, 1),
     (CONTROLLED + "type T is new Limited_Controlled with null record; X, Y : T; begin X := Y; end Main;", 32, 1, 131),
     # procedures are run whose parameters are records, or of the types that functions give, in each mode; one with others is left out where it stands.
-    # A copy goes back to a variable; of a component only types tell it, at the main procedure
+    # A copy goes back to a variable or to a component
     (ITEM + "procedure P is begin null; end P; begin P; end Main;", ACCEPTED, 1, 1),
     (ITEM + "procedure P (N : Integer) is begin null; end P; begin P (1); end Main;", ACCEPTED, 1, 1),
     (ITEM + "N : Integer; procedure P (M : in out Integer) is begin null; end P; begin P (N); end Main;", ACCEPTED, 1, 1),
     (ITEM + "B : Boolean; procedure P (M : out Boolean) is begin M := True; end P; begin P (B); end Main;", ACCEPTED, 1, 1),
-    (ITEM + "type R is record N : Integer; end record; V : R; procedure P (M : out Integer) is begin M := 1; end P; begin P (V.N); end Main;", 12, 1, 1),
+    (ITEM + "type R is record N : Integer; end record; V : R; procedure P (M : out Integer) is begin M := 1; end P; begin P (V.N); end Main;", ACCEPTED, 1, 1),
     (ITEM + "procedure P (M : out Integer) is begin M := 1; end P; begin P (1); end Main;", 31, 1, 82),
     # access types are run, with allocators that have no value, that of a name or one that is no record's, access attributes, and instances of
-    # Unchecked_Deallocation; an object that is no record is no actual whose copy goes back
+    # Unchecked_Deallocation; a copy goes back to an object that is no record, too
     (ITEM + "type R is record N : Integer; end record; type P is access R; V : P; begin V := new R; V.N := 1; end Main;", ACCEPTED, 1, 1),
     (ITEM + "type R is record N : Integer; end record; type P is access all R; V : P := new R; begin V.all := V.all; end Main;", ACCEPTED, 1, 1),
     (ITEM + "type N; type L is access N; type N is record X : L := null; end record; V : L; begin V := new N; V.X := V; end Main;", ACCEPTED, 1, 1),
@@ -185,7 +185,7 @@ TEXTS = [
     (ITEM + "type P is access Boolean; type Q is access all P; V : Q := new P'(new Boolean'(True)); begin if V.all.all then V.all := null; end if; end Main;", ACCEPTED, 1, 1),
     ("with Ada.Unchecked_Deallocation; " + ITEM + "type P is access Integer; procedure Free is new Ada.Unchecked_Deallocation (Integer, P); V : P; begin Free (V); end Main;", ACCEPTED, 1, 1),
     (ITEM + "type P is access Integer; V : P; procedure Q (M : in Integer) is begin null; end Q; begin Q (V.all); end Main;", ACCEPTED, 1, 1),
-    (ITEM + "type P is access Integer; V : P; procedure Q (M : out Integer) is begin M := 1; end Q; begin Q (V.all); end Main;", 12, 1, 1),
+    (ITEM + "type P is access Integer; V : P; procedure Q (M : out Integer) is begin M := 1; end Q; begin Q (V.all); end Main;", ACCEPTED, 1, 1),
     (ITEM + "type P is access Integer; V : P := new Integer'(True); begin null; end Main;", 30, 1, 67),
     # block pools are run, by themselves and extended
     (POOLS + "P : Block_Pool (16, 4); type R is record N : Integer; end record; type A is access R; for A'Storage_Pool use P; V : A; begin V := new R; V.N := 1; end Main;", ACCEPTED, 1, 1),
@@ -199,10 +199,12 @@ TEXTS = [
     (OWN_POOL + "begin declare P : K (16, 1); type M is access R with Storage_Pool => P; V : M; begin V := new R; V.N := 1; end; end Main;", ACCEPTED, 1, 1),
     (OWN_POOL + "begin declare P : K (16, 1); type M is access R with Storage_Pool => P; X : R; V : M; begin V := new R'(X); end; end Main;", ACCEPTED, 1, 1),
     (OWN_POOL + "X : R; V : L; begin V := new R'(X); end Main;", ACCEPTED, 1, 1),
-    # calls of the library's Allocate and Deallocate are run, whether a variable or a component takes the address, but none of its Finalize
+    # calls of the library's Allocate and Deallocate are run, whether a variable or a component takes the address, and those of its Initialize,
+    # Adjust and Finalize
     (ADDRESSES + "P : Block_Pool (16, 1); A : System.Address; begin Allocate (P, A, 8, 8); Deallocate (P, A, 8, 8); end Main;", ACCEPTED, 1, 1),
     (ADDRESSES + "type R is record A : System.Address; end record; X : R; P : Block_Pool (16, 1); begin Allocate (P, X.A, 8, 8); end Main;", ACCEPTED, 1, 1),
-    (POOLS + "P : Block_Pool (16, 1); begin Finalize (P); end Main;", 12, 1, 36),
+    (POOLS + "P : Block_Pool (16, 1); begin Finalize (P); end Main;", ACCEPTED, 1, 1),
+    (CONTROLLED + "type T is new Controlled with null record; type L is access T; V : L; begin Initialize (V.all); Adjust (Controlled (V.all)); end Main;", ACCEPTED, 1, 1),
     # and variables, components, formals and results of the types Storage_Count and Address, and conversions of numbers
     (ADDRESSES + "N, M : Storage_Count := 8; A, B : System.Address; begin if N < M and A = B then N := M + 1; A := B; end if; end Main;", ACCEPTED, 1, 1),
     (ADDRESSES + "type R is record N : Storage_Count := 8; A : System.Address; end record; X : R; begin X.N := X.N * 2; X.A := System.Null_Address; end Main;", ACCEPTED, 1, 1),

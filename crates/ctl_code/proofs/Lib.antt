@@ -7,6 +7,7 @@ pub mod FittingSteps
 pub mod FittingWorlds
 pub mod Declarable
 pub mod Raising
+pub mod Keeping
 pub mod Links
 pub mod Lists
 pub mod Logs

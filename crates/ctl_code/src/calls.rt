@@ -1,14 +1,15 @@
 //! Whether the call of a subprogram is well formed, and what follows it: it is declared where it is called, its actuals stand on top, and
 //! copies go back from there (RM 6.4, 6.4.1).
 
-ghost use Rattle.std.specs.Prelude.{◌≡◌, ◌↔◌, ◌+◌, ◌<◌, ◌^◌, IsTrue};
+ghost use Rattle.std.specs.Prelude.{◌≡◌, ◌↔◌, ℕ, ◌+◌, ◌<◌, ◌^◌, IsTrue};
+ghost use Rattle.ctl_program.specs.declared.operators.CopyStart.{CopyStart};
 ghost use Rattle.ctl_code.specs.declared.code.Instr.TheVariants as I;
 ghost use Rattle.ctl_code.specs.Kinds.{stack_at};
-ghost use Rattle.ctl_code.specs.Valid.{HasFormals, HaveOperands, IsCalled, IsFine, IsOperandAt};
+ghost use Rattle.ctl_code.specs.Valid.{CanKeep, HasFormals, HaveOperands, IsCalled, IsFine, IsNumberAt, IsOperandAt};
 
 use crate::around::has_home;
 use crate::code::Code;
-use crate::fine::{is_bare, leads_on, puts_operand};
+use crate::fine::{has, is_bare, is_operand, leads_on, puts_operand};
 use crate::homes::Declaration;
 use crate::kinds::Kind;
 use crate::layouts::is_in_scope;
@@ -62,6 +63,73 @@ pub(crate) fn is_copy_back_fine(
         && code.kinds.height_at(place, depth) == at
         && leads_on(code, place, 0, None)
         && code.kinds.has_slot(place, out, slot, &code.homes)
+}
+
+/// Checks that so many zeros are put, the first in this cell (RM 6.4.1).
+pub(crate) fn is_reserve_fine(code: &Code, place: usize, count: usize, at: usize) -> bool
+    requires { place + 1 < 2 ^ 64 }
+    ensures { IsTrue result ↔ IsFine code.now place (I.Reserve count at) (stack_at code.now.kinds place) }
+{
+    code.kinds.height_at(place, 0) == at
+        && code
+            .kinds
+            .leads_over_numbers(place, 0, None, count, place + 1)
+}
+
+/// Checks that a part can be kept: the last two of so many operands, under a newest one, are numbers, which begin in this cell (RM 6.4.1).
+fn can_keep(code: &Code, place: usize, depth: usize, kept: usize) -> bool
+    ensures { IsTrue result ↔ CanKeep depth kept (stack_at code.now.kinds place) }
+{
+    depth >= 3
+        && has_operands(code, place, depth)
+        && has(code, place, depth - 2, Kind::Operand(Ty::Integer))
+        && has(code, place, depth - 1, Kind::Operand(Ty::Integer))
+        && code.kinds.height_at(place, depth) == kept
+}
+
+/// Checks that a part is kept, which stands on top in the cell `at`, and that the copy of a component of this type takes its place (RM 6.4.1).
+pub(crate) fn is_keep_part_fine(
+    code: &Code,
+    place: usize,
+    record: usize,
+    ty: Ty,
+    depth: usize,
+    kept: usize,
+    at: usize,
+) -> bool
+    requires { place + 1 < 2 ^ 64 }
+    ensures { (position : ℕ) (begins : CopyStart) → IsTrue result ↔ IsFine code.now place (I.KeepPart «record» position begins ty depth kept at) (stack_at code.now.kinds place) }
+{
+    is_scalar(ty)
+        && can_keep(code, place, depth, kept)
+        && is_operand(code, place, 0, at, Ty::Record(record))
+        && leads_on(code, place, 1, Some(Kind::Operand(ty)))
+}
+
+/// Tells whether the last of so many numbers on top stands in this cell.
+fn is_number_at(code: &Code, place: usize, depth: usize, at: usize) -> bool
+    ensures { IsTrue result ↔ IsNumberAt depth at (stack_at code.now.kinds place) }
+{
+    code.kinds.has_numbers(place, depth) && code.kinds.height_at(place, depth) == at
+}
+
+/// Checks that a copy goes back to a component: it is the last of so many numbers, and the part is kept in the last two of `below` (RM 6.4.1).
+pub(crate) fn is_copy_back_part_fine(
+    code: &Code,
+    place: usize,
+    depth: usize,
+    at: usize,
+    below: usize,
+    kept: usize,
+) -> bool
+    requires { place + 1 < 2 ^ 64 }
+    ensures { (t position : ℕ) → IsTrue result ↔ IsFine code.now place (I.CopyBackPart depth at below kept t position) (stack_at code.now.kinds place) }
+{
+    depth >= 1
+        && is_number_at(code, place, depth, at)
+        && below >= 2
+        && is_number_at(code, place, below, kept)
+        && leads_on(code, place, 0, None)
 }
 
 /// Checks that so many numbers are dropped.

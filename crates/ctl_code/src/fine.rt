@@ -20,7 +20,8 @@ use crate::accesses::{
 };
 use crate::around::has_home;
 use crate::calls::{
-    is_call_fine, is_copy_back_fine, is_discard_fine, is_evaluate_fine, is_start_fine,
+    is_call_fine, is_copy_back_fine, is_copy_back_part_fine, is_discard_fine, is_evaluate_fine,
+    is_keep_part_fine, is_reserve_fine, is_start_fine,
 };
 use crate::code::{Cell, Code, Instr, Named, Operator, Way};
 use crate::homes::Declaration;
@@ -629,6 +630,22 @@ pub fn is_fine(code: &Code, place: usize, instr: &Instr) -> bool
             out,
             slot,
         } => is_copy_back_fine(code, place, depth, at, out, slot),
+        Instr::Reserve { count, at } => is_reserve_fine(code, place, count, at),
+        Instr::KeepPart {
+            record,
+            ty,
+            depth,
+            kept,
+            at,
+            ..
+        } => is_keep_part_fine(code, place, record, ty, depth, kept, at),
+        Instr::CopyBackPart {
+            depth,
+            at,
+            below,
+            kept,
+            ..
+        } => is_copy_back_part_fine(code, place, depth, at, below, kept),
         Instr::Discard(count) => is_discard_fine(code, place, count),
         Instr::Evaluate {
             function,
@@ -699,6 +716,7 @@ pub fn is_fine(code: &Code, place: usize, instr: &Instr) -> bool
             record,
             ..
         } => is_scalar(ty) && stores_part(code, place, from, ty, record),
+        Instr::DropPart { record } => drops_part(code, place, 0, record),
         Instr::Assign { record } => is_assign_fine(code, place, record),
         Instr::Store {
             from,

@@ -1,9 +1,8 @@
 -- The code of each expression and of each actual that this version runs does what it means.
-use Rattle.std.proofs.Common.{◌≡◌, ℕ, List, [], ◌∷◌, ◌++◌, map, Option, Some, None, true, refl, sym, ap, ◌∙◌, subst}
+use Rattle.std.proofs.Common.{◌≡◌, ℕ, List, [], ◌∷◌, map, Option, Some, None, true, refl, sym, ap, ◌∙◌, subst}
 use Rattle.std.proofs.lemmas.Bool.{not-true}
 use Rattle.ctl_program.specs.declared.types.Ty.{Ty}
 use Rattle.ctl_program.specs.declared.types.Ty.TheVariants.{Integer, Count, Boolean, Address, Handle, Access, Record}
-use Rattle.ctl_program.specs.declared.types.Var.{Var}
 use Rattle.ctl_program.specs.declared.expression.Expr.{Expr, roll-Expr, map-Expr, ind-Expr}
 use Rattle.ctl_program.specs.declared.expression.Name.{Name, out-Name, roll-Name, roll-out-Name, map-Name}
 use Rattle.ctl_program.specs.declared.expression.Name.TheVariants.{rolls-Variable, rolls-Given, outs-Variable, outs-Given}
@@ -13,22 +12,22 @@ use Rattle.ctl_program.specs.declared.expression.Operand.{Operand, Operand-F, ro
 use Rattle.ctl_program.specs.declared.expression.Actual.TheOpen.{Actual-F, Expr-F, Name-F}
 use Rattle.ctl_meaning.specs.World.{World}
 use Rattle.ctl_meaning.specs.Choice.{Ask}
-use Rattle.ctl_meaning.specs.Outcome.{Act, ◌>>=◌, ticked, opened_outcome}
+use Rattle.ctl_meaning.specs.Outcome.{Act, ◌>>=◌, ticked}
 use Rattle.ctl_meaning.specs.Types.{Tables, Category, Elementary, cells_of}
-use Rattle.ctl_meaning.specs.Names.{Call, Default, Tools, Found, read_found, begins_as, opened_names}
-use Rattle.ctl_meaning.specs.Expressions.{Applied, Naming, Supplied, Valued, actual_step, apply, eval, eval_name, eval_step, operand_step, supply, var_part}
+use Rattle.ctl_meaning.specs.Names.{Call, Default, Tools, read_found}
+use Rattle.ctl_meaning.specs.Expressions.{Applied, Naming, Supplied, Valued, actual_step, apply, eval, eval_name, eval_step, operand_step, supply}
 use Rattle.ctl_meaning.proofs.Trees.{actual_roll as supply_roll, eval_roll, operand_roll}
 use Rattle.ctl_code.specs.declared.code.Code.{Code}
-use Rattle.ctl_program.specs.declared.expression.Step.TheVariants.{Component}
-use Rattle.ctl_layout.specs.Parts.{Start, OfVariable, Reached, Variable, Part, Object, any_type, are_followed, behind_steps, first_position, is_begun}
+use Rattle.ctl_layout.specs.Parts.{Start, OfVariable, Reached, Variable, Part, Object, any_type, behind_steps, first_position, is_begun}
 use Rattle.ctl_layout.specs.Values.{ActualCode, ValueCode, OperatorCode, actual_code, actuals_run, copied, discriminant, given, missing_value, new, new_copy, new_given, operator_of, operators_run, read, value_code, values_run, reached_by}
 use Rattle.ctl_gen.proofs.Known.{IsScalar, both_true, plain_if, scalar_elementary, scalar_if}
 use Rattle.ctl_gen.proofs.Worlds.{Since}
 use Rattle.ctl_gen.proofs.Walked.{behind_is, part_begun, start_of}
-use Rattle.ctl_gen.proofs.Parts.{Leads, agree_part, agree_run, find_as, find_by, given_by, given_layer, name_leads, object_leads, part_leads}
+use Rattle.ctl_gen.proofs.Parts.{Leads, agree_part, agree_run, given_by, given_layer, name_leads}
 use Rattle.ctl_gen.proofs.LastSteps.{itself, itself_ends, selected, selector_ends}
 use Rattle.ctl_gen.proofs.Begun.{Starts, value_starts}
 use Rattle.ctl_gen.proofs.Components.{component_value}
+use Rattle.ctl_gen.proofs.Reached.{Reaches, name_finds}
 use Rattle.ctl_layout.proofs.TreeLayers.{value_roll, operator_roll, actual_roll, reached_roll}
 use Rattle.ctl_layout.proofs.Layers.{copied_layer, copied_rolled}
 use Rattle.ctl_gen.proofs.Setting.{Setting, Calls, tools_with}
@@ -41,27 +40,6 @@ use Rattle.ctl_gen.proofs.Discriminants.{discriminant_value}
 use Rattle.ctl_gen.proofs.Expressions as X
 
 -- Names -------------------------------------------------------------------------------------------
-
-module _ (K : Tools) where
-  -- what a name means that reaches something, and begins with the value of this act, if it begins with one
-  abbrev pub Reaches : Reached → (List ℕ → Act (List ℕ)) → (List ℕ → Act Found) → Type 0
-  Reaches (Variable v) act find = X.Uses v find
-  Reaches (Object b steps) act find = (are_followed b steps ≡ true) × (find ≡ find_by K act steps b)
-  Reaches (Part b steps t position) act find = (are_followed b steps ≡ true) × (find ≡ find_by K act (steps ++ Component t position ∷ []) b)
-
-  -- in one tick
-  uses_it : (x : Var) (act : List ℕ → Act (List ℕ)) → X.Uses x (find_as K act Elementary [] (OfVariable x))
-  unfolding var_part opened_names opened_outcome
-  uses_it x act v c l w = refl
-
-  reaches : (x : Reached) (act : List ℕ → Act (List ℕ)) (find : Naming) → Leads K x act find → Reaches x act (find Elementary K)
-  unfolding begins_as
-  reaches (Variable v) act find h = subst (X.Uses v) (sym (h.finds Elementary)) (uses_it v act)
-  reaches (Object b steps) act find h = (h.walked, object_leads K b steps act find h)
-  reaches (Part b steps t position) act find h = (h.walked, part_leads K b steps t position act find Elementary h)
-
-  pub name_finds : (n : Name) (x : Reached) → reached_by n ≡ Some x → Reaches x (given_by n K) (eval_name n Elementary K)
-  name_finds n x is = reaches x (given_by n K) (eval_name n) (name_leads K n x is)
 
 -- the layer that a name is made of
 layer_is : (y : Name-F Actual Expr Name Operand) → out-Name (roll-Name y) ≡ y
@@ -301,7 +279,7 @@ module _ (ask : Ask) (k : Tables) (code : Code) (setting : Setting k code) (call
       let g = both_true _ _ h in
       A.value_passes ask k code setting call default bound w0 (value_code e.0) (eval e.0 K) ty (scalar_if ty g.0) (e.1.0 g.1))
   actual_rolled (Actual-F.Part n ty) = passing (Actual-F.Part n.0 ty) _ _ (actual_roll (Actual-F.Part n.0 ty)) (supply_roll (Actual-F.Part n.0 ty)) (A.reference_passes ask k code setting call default bound w0 (reached_by n.0) ty (given_by n.0 K) (eval_name n.0) (name_leads K n.0) n.1)
-  actual_rolled (Actual-F.Copied n ty begins) = passing (Actual-F.Copied n.0 ty begins) _ _ (actual_roll (Actual-F.Copied n.0 ty begins)) (supply_roll (Actual-F.Copied n.0 ty begins)) (A.copy_passes ask k code setting call default bound w0 (reached_by n.0) ty begins (eval_name n.0) (λ v is. name_finds K n.0 (Variable v) is))
+  actual_rolled (Actual-F.Copied n ty begins) = passing (Actual-F.Copied n.0 ty begins) _ _ (actual_roll (Actual-F.Copied n.0 ty begins)) (supply_roll (Actual-F.Copied n.0 ty begins)) (A.copy_passes ask k code setting call default bound w0 (reached_by n.0) ty begins (given_by n.0 K) (eval_name n.0) (name_finds K n.0) n.1)
 
   -- what a name begins with: a variable, or the value of an expression
   starts_with : (b : Start) (ss : List Step) (x : Reached) (act : List ℕ → Act (List ℕ)) → behind_steps b ss ≡ Some x → (is_begun b k.records ≡ true → Starts ask k code bound w0 b act) → is_begun (start_of x) k.records ≡ true → Starts ask k code bound w0 (start_of x) act

@@ -11,12 +11,12 @@ use Rattle.ctl_program.specs.declared.statement.Master.{Master, Master-F, roll-M
 use Rattle.ctl_tree.specs.declared.event.Event.TheVariants.{Newline}
 use Rattle.ctl_meaning.specs.World.{World}
 use Rattle.ctl_meaning.specs.Choice.{Ask}
-use Rattle.ctl_meaning.specs.Outcome.{Act, ◌>>=◌, ticked, Goes, tell, opened_outcome, ByExit, ByReturn, ByRaise, leave_by, Leaves}
+use Rattle.ctl_meaning.specs.Outcome.{Act, ◌>>=◌, ◌>>◌, nothing, ticked, Goes, tell, opened_outcome, ByExit, ByReturn, ByRaise, leave_by, Leaves}
 use Rattle.ctl_meaning.specs.Types.{Tables, Elementary}
 use Rattle.ctl_meaning.specs.Names.{Default, Found, Tools}
 use Rattle.ctl_meaning.specs.Names as Names
 use Rattle.ctl_meaning.specs.Expressions.{Naming, Supplied, eval, eval_name, supply}
-use Rattle.ctl_meaning.specs.Statements.{Doing, arm_of, assign as assign_doing, assign_part, assign_record as assign_found, body_of, call as call_doing, call_allocate, call_deallocate, do_each, exec, exit as exit_doing, free_object_of, handler_of, loop_for, loop_plainly, loop_while, new_line, null as null_doing, put, put_line, raise_again, raise_new, return as return_doing, within}
+use Rattle.ctl_meaning.specs.Statements.{Doing, arm_of, assign as assign_doing, assign_part, assign_record as assign_found, body_of, call as call_doing, call_nothing as nothing_doing, call_allocate, call_deallocate, do_each, exec, exit as exit_doing, free_object_of, handler_of, loop_for, loop_plainly, loop_while, new_line, null as null_doing, put, put_line, raise_again, raise_new, return as return_doing, within}
 use Rattle.ctl_meaning.proofs.Trees.{exec_roll, arm_roll as guarding_roll, handler_roll as handling_roll, master_roll as body_roll}
 use Rattle.ctl_code.specs.declared.code.Code.{Code}
 use Rattle.ctl_code.specs.declared.code.Instr.TheVariants as InstrOf
@@ -24,7 +24,7 @@ use Rattle.ctl_code.specs.declared.code.Way.TheVariants as WayOf
 use Rattle.ctl_code.specs.Table.{caught_in}
 use Rattle.ctl_layout.specs.Parts.{Reached, Variable, Part, Object, any_type, first_position, is_begun}
 use Rattle.ctl_layout.specs.Values.{value_code, value_type, reached_by, sourced}
-use Rattle.ctl_layout.specs.Layout.{StatementCode, all, all_items, arm_code, assign, assign_record, call as call_code, record_code, exit, free as free_code, handled, handler_code, return, inside, item_code, library_allocate, library_deallocate, master_code, missing_statement, statement_code, leaves_code}
+use Rattle.ctl_layout.specs.Layout.{StatementCode, all, all_items, arm_code, assign, assign_record, call as call_code, call_nothing, dropped_code, record_code, exit, free as free_code, handled, handler_code, return, inside, item_code, library_allocate, library_deallocate, master_code, missing_statement, statement_code, leaves_code}
 use Rattle.ctl_layout.specs.Values.{actual_code}
 use Rattle.ctl_gen.proofs.Known.{both_true, plain_if}
 use Rattle.ctl_layout.proofs.TreeLayers.{handler_roll, arm_roll, master_roll, statement_roll}
@@ -33,7 +33,8 @@ use Rattle.ctl_gen.proofs.Parted.{GivesDefaults}
 use Rattle.ctl_gen.proofs.Worlds.{Kept}
 use Rattle.ctl_gen.proofs.Cells.{by_code}
 use Rattle.ctl_gen.proofs.Expressions.{Value}
-use Rattle.ctl_gen.proofs.Evaluated.{Reaches, actuals_mean, name_finds, name_starts, value_means}
+use Rattle.ctl_gen.proofs.Evaluated.{actuals_mean, name_starts, value_means}
+use Rattle.ctl_gen.proofs.Reached.{Reaches, name_finds}
 use Rattle.ctl_gen.proofs.Components.{part_does}
 use Rattle.ctl_gen.proofs.Parts.{Leads, agree_part, agree_run, composite_leads, find_by, given_by, name_leads}
 use Rattle.ctl_gen.proofs.LastSteps.{itself, itself_ends, selected, selector_ends}
@@ -41,6 +42,7 @@ use Rattle.ctl_gen.proofs.Begun.{Starts}
 use Rattle.ctl_gen.proofs.Walked.{part_begun, start_of, steps_of}
 use Rattle.ctl_gen.proofs.Sources.{IsSource, source_means}
 use Rattle.ctl_gen.proofs.RecordAssign.{record_does}
+use Rattle.ctl_gen.proofs.ExplicitCalls.{nothing_does}
 use Rattle.ctl_gen.proofs.Freeing.{part_freed_does, variable_freed_does}
 use Rattle.ctl_gen.proofs.LibraryCalls.{library_allocate_does, library_deallocate_does, part_allocated_does}
 use Rattle.ctl_gen.proofs.Calls.{call_does}
@@ -214,6 +216,15 @@ module _ (ask : Ask) (k : Tables) (code : Code) (setting : Setting k code) (call
       let g = both_true _ _ h.1 in
       library_deallocate_does ask k code call default bound p act pool (leads (Variable p) refl) (value_code address) (value_code size) (value_code alignment) (eval address) (eval size) (eval alignment) (means address h.0) (means size g.0) (means alignment (both_true _ _ g.1).0)
 
+  -- the library's Initialize, Adjust and Finalize (7.6)
+  nothing_called : (o : Option Reached) (act : List ℕ → Act (List ℕ)) (find : Naming) → ((x : Reached) → o ≡ Some x → Leads K x act find) → Begins o act → Performs (call_nothing o) (nothing_doing find)
+  unfolding nothing_doing
+  nothing_called None act find leads begun runs n texts = absurd (cc)
+  nothing_called (Some x) act find leads begun runs n texts =
+      let h = leads x refl in
+      subst (λ (found : List ℕ → Act Found). DoesIn 0 ask k code bound (λ a. dropped_code x a.stack) (λ d caught. ticked (found d >> nothing))) (sym (composite_leads K x act find h))
+      (nothing_does ask k code setting call default bound x act (begun x refl (part_begun k.records x runs.1)) h.walked runs.1)
+
   called_does : (f : ℕ) (actuals : List Actual) → Performs (call_code f (map actual_code actuals)) (call_doing f (map supply actuals))
   called_does f actuals runs n texts = call_does ask k code setting call default bound calls f (map actual_code actuals) (map supply actuals) (λ w0. actuals_mean ask k code setting call default bound calls w0 actuals runs.1)
 
@@ -265,7 +276,7 @@ module _ (ask : Ask) (k : Tables) (code : Code) (setting : Setting k code) (call
   stmt_rolled (Stmt-F.Block m) = does (Stmt-F.Block m.0) _ _ (statement_roll (Stmt-F.Block m.0)) (exec_roll (Stmt-F.Block m.0)) (S.block_runs ask k code setting call default constants bound calls (master_code m.0) (body_of m.0) m.1)
   stmt_rolled (Stmt-F.AssignRecord x t a) = does (Stmt-F.AssignRecord x t a) _ _ (statement_roll (Stmt-F.AssignRecord x t a)) (exec_roll (Stmt-F.AssignRecord x t a)) (record_assign_does (reached_by x) t (sourced a) (given_by x K) (eval_name x) (supply a) (name_leads K x) (begins x) (source_means K a))
   stmt_rolled (Stmt-F.Call f xs) = does (Stmt-F.Call f xs) _ _ (statement_roll (Stmt-F.Call f xs)) (exec_roll (Stmt-F.Call f xs)) (called_does f xs)
-  stmt_rolled (Stmt-F.Nothing x) = missing_does (Stmt-F.Nothing x) (statement_roll (Stmt-F.Nothing x))
+  stmt_rolled (Stmt-F.Nothing x) = does (Stmt-F.Nothing x) _ _ (statement_roll (Stmt-F.Nothing x)) (exec_roll (Stmt-F.Nothing x)) (nothing_called (reached_by x) (given_by x K) (eval_name x) (name_leads K x) (begins x))
   stmt_rolled (Stmt-F.Dispatch op x) = missing_does (Stmt-F.Dispatch op x) (statement_roll (Stmt-F.Dispatch op x))
   stmt_rolled (Stmt-F.LibraryAllocate p x size al) = does (Stmt-F.LibraryAllocate p x size al) _ _ (statement_roll (Stmt-F.LibraryAllocate p x size al)) (exec_roll (Stmt-F.LibraryAllocate p x size al)) (block_taken (reached_by p) (reached_by x) (given_by p K) (given_by x K) (eval_name p) (eval_name x) size al (name_leads K p) (name_finds K x) (begins x))
   stmt_rolled (Stmt-F.LibraryDeallocate p x size al) = does (Stmt-F.LibraryDeallocate p x size al) _ _ (statement_roll (Stmt-F.LibraryDeallocate p x size al)) (exec_roll (Stmt-F.LibraryDeallocate p x size al)) (block_given (reached_by p) (given_by p K) (eval_name p) x size al (name_leads K p))

@@ -1,6 +1,7 @@
 -- The code of a well-typed expression is well formed, and puts a value of its type where it is wanted; and so is that of well-typed actuals,
 -- which hold expressions.
 use Rattle.std.proofs.Common.{◌≡◌, ℕ, suc, List, ◌∷◌, length, map, Option, Some, None, Bool, true, false, inl, inr, refl, sym, ap, ◌∙◌, subst}
+use Rattle.std.proofs.lemmas.Bool.{not-true}
 use Rattle.std.specs.Prelude.{◌&&◌, not, option_map}
 use Rattle.ctl_program.specs.declared.types.Ty.{Ty}
 use Rattle.ctl_program.specs.declared.types.Ty.TheVariants.{Boolean, Count}
@@ -117,7 +118,7 @@ module _ (code : Code) (records : List RecordType) where
           let same = value_call f actuals t in
           let e = both_true (is_run_type t) (not (goes_back (map actual_code actuals)) && actuals_run (map actual_code actuals) records) (runs_as _ _ same runs) in
           let g = both_true (not (goes_back (map actual_code actuals))) (actuals_run (map actual_code actuals) records) e.1 in
-          fine_as env _ _ t same (inl (function_own code env f (map actual_code actuals) t (run_scalar t e.0) (may_call env f is callable).0 (may_call env f is callable).2 (has_formals code k may_call callable gives fits) (actuals_good fits g.1)))
+          fine_as env _ _ t same (inl (function_own code env f (map actual_code actuals) t (run_scalar t e.0) (may_call env f is callable).0 (may_call env f is callable).2 (has_formals code k may_call callable gives fits) (not-true (goes_back (map actual_code actuals)) g.0) (actuals_good fits g.1)))
       typed_fine {env} (T.unary {o = o} {x = x} {t = t} takes h) runs =
           let same = value_unary o t x in
           let u = takes_unary o t takes in

@@ -38,7 +38,7 @@ use Rattle.ctl_layout.specs.Values.{ValueCode, actual_code, copied, sourced, val
 use Rattle.ctl_layout.specs.Records.{is_pool, is_run_type}
 use Rattle.ctl_layout.specs.Defaults.{is_assignable}
 use Rattle.ctl_layout.specs.Layout as Layout
-use Rattle.ctl_layout.specs.Layout.{ArmCode, HandlerCode, ItemCode, MasterCode, StatementCode, all, all_items, arm_code, arms_run, assign, assign_record, block, call, exit, free, gathers_code, return, handled, handler_code, handlers_run, has_choice, in_master, inside, item_code, library_allocate, library_deallocate, master_code, missing_statement, order_of, ordered_pool, statement_code, tested, valued, with_value}
+use Rattle.ctl_layout.specs.Layout.{ArmCode, HandlerCode, ItemCode, MasterCode, StatementCode, all, all_items, arm_code, arms_run, assign, assign_record, block, call, call_nothing, exit, free, gathers_code, return, handled, handler_code, handlers_run, has_choice, in_master, inside, item_code, library_allocate, library_deallocate, master_code, missing_statement, order_of, ordered_pool, statement_code, tested, valued, with_value}
 use Rattle.ctl_layout.proofs.Extensions.{both_true}
 use Rattle.ctl_layout.proofs.TreeLayers.{arm_roll, layer_of, master_roll, handler_roll}
 use Rattle.ctl_gen.proofs.Place.{HasAt}
@@ -51,7 +51,7 @@ use Rattle.ctl_gen.proofs.FormedExpressions.{copied_found, name_found, source_fo
 use Rattle.ctl_gen.proofs.FormedLines.{block_formed}
 use Rattle.ctl_gen.proofs.FormedParts.{IsFound, record_formed}
 use Rattle.ctl_gen.proofs.Walked.{part_begun}
-use Rattle.ctl_gen.proofs.FormedStatements.{MayDeclare, Stays, all_stay, allocate_formed, allocate_into_formed, assign_formed, assign_part_formed, copy_formed, deallocate_formed, declaration_formed, for_stays, free_formed, free_part_formed, leaves_stay, leaves_when_stay, loop_stays, pool_formed, returned_formed, tested_turns, valued_formed}
+use Rattle.ctl_gen.proofs.FormedStatements.{MayDeclare, Stays, all_stay, allocate_formed, allocate_into_formed, assign_formed, assign_part_formed, copy_formed, deallocate_formed, declaration_formed, dropped_formed, for_stays, free_formed, free_part_formed, leaves_stay, leaves_when_stay, loop_stays, pool_formed, returned_formed, tested_turns, valued_formed}
 use Rattle.ctl_gen.proofs.FormedTexts.{print_formed}
 use Rattle.ctl_gen.proofs.FormedTypes.{run_scalar}
 use Rattle.ctl_gen.proofs.FormedValues.{Fine, Usable, usable_as, value_usable}
@@ -200,6 +200,10 @@ module _ (code : Code) (records : List RecordType) (k : W.Setting) (declarable :
       let named = found.1 refl in
       free_formed code access (out_to a.stack v) v.slot a.stack fails (housed a.stack agrees) (agrees.1 v named.0 named.1) p
 
+  nothing_good : (env : W.Frames) (o : Option Reached) → IsFound code env records o → GoodStatement env (call_nothing o)
+  nothing_good env None found runs a n p agrees texts can = absurd (cc)
+  nothing_good env (Some o) found runs a n p agrees texts can = dropped_formed code env o a.stack agrees found.0 (found.1 (part_begun records o runs)) p
+
   -- The library's Allocate and Deallocate, which are run for a pool in a variable (13.11) -----------
 
   -- a value of a scalar type
@@ -335,7 +339,7 @@ module _ (code : Code) (records : List RecordType) (k : W.Setting) (declarable :
     statement_good {env} (D.block {m = m} {f = f} h) = good_as env _ _ (layer_of _ (sym (rolls-Block m))) (block_good env f (master_code m) (slots_told h) (master_good h))
     statement_good {env} (D.assign_record {x = x} {t = t} {v = v} denotes view fits) = good_as env _ _ (layer_of _ (sym (rolls-AssignRecord x t v))) (record_good env (reached_by x) t (sourced v) view (name_found code records k may_call may_new denotes) (source_found code records k may_call may_new fits))
     statement_good {env} (D.call {s = f} {actuals = actuals} can_call gives fits) = good_as env _ _ (layer_of _ (sym (rolls-Call f actuals))) (call_good can_call gives fits)
-    statement_good {env} (D.nothing_done {x = x} views) = not_missing env _ (layer_of _ (sym (rolls-Nothing x)))
+    statement_good {env} (D.nothing_done {x = x} (T.view covers denotes)) = good_as env _ _ (layer_of _ (sym (rolls-Nothing x))) (nothing_good env (reached_by x) (name_found code records k may_call may_new denotes))
     statement_good {env} (D.dispatch {o = o} {x = x} views) = not_missing env _ (layer_of _ (sym (rolls-Dispatch o x)))
     statement_good {env} (D.library_allocate {p = p} {x = x} {size = size} {alignment = alignment} (T.view covers denotes_pool) rooted denotes h g) = good_as env _ _ (layer_of _ (sym (rolls-LibraryAllocate p x size alignment))) (allocate_good env (reached_by p) (reached_by x) size alignment (name_found code records k may_call may_new denotes_pool) (name_found code records k may_call may_new denotes) h g)
     statement_good {env} (D.library_deallocate {p = p} {x = x} {size = size} {alignment = alignment} (T.view covers denotes) rooted address h g) = good_as env _ _ (layer_of _ (sym (rolls-LibraryDeallocate p x size alignment))) (deallocate_good env (reached_by p) x size alignment (name_found code records k may_call may_new denotes) address h g)

@@ -17,10 +17,10 @@ use Rattle.ctl_code.specs.declared.code.Code.{Code}
 use Rattle.ctl_code.specs.declared.template.TextPart.{TextPart}
 use Rattle.ctl_code.specs.Windows.{HasSlot, height, variable_at}
 use Rattle.ctl_code.specs.Valid.{IsCellOf, IsException, IsFine, HasCollection, Leads}
-use Rattle.ctl_layout.specs.Parts.{Start, Reached, Variable, are_followed, located_code, part_code, part_runs}
+use Rattle.ctl_layout.specs.Parts.{Start, Reached, Variable, any_type, are_followed, located_code, part_code, part_runs}
 use Rattle.ctl_layout.specs.Around.{Line, Around, behind, local_at, local_cell, new_operand, newest_at, newest_cell, out_to}
 use Rattle.ctl_layout.specs.Values.{ValueCode, held, value_type}
-use Rattle.ctl_layout.specs.Layout.{StatementCode, all, assign_code, assign_part_code, bounds_code, copy, declaration, discriminants_code, failed_code, for, free_part_code, in_loop, leaves_code, loop, on_pool, on_pool_and_part, pool_code, pool_operand, pool_type, request, return_held, scalar_code, store_part_code, test_code, test_held, test_length, tested_code, turns_code, valued_code, values_code, values_then, with_bounds, with_discriminants, with_pool, with_pool_and_part, with_types}
+use Rattle.ctl_layout.specs.Layout.{StatementCode, all, assign_code, assign_part_code, bounds_code, copy, declaration, discriminants_code, dropped_code, failed_code, for, free_part_code, in_loop, leaves_code, loop, on_pool, on_pool_and_part, pool_code, pool_operand, pool_type, request, return_held, scalar_code, store_part_code, test_code, test_held, test_length, tested_code, turns_code, valued_code, values_code, values_then, with_bounds, with_discriminants, with_pool, with_pool_and_part, with_types}
 use Rattle.ctl_layout.specs.Defaults.{is_declared}
 use Rattle.ctl_layout.specs.Records.{is_plain}
 use Rattle.ctl_layout.proofs.Extensions.{both_true}
@@ -30,7 +30,7 @@ use Rattle.ctl_gen.proofs.Formed.{both, both_at, Formed, FormedAt, has_end, lead
 use Rattle.ctl_gen.proofs.FormedAround.{Agrees, CanLeave, IsNamed, MayHold, cell_there, leave_behind, leaves_formed}
 use Rattle.ctl_gen.proofs.FormedLines.{loop_formed, test_formed, turns_formed}
 use Rattle.ctl_gen.proofs.FormedParts.{IsBegun, IsFound, located_formed, part_formed}
-use Rattle.ctl_gen.proofs.Walked.{part_begun}
+use Rattle.ctl_gen.proofs.Walked.{part_begun, start_of, steps_before}
 use Rattle.ctl_gen.proofs.FormedValues.{Usable, found, taken_slot}
 
 module _ (code : Code) where
@@ -144,6 +144,14 @@ module _ (code : Code) where
       let free = InstrOf.FreePart access t position in
       both code (located_code b steps t s) ((free, over) ∷ failed_code s) s over (Some s) (located_formed code env b steps t s agrees followed begun)
       (freed_formed free over s known (λ p next behind_it. (seen, (s, refl, (next, behind_it)))))
+
+  -- what a name denotes is found and dropped (7.6)
+  pub dropped_formed : (env : W.Frames) (o : Reached) (s : List Kind) → Agrees code env s → are_followed (start_of o) (steps_before o) ≡ true → IsBegun code env (start_of o) → Formed code (dropped_code o s) s (Some s)
+  dropped_formed env o s agrees followed begun =
+      let over = Operand (Record any_type) ∷ s in
+      let drops = InstrOf.DropPart any_type in
+      both code (part_code o any_type s) ((drops, over) ∷ []) s over (Some s) (part_formed code env o any_type s agrees followed begun)
+      (one code drops over (Some s) (λ p next. (s, refl, next)))
 
   -- The library's Allocate and Deallocate (13.11) ----------------------------------------------------
 

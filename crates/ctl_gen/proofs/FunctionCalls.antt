@@ -17,6 +17,8 @@ use Rattle.ctl_code.specs.declared.kinds.Kind.{Kind}
 use Rattle.ctl_code.specs.States.{Word, AfterFunction, Frame}
 use Rattle.ctl_code.specs.Windows.{height}
 use Rattle.ctl_layout.specs.Values.{ActualCode, actuals_code, evaluates_code, function_call, goes_back, moved_to, with_actuals}
+use Rattle.ctl_code.specs.Table.{with_values}
+use Rattle.ctl_gen.proofs.EmittedCalls.{none_kept}
 use Rattle.ctl_gen.proofs.Known.{IsScalar}
 use Rattle.ctl_gen.proofs.Values.{scalar_cells}
 use Rattle.ctl_gen.proofs.Worlds.{Since}
@@ -26,7 +28,7 @@ use Rattle.ctl_gen.proofs.Place.{Laid, laid_front, laid_back}
 use Rattle.ctl_gen.proofs.Actuals as A
 use Rattle.ctl_gen.proofs.Calls.{Calling, called_runs, nothing_back, point_at}
 use Rattle.ctl_gen.proofs.Expressions.{Value, moved_by}
-use Rattle.ctl_gen.proofs.Follow.{RunsTo, at, both_to, by_raise, no_step_to, transferred, way_of}
+use Rattle.ctl_gen.proofs.Follow.{Runs, RunsTo, at, both_to, by_raise, no_step_to, transferred, way_of}
 
 -- the first cell of a value, 0 where it has none
 first_is : (v : List ℕ) → first_cells 1 v ≡ scalar_of v ∷ []
@@ -65,18 +67,19 @@ module _ (ask : Ask) (k : Tables) (code : Code) (setting : Setting k code) (call
         let calling : Calling ask k code setting call default bound calls Function AfterFunction i f (length xs) = record { ends = λ p. tt; enters = λ d1 place1 ks1 ops1 l1 w1 here1. by_code ask code d1 place1 ks1 ops1 l1 w1 i here1 } in
         let js = evaluates_code f xs t s in
         let front = laid_front code place js (moved_to to t s) has in
-        let last = laid_back code place (actuals_code xs s) ((i, with_actuals xs s) ∷ []) front in
+        let last = laid_back code place (actuals_code 0 xs s) ((i, with_actuals xs s) ∷ []) front in
         let out = bind (bind (pass_each K d ms no_actuals c l w) (on_goes (call_with K d f))) (on_goes (value_of ty)) in
         let end : place + length js + length (moved_to to t s) ≡ place + length (js ++ moved_to to t s) = omega (arith, length-append js (moved_to to t s)) in
-        let fine = setting.valid.each (place + length (actuals_code xs s)) i (with_actuals xs s) last.0 last.1 in
+        let fine = setting.valid.each (place + length (actuals_code 0 xs s)) i (with_actuals xs s) last.0 last.1 in
         record {
           out = out;
           is = refl;
           runs = subst (λ n. RunsTo ask code (OneCell (Since k code w0) Any) 8 8 (at d place ks ops l w) c (landed to.named d n ks ops) out) end
               (both_to ask code (λ r. Told k code w0 (way_of r)) (OneCell (Since k code w0) Any) 4 4 1 1 8 8 _ c (returned_to (AfterFunction (point_at d (place + length js) ops)) ks) (landed to.named d (place + length js + length (moved_to to t s)) ks ops) (bind (pass_each K d ms no_actuals c l w) (on_goes (call_with K d f))) (on_goes (value_of ty)) (omega arith) (omega arith) (omega arith)
+              (subst (λ n. Runs ask code (Told k code w0) 4 4 (at d place ks (with_values n [] ops) l w) c (returned_to (AfterFunction (point_at d (place + length js) ops)) ks) (bind (pass_each K d ms no_actuals c l w) (on_goes (call_with K d f)))) (none_kept xs none)
               (called_runs ask k code setting call default bound calls Function AfterFunction i f xs ms calling 0 (omega arith) w0 each s d place ks ops (returned_to (AfterFunction (point_at d (place + length js) ops)) ks) c l w le fits long fine.1 front
               (nothing_back ask k code setting call default bound calls w0 xs d c (λ os. AfterFunction (point_at d (place + length js) os)) ks ops (returned_to (AfterFunction (point_at d (place + length js) ops)) ks) none (λ r l1 w1 told. refl))
-              (λ e l1 w1. refl))
+              (λ e l1 w1. refl)))
               (λ r c1 l1 w1 lo told. value_runs ty scalar to t s d (place + length js) ks ops (laid_back code place js (moved_to to t s) has) r c1 l1 w1 told));
         };
     constant = λ n is d c l w. absurd (cc);

@@ -23,6 +23,7 @@ pub mod Worlds
 pub mod Scopes
 pub mod Setting
 pub mod Allocable
+pub mod Reached
 pub mod Evaluated
 pub mod Defaults
 pub mod Rows
@@ -56,8 +57,10 @@ pub mod Declare
 pub mod PoolDeclared
 pub mod Copies
 pub mod RecordAssign
+pub mod ExplicitCalls
 pub mod Freeing
 pub mod LibraryCalls
+pub mod Formals
 pub mod Actuals
 pub mod CopiesBack
 pub mod Calls

@@ -2,14 +2,16 @@
 
 ghost use Rattle.std.specs.Prelude.{◌≡◌, ◌+◌, ◌<◌, ◌^◌, ◌∷◌, [], drop, length, map, OnOk, None};
 ghost use Rattle.ctl_code.specs.Valid.{over_numbers};
-ghost use Rattle.ctl_gen.specs.Emitted.{lined, passed, standing, stated, taking_actuals};
+ghost use Rattle.ctl_gen.specs.Emitted.{lined, passed, reserving, standing, stated, taking_actuals};
 ghost use Rattle.ctl_layout.specs.Values as values;
 ghost use Rattle.ctl_layout.specs.Layout as spec;
 
 use crate::emit::Emitter;
 use ctl_code::code::{Cell, Instr};
 use ctl_code::kinds::Kind;
-use ctl_layout::copies::{back_of, goes_back};
+use ctl_layout::copies::{
+    ANY_TYPE, Back, FIRST_POSITION, back_of, count_numbers, goes_back, numbers_of,
+};
 use ctl_layout::right::{Reached, reached_by};
 use ctl_program::expression::{Actual, Name};
 use ctl_program::operators::CopyStart;
@@ -23,7 +25,7 @@ impl Emitter {
     {
         let count = actuals.len();
         let copies = count_copies(actuals);
-        self.over_actuals(
+        self.over_reserved(
             actuals,
             Instr::Call {
                 procedure,
@@ -32,6 +34,29 @@ impl Emitter {
             },
         )?;
         self.copies_behind(actuals)
+    }
+
+    /// Emits actuals over the numbers that keep where their copies go back to, and an instruction that takes them all (RM 6.4.1).
+    fn over_reserved(&mut self, actuals: &[Actual], instr: Instr) -> Result<(), AllocError>
+        ensures { OnOk result (self.new ≡ lined (reserving instr (map values.actual_code actuals.now)) self.old) }
+    {
+        let numbers = count_numbers(actuals);
+        self.reserve(numbers)?;
+        self.enter_numbers(numbers)?;
+        self.over_actuals(actuals, instr)?;
+        self.leave_operands(numbers);
+        Ok(())
+    }
+
+    /// Emits what puts so many zeros below actuals, if any (RM 6.4.1).
+    fn reserve(&mut self, numbers: usize) -> Result<(), AllocError>
+        ensures { OnOk result (self.new ≡ lined (values.reserved_code numbers) self.old) }
+    {
+        if numbers == 0 {
+            return Ok(());
+        }
+        let at = self.height();
+        self.put(Instr::Reserve { count: numbers, at })
     }
 
     /// Emits a call of a function, whose value of this type goes into a cell (RM 6.4).
@@ -72,18 +97,22 @@ impl Emitter {
     /// Emits actuals, each in turn.
     #[cycle(expressions)]
     fn actuals(&mut self, actuals: &[Actual]) -> Result<(), AllocError>
-        ensures { OnOk result (self.new ≡ passed (map values.actual_code actuals.now) self.old) }
+        ensures { OnOk result (self.new ≡ passed 0 (map values.actual_code actuals.now) self.old) }
     {
+        let mut over = 0;
         for actual in actuals {
-            self.actual(actual)?;
+            self.actual(actual, over)?;
+            over += 1 + numbers_of(actual);
         }
         Ok(())
     }
 
-    /// Emits an actual, which is a new operand (RM 6.4.1).
+    /// Emits an actual, which is a new operand, where so many stand over the numbers that are to keep where its copy goes back to
+    /// (RM 6.4.1).
     #[cycle(expressions)]
-    fn actual(&mut self, actual: &Actual) -> Result<(), AllocError>
-        ensures { OnOk result (self.new ≡ passed (values.actual_code actual.now ∷ []) self.old) }
+    fn actual(&mut self, actual: &Actual, over: usize) -> Result<(), AllocError>
+        requires { over + 3 < 2 ^ 64 }
+        ensures { OnOk result (self.new ≡ passed over (values.actual_code actual.now ∷ []) self.old) }
     {
         match actual {
             Actual::ByValue(value, ty) => {
@@ -95,7 +124,7 @@ impl Emitter {
                 self.enter(Kind::Operand(*ty))
             }
             Actual::Copied(name, ty, begins) => {
-                self.copied_actual(name, *ty, *begins)?;
+                self.copied_actual(name, *ty, *begins, over)?;
                 self.enter(Kind::Operand(*ty))
             }
         }
@@ -104,7 +133,7 @@ impl Emitter {
     /// Emits what finds the part that a name denotes.
     #[cycle(expressions)]
     fn reference(&mut self, name: &Name, ty: Ty) -> Result<(), AllocError>
-        ensures { OnOk result (self.new ≡ lined (values.by_reference (values.reached_by name.now) ty).code self.old) }
+        ensures { OnOk result (self.new ≡ lined ((values.by_reference (values.reached_by name.now) ty).code 0) self.old) }
     {
         match (reached_by(name), ty) {
             (Some(part), Ty::Record(record)) => self.part(name, part, record),
@@ -123,13 +152,63 @@ impl Emitter {
         }
     }
 
+    /// Emits that the part on top, which stands over what stands there, is kept in two numbers under so many operands, and what the copy of
+    /// its component begins with (RM 6.4.1).
+    fn keep(
+        &mut self,
+        record: usize,
+        position: usize,
+        begins: CopyStart,
+        ty: Ty,
+        over: usize,
+    ) -> Result<(), AllocError>
+        requires { over + 3 < 2 ^ 64 }
+        ensures { OnOk result (self.new ≡ lined (values.keeping_code «record» position begins ty over) self.old) }
+    {
+        let at = self.height();
+        self.over_operand(
+            Ty::Record(record),
+            Instr::KeepPart {
+                record,
+                position,
+                begins,
+                ty,
+                depth: over + 3,
+                kept: at.saturating_sub(over + 2),
+                at,
+            },
+        )
+    }
+
     /// Emits a copy of what a name denotes.
-    fn copied_actual(&mut self, name: &Name, ty: Ty, begins: CopyStart) -> Result<(), AllocError>
-        ensures { OnOk result (self.new ≡ lined (values.by_copy (values.reached_by name.now) ty begins).code self.old) }
+    #[cycle(expressions)]
+    fn copied_actual(
+        &mut self,
+        name: &Name,
+        ty: Ty,
+        begins: CopyStart,
+        over: usize,
+    ) -> Result<(), AllocError>
+        requires { over + 3 < 2 ^ 64 }
+        ensures { OnOk result (self.new ≡ lined ((values.by_copy (values.reached_by name.now) ty begins).code over) self.old) }
     {
         match reached_by(name) {
             Some(Reached::Variable(variable)) => self.begin_copy(variable, ty, begins),
-            Some(Reached::Part { .. } | Reached::Object { .. }) | None => self.put(Instr::Missing),
+            Some(
+                Reached::Part {
+                    steps,
+                    record,
+                    position,
+                },
+            ) => {
+                self.located(name, steps, record)?;
+                self.keep(record, position, begins, ty, over)
+            }
+            Some(Reached::Object { steps }) => {
+                self.located(name, steps, ANY_TYPE)?;
+                self.keep(ANY_TYPE, FIRST_POSITION, begins, ty, over)
+            }
+            None => self.put(Instr::Missing),
         }
     }
 
@@ -159,18 +238,38 @@ impl Emitter {
         Ok(())
     }
 
-    /// Emits that the copy of an actual goes back, if it does; it is the last of so many operands, in this cell (RM 6.4.1).
-    fn copy_back(&mut self, actual: &Actual, depth: usize, at: usize) -> Result<(), AllocError>
-        ensures { OnOk result (self.new ≡ lined (values.back_to (values.actual_code actual.now).back depth at) self.old) }
+    /// Emits that the copy of an actual goes back, if it does; it is the last of so many operands, in this cell, and what keeps a part stands
+    /// under `below` of them (RM 6.4.1).
+    fn copy_back(
+        &mut self,
+        actual: &Actual,
+        depth: usize,
+        at: usize,
+        below: usize,
+    ) -> Result<(), AllocError>
+        requires { below + 2 < 2 ^ 64 }
+        ensures { OnOk result (self.new ≡ lined (values.back_to (values.actual_code actual.now).back depth at below) self.old) }
     {
         match back_of(actual) {
-            Some(variable) => {
+            Some(Back::Variable(variable)) => {
                 let (out, slot) = (self.out_to(variable), variable.slot);
                 self.put(Instr::CopyBack {
                     depth,
                     at,
                     out,
                     slot,
+                })
+            }
+            Some(Back::Part { record, position }) => {
+                let below = below + 2;
+                let kept = self.height().saturating_sub(below);
+                self.put(Instr::CopyBackPart {
+                    depth,
+                    at,
+                    below,
+                    kept,
+                    record,
+                    position,
                 })
             }
             None => Ok(()),
@@ -180,28 +279,32 @@ impl Emitter {
     /// Emits that copies go back, from left to right, the first of these actuals being in this cell (RM 6.4.1).
     fn copies_back(&mut self, actuals: &[Actual], at: usize) -> Result<(), AllocError>
         requires { at + length actuals.now < 2 ^ 64 }
-        ensures { OnOk result (self.new ≡ lined (values.backs_code (map values.actual_code actuals.now) at) self.old) }
+        ensures { OnOk result (self.new ≡ lined (values.backs_code (map values.actual_code actuals.now) at (length actuals.now)) self.old) }
     {
         let mut at = at;
         let mut depth = actuals.len();
+        let mut below = actuals.len();
         for one in actuals {
-            self.copy_back(one, depth, at)?;
+            self.copy_back(one, depth, at, below)?;
             at += 1;
             depth = depth.saturating_sub(1);
+            below += numbers_of(one);
         }
         Ok(())
     }
 
-    /// Emits that copies go back after a call, which left what its formals held as numbers, and that these are dropped.
+    /// Emits that copies go back after a call, which left what its formals held as numbers over those that keep parts, and that all of them are
+    /// dropped.
     fn all_copies_back(&mut self, actuals: &[Actual]) -> Result<(), AllocError>
-        ensures { OnOk result (self.new ≡ lined (values.copied_back (map values.actual_code actuals.now) (length actuals.now)) self.old) }
+        ensures { OnOk result (self.new ≡ lined (values.copied_back (map values.actual_code actuals.now) (values.numbers_in (map values.actual_code actuals.now) + length actuals.now)) self.old) }
     {
-        let numbers = actuals.len();
+        let copies = actuals.len();
+        let numbers = count_numbers(actuals) + copies;
         self.enter_numbers(numbers)?;
-        let at = self.height().saturating_sub(numbers);
+        let at = self.height().saturating_sub(copies);
         self.copies_back(actuals, at)?;
         self.put(Instr::Discard(numbers))?;
-        self.leave_actuals(actuals);
+        self.leave_operands(numbers);
         Ok(())
     }
 

@@ -11,6 +11,7 @@ ghost use Rattle.ctl_gen.specs.Emitted.{lined};
 
 use crate::emit::Emitter;
 use ctl_code::code::{Cell, Instr};
+use ctl_layout::copies::{ANY_TYPE, FIRST_POSITION};
 use ctl_layout::right::{Reached, is_dereferenced};
 use ctl_program::expression::{Name, Step};
 use ctl_program::types::{Ty, Var};
@@ -18,13 +19,6 @@ use std::alloc::AllocError;
 
 /// The type that an access value stands as which is dereferenced: whatever it is, its value is a number.
 const ACCESS_VALUE: Ty = Ty::Integer;
-
-/// The record type of a part whose type is of no account: of a pool, which is found by its object, and of an object of an elementary type,
-/// which is found by its first cell.
-pub const ANY_TYPE: usize = 0;
-
-/// The position of the first component of a record type.
-pub const FIRST_POSITION: usize = 1;
 
 impl Emitter {
     /// Emits the access value that a name begins with, if it begins with one, as a new operand (RM 4.1).
@@ -159,6 +153,7 @@ impl Emitter {
     }
 
     /// Emits what finds the part behind these steps from what a name begins with, of this record type.
+    #[cycle(expressions)]
     pub fn located(&mut self, of: &Name, steps: &[Step], record: usize) -> Result<(), AllocError>
         ensures { OnOk result (self.new ≡ lined (spec.located_code (begun_by of.now) steps.now «record») self.old) }
     {
@@ -192,7 +187,7 @@ impl Emitter {
     /// Emits what finds the part that a name denotes, of this record type.
     #[cycle(expressions)]
     pub fn part(&mut self, of: &Name, part: Reached<'_>, record: usize) -> Result<(), AllocError>
-        ensures { OnOk result (self.new ≡ lined (by_reference (seen (begun_by of.now) (Some part.entry)) (Record «record»)).code self.old) }
+        ensures { OnOk result (self.new ≡ lined ((by_reference (seen (begun_by of.now) (Some part.entry)) (Record «record»)).code 0) self.old) }
     {
         match part {
             Reached::Variable(variable) => self.locate(variable, record),

@@ -13,9 +13,9 @@ ghost use Rattle.ctl_layout.specs.Texts as texts;
 ghost use Rattle.ctl_layout.specs.Layout as spec;
 
 use crate::emit::Emitter;
-use crate::emit_parts::{ANY_TYPE, FIRST_POSITION};
 use ctl_code::code::{DiscriminantOrder, Instr, Way};
 use ctl_code::kinds::Kind;
+use ctl_layout::copies::{ANY_TYPE, FIRST_POSITION};
 use ctl_layout::right::{Denoted, Reached, denoted_by, reached_by, sourced};
 use ctl_layout::typing::{copied, value_type};
 use ctl_program::expression::{Actual, Expr, Name, Step};
@@ -266,7 +266,8 @@ impl Emitter {
             Stmt::LibraryDeallocate(pool, address, size, alignment) => {
                 self.library_deallocate(pool, address, size, alignment)
             }
-            Stmt::Nothing(_) | Stmt::Dispatch(..) | Stmt::Release(_) => self.put(Instr::Missing),
+            Stmt::Nothing(name) => self.call_nothing(name),
+            Stmt::Dispatch(..) | Stmt::Release(_) => self.put(Instr::Missing),
         }
     }
 
@@ -431,6 +432,24 @@ impl Emitter {
         self.over_operand(Ty::Record(record), Instr::Assign { record })?;
         self.leave();
         Ok(())
+    }
+
+    /// Emits a call of the library's Initialize, Adjust or Finalize: what a name denotes is found, and nothing is done with it (RM 7.6).
+    fn call_nothing(&mut self, name: &Name) -> Result<(), AllocError>
+        ensures { OnOk result (self.new ≡ stated (spec.call_nothing (values.reached_by name.now)) None self.old) }
+    {
+        match denoted_by(name) {
+            Some(part) => self.drop_part(part),
+            None => self.put(Instr::Missing),
+        }
+    }
+
+    /// Emits such a call for what is run.
+    fn drop_part(&mut self, part: Denoted<'_>) -> Result<(), AllocError>
+        ensures { OnOk result (self.new ≡ stated (spec.call_nothing (denoted (Some part.entry))) None self.old) }
+    {
+        self.part(part.name, part.reached, ANY_TYPE)?;
+        self.over_operand(Ty::Record(ANY_TYPE), Instr::DropPart { record: ANY_TYPE })
     }
 
     /// Adds what an exit statement is.

@@ -12,9 +12,9 @@ ghost use Rattle.ctl_layout.specs.Values as values;
 ghost use Rattle.ctl_layout.specs.Layout as spec;
 
 use crate::emit::Emitter;
-use crate::emit_parts::{ANY_TYPE, FIRST_POSITION};
 use ctl_code::code::{Instr, Way};
 use ctl_code::kinds::Kind;
+use ctl_layout::copies::{ANY_TYPE, FIRST_POSITION};
 use ctl_layout::right::{Reached, reached_by};
 use ctl_program::expression::{Expr, Name, Step};
 use ctl_program::types::{Ty, Var};

@@ -10,20 +10,22 @@ use Rattle.ctl_program.specs.declared.statement.Stmt.{Stmt}
 use Rattle.ctl_program.specs.declared.statement.Stmt.TheVariants as s
 use Rattle.ctl_program.specs.declared.statement.Stmt.TheVariants.{rolls-Dispatch, rolls-Free, rolls-LibraryAllocate, rolls-LibraryDeallocate, rolls-Nothing, rolls-Release}
 use Rattle.ctl_layout.specs.Values.{value_code, reached_by}
-use Rattle.ctl_layout.specs.Layout.{all, all_items, free, handled, inside, item_code, library_allocate, library_deallocate, missing_statement, statement_code, arm_code, handler_code, master_code}
+use Rattle.ctl_layout.specs.Layout.{all, all_items, call_nothing, free, handled, inside, item_code, library_allocate, library_deallocate, missing_statement, statement_code, arm_code, handler_code, master_code}
 use Rattle.ctl_layout.proofs.TreeLayers.{layer_of}
 
 -- a statement that no instructions exist for
 abbrev pub IsMissing : Stmt → Type 0
 IsMissing y =
-    ((x : Name) × (y ≡ s.Nothing x))
-    ⊎ (((op : Operation) × (x : Name) × (y ≡ s.Dispatch op x))
-    ⊎ ((x : Name) × (y ≡ s.Release x)))
+    ((op : Operation) × (x : Name) × (y ≡ s.Dispatch op x))
+    ⊎ ((x : Name) × (y ≡ s.Release x))
 
 pub missing_is : (y : Stmt) → IsMissing y → statement_code y ≡ missing_statement
-missing_is y (inl (x, is)) = layer_of _ (is ∙ sym (rolls-Nothing x))
-missing_is y (inr (inl (op, x, is))) = layer_of _ (is ∙ sym (rolls-Dispatch op x))
-missing_is y (inr (inr (x, is))) = layer_of _ (is ∙ sym (rolls-Release x))
+missing_is y (inl (op, x, is)) = layer_of _ (is ∙ sym (rolls-Dispatch op x))
+missing_is y (inr (x, is)) = layer_of _ (is ∙ sym (rolls-Release x))
+
+-- the library's Initialize, Adjust and Finalize (7.6)
+pub nothing_is : (x : Name) → statement_code (s.Nothing x) ≡ call_nothing (reached_by x)
+nothing_is x = layer_of _ (sym (rolls-Nothing x))
 
 -- Unchecked_Deallocation (13.11.2)
 pub free_is : (access : ℕ) (x : Name) → statement_code (s.Free access x) ≡ free access (reached_by x)

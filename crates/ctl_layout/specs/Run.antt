@@ -2,7 +2,7 @@
 -- are not tagged, whose components are scalar, access values, addresses or of such types again, with their Initialize, Adjust, Finalize,
 -- Allocate and Deallocate; access types whose objects, of any of these types, lie in the standard pool or in a block pool, their collections,
 -- allocators, without a value or with one, which for a record is that of a part, access attributes, and instances of
--- Unchecked_Deallocation; calls of the library's Allocate and Deallocate; expressions over constants, variables, components, discriminants of
+-- Unchecked_Deallocation; calls of the library's Initialize, Adjust, Finalize, Allocate and Deallocate; expressions over constants, variables, components, discriminants of
 -- block pools, conversions of numbers and calls of functions, of scalar and access types; assignments to variables and components, also of
 -- what access values designate, and calls give these too; calls of procedures, whose actuals are values, copies of variables and parts of
 -- objects; return statements, texts with images, handlers of exceptions, and control.

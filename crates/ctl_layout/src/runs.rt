@@ -1,7 +1,6 @@
 //! Whether this version runs each construct of a checked program.
 
 ghost use Rattle.std.specs.Prelude.{◌≡◌, ℕ, List, [], ◌∷◌, is_some, map, option_map, slice_get, IfOk, None, Some};
-ghost use Rattle.ctl_program.specs.declared.operators.CopyStart.{CopyStart};
 ghost use Rattle.ctl_program.specs.declared.types.RecordType.{RecordType};
 ghost use Rattle.ctl_program.specs.declared.types.Var.{Var};
 ghost use Rattle.ctl_layout.specs.Around.{among, deeper};
@@ -214,17 +213,7 @@ fn value(expression: &Expr, table: &Table) -> bool
     }
 }
 
-/// Tells whether a copy of what a name denotes is run: of a variable, of a scalar type (RM 6.4.1).
-fn is_copied_back(name: &Name, ty: Ty) -> bool
-    ensures { (begins : CopyStart) (all : List RecordType) → result ≡ (values.by_copy (values.reached_by name.now) ty begins).runs all }
-{
-    match reached_by(name) {
-        Some(Reached::Variable(_)) => is_run_type(ty),
-        Some(Reached::Part { .. } | Reached::Object { .. }) | None => false,
-    }
-}
-
-/// Tells whether an actual is run: a scalar value, a part that a name denotes, or a copy of a scalar variable (RM 6.4.1).
+/// Tells whether an actual is run: a scalar value, a part that a name denotes, or a copy of a scalar value that may be read (RM 6.4.1).
 #[cycle(values)]
 #[tactic(auto, using(crate::proofs::Layers::actual_value, crate::proofs::Layers::actual_part, crate::proofs::Layers::actual_copied))]
 fn is_actual(actual: &Actual, table: &Table) -> bool
@@ -234,7 +223,7 @@ fn is_actual(actual: &Actual, table: &Table) -> bool
         Actual::ByValue(expression, ty) => is_run_type(*ty) && value(expression, table),
         Actual::Part(name, Ty::Record(_)) => is_part(name, reached_by(name), table),
         Actual::Part(..) => false,
-        Actual::Copied(name, ty, _) => is_copied_back(name, *ty),
+        Actual::Copied(name, ty, _) => is_read(name, *ty, table),
     }
 }
 
@@ -429,6 +418,13 @@ fn is_freed(name: &Name, table: &Table) -> bool
     }
 }
 
+/// Tells whether a call of the library's Initialize, Adjust or Finalize is run: of what a name denotes (RM 7.6).
+fn is_nothing(name: &Name, table: &Table) -> bool
+    ensures { (masters : ℕ) → result ≡ (spec.call_nothing (values.reached_by name.now)).runs (among table.now.records.now masters) }
+{
+    is_part(name, reached_by(name), table)
+}
+
 /// Tells whether a call of the library's Allocate is run: of a pool in a variable, whose address a variable takes, or a component of what the
 /// steps of the name lead to, or the object that they lead to (RM 13.11).
 fn is_taken(pool: &Name, address: &Name, size: &Expr, alignment: &Expr, table: &Table) -> bool
@@ -517,7 +513,8 @@ fn statement(statement: &Stmt, table: &Table, masters: usize) -> Result<bool, Al
         Stmt::LibraryDeallocate(pool, address, size, alignment) => {
             Ok(is_given_back(pool, address, size, alignment, table))
         }
-        Stmt::Nothing(_) | Stmt::Dispatch(..) | Stmt::Release(_) => Ok(false),
+        Stmt::Nothing(name) => Ok(is_nothing(name, table)),
+        Stmt::Dispatch(..) | Stmt::Release(_) => Ok(false),
     }
 }
 

@@ -93,6 +93,9 @@ pub mod HeldThere
 pub mod Touched
 pub mod PartStored
 pub mod ValueGiven
+pub mod Reserved
+pub mod KeptPart
+pub mod PartCopiedBack
 pub mod Numbers
 pub mod Walked
 pub mod Intervals

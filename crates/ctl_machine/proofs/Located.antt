@@ -12,7 +12,7 @@ use Rattle.ctl_code.specs.declared.kinds.Kind.{Kind}
 use Rattle.ctl_code.specs.declared.kinds.Kind.TheVariants.{Operand}
 use Rattle.ctl_code.specs.declared.code.Code.{Code}
 use Rattle.ctl_code.specs.declared.code.Cell.{Cell}
-use Rattle.ctl_code.specs.declared.code.Instr.TheVariants.{Locate, Select, TakePart}
+use Rattle.ctl_code.specs.declared.code.Instr.TheVariants.{DropPart, Locate, Select, TakePart}
 use Rattle.ctl_code.specs.States as T
 use Rattle.ctl_code.specs.States.{Word, Located, Move, State}
 use Rattle.ctl_code.specs.Table.{Here, by_instr, by_locate, component_of, fetch_from, holder_at, locating, offset_of, on, quiet}
@@ -152,6 +152,17 @@ select_makes code old new place s t position part offset b mode kept_is events p
     subst (λ (m : Move). Makes code old new m) (sym (located_move code old below s (λ y rest. on (Located (component_of y (offset_of code t' position) position) ∷ rest) s.world h) h p
     ∙ ap (λ n. on (Located (component_of (first_spot s.operands) n position) ∷ drop 1 s.operands) s.world h) (sym same)))
     (goes_keeping code old new (with_spots (kept old) spots) (place + 1) (Operand (Record part) ∷ below) s.control (Located x ∷ drop 1 s.operands) s.world b.fine.2 i mode kept_is events picks)
+
+-- It is dropped (7.6) ----------------------------------------------------------------------------------
+
+pub drop_makes : (code : Code) (old new : Engine) (place : ℕ) (s : State) (t : ℕ) → Before code old place (DropPart t) s
+    → new.mode ≡ ModeOf.At (place + 1) → kept new ≡ with_spots (kept old) (standing s.control (drop 1 s.operands)) → new.events.items ≡ old.events.items → new.picks.items ≡ old.picks.items
+    → (t' : ℕ) → Makes code old new (by_instr code (Some (DropPart t')) s.operands (here_of place s))
+drop_makes code old new place s t b mode kept_is events picks t' =
+    let below = b.fine.0 in
+    let p = part_on_top code old t b.stack below s b.inside b.fine.1 in
+    subst (λ (m : Move). Makes code old new m) (sym (located_move code old below s (λ x rest. on rest s.world (here_of place s)) (here_of place s) p))
+    (goes_keeping code old new (with_spots (kept old) (standing s.control (drop 1 s.operands))) (place + 1) below s.control (drop 1 s.operands) s.world b.fine.2 p.left mode kept_is events picks)
 
 -- Its value does (4.1.3) -------------------------------------------------------------------------------
 

@@ -1,5 +1,5 @@
 -- A new object takes the value below its access value (4.8).
-use Rattle.std.proofs.Common.{◌≡◌, ℕ, ◌+◌, ◌<◌, List, [], ◌∷◌, Option, Some, None, length, refl, sym, ap, ◌∙◌, subst, reverse}
+use Rattle.std.proofs.Common.{◌≡◌, ℕ, ◌+◌, ◌<◌, List, [], ◌∷◌, Option, Some, None, length, sym, ap, ◌∙◌, subst, reverse}
 use Rattle.std.specs.Prelude.{slice_get, slice_set}
 use Rattle.std.proofs.lemmas.Option.{slice_get_within}
 use Rattle.ctl_tree.specs.declared.ending.Stop.TheVariants.{UseAfterFree}
@@ -19,7 +19,7 @@ use Rattle.ctl_machine.specs.declared.engine.Engine.{Engine}
 use Rattle.ctl_machine.specs.declared.frame.Mode.TheVariants as ModeOf
 use Rattle.ctl_machine.specs.Masters.{first_window}
 use Rattle.ctl_machine.specs.Moves.{Before, GoesOn, Inside, Makes, here_of}
-use Rattle.ctl_machine.specs.Shows.{Kept, kept, with_cells}
+use Rattle.ctl_machine.specs.Shows.{kept, with_cells}
 use Rattle.ctl_machine.proofs.Computed.{same_value}
 use Rattle.ctl_machine.proofs.Located.{goes_keeping}
 use Rattle.ctl_machine.proofs.Operands.{AreNewest, are_newest}

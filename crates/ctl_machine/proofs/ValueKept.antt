@@ -1,19 +1,18 @@
 -- The value of a record stays an operand while an Allocate is executed (4.8, 13.11).
-use Rattle.std.proofs.Common.{◌≡◌, ℕ, ◌+◌, ◌<◌, List, [], ◌∷◌, ◌++◌, Some, drop, length, refl, sym, ap, ◌∙◌, subst, arith, reverse}
-use Rattle.std.specs.Prelude.{slice_get, slice_set}
+use Rattle.std.proofs.Common.{◌≡◌, ℕ, ◌+◌, ◌<◌, List, [], ◌∷◌, ◌++◌, Some, drop, length, sym, ap, ◌∙◌, subst, arith, reverse}
+use Rattle.std.specs.Prelude.{slice_set}
 use Rattle.std.proofs.lemmas.List.{append_assoc}
 use Rattle.ctl_program.specs.declared.types.Ty.{Ty}
 use Rattle.ctl_program.specs.declared.types.Ty.TheVariants.{Record}
 use Rattle.ctl_meaning.specs.World.{InBlock, World}
-use Rattle.ctl_meaning.specs.Pools.{block_pool_at}
 use Rattle.ctl_tree.specs.declared.ending.Stop.{Stop}
 use Rattle.ctl_code.specs.declared.kinds.Kind.{Kind}
-use Rattle.ctl_code.specs.declared.kinds.Kind.TheVariants.{Operand, RecordValue}
+use Rattle.ctl_code.specs.declared.kinds.Kind.TheVariants.{RecordValue}
 use Rattle.ctl_code.specs.declared.code.Code.{Code}
 use Rattle.ctl_code.specs.declared.code.Instr.TheVariants.{NewCopy, NewCopyIn}
 use Rattle.ctl_code.specs.States as T
 use Rattle.ctl_code.specs.States.{Cells, State, Word}
-use Rattle.ctl_code.specs.Table.{NotPassed, Passed, Test, address_test, by_copy_in, by_instr, copy_in_block, units_of}
+use Rattle.ctl_code.specs.Table.{NotPassed, Passed, Test, by_copy_in, by_instr, copy_in_block}
 use Rattle.ctl_code.specs.Windows.{height}
 use Rattle.ctl_code.proofs.Lists.{split_at}
 use Rattle.ctl_machine.specs.declared.engine.Engine.{Engine}
@@ -28,7 +27,7 @@ use Rattle.ctl_machine.specs.StorageCalling.{AsksAllocate}
 use Rattle.ctl_machine.proofs.Bodies.{more_cells}
 use Rattle.ctl_machine.proofs.CopyAllocated.{copy_move, source_part}
 use Rattle.ctl_machine.proofs.Operands.{HasPart, HasValue, has_value, other_spots}
-use Rattle.ctl_machine.proofs.Placed.{HasNumbers, has_numbers}
+use Rattle.ctl_machine.proofs.Placed.{has_numbers}
 use Rattle.ctl_machine.proofs.PlacedMember.{at_numbers, stops_so, tested_there}
 use Rattle.ctl_machine.proofs.Places.{place_is}
 use Rattle.ctl_machine.proofs.Values.{operand_put, window_in}

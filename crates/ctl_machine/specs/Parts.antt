@@ -1,5 +1,7 @@
 -- The values of components of objects and of their parts.
 use Rattle.std.specs.Prelude.{ℕ, ◌+◌, Option, Some, None}
+use Rattle.ctl_program.specs.declared.operators.CopyStart.{CopyStart}
+use Rattle.ctl_program.specs.declared.operators.CopyStart.TheVariants as CopyStartOf
 use Rattle.ctl_meaning.specs.World.{Object, World}
 use Rattle.ctl_meaning.specs.Finalization.{Spot}
 use Rattle.ctl_meaning.specs.Names.{scalar_of}
@@ -15,3 +17,8 @@ part_in offset (Some o) = Some (scalar_of (cells_at offset 1 o))
 abbrev pub part_at : ℕ → Option Spot → World → Option ℕ
 part_at offset None w = None
 part_at offset (Some s) w = part_in (s.offset + offset) (object_at s.object w)
+
+-- what the copy of a component begins with, where this was read of the component: its value, or the beginning value of its type (6.4.1)
+abbrev pub begun_with : CopyStart → Option ℕ → Option ℕ
+begun_with CopyStartOf.Actual x = x
+begun_with CopyStartOf.Beginning x = Some 0

@@ -1,4 +1,5 @@
-//! Instructions that reach components of objects, find parts of them, or give new ones their values (RM 4.1.3, 4.8, 5.2).
+//! Instructions that reach components of objects, find parts of them, give new ones their values, or pass components by copy (RM 4.1.3, 4.8, 5.2,
+//! 6.4.1).
 
 ghost use Rattle.std.specs.Prelude.{◌≡◌, ◌+◌, ◌^◌, ◌<◌, ℕ, IfNone, IfOk, IfSome, OnErr, OnOk, Some, length, slice_get};
 ghost use Rattle.ctl_code.specs.declared.code.Instr.TheVariants as InstrOf;
@@ -119,9 +120,9 @@ impl Engine {
         }
     }
 
-    /// Executes this instruction, which stands at this place and reaches a component, finds a part of an object, or gives a new one its value,
-    /// and answers what comes next; where there is no such object, the program is erroneous (RM 13.11.2), and nothing changes, and so where
-    /// memory is refused.
+    /// Executes this instruction, which stands at this place and reaches a component, finds a part of an object or drops it, gives a new object its
+    /// value, or passes a component by copy, and answers what comes next; where there is no such object, the program is erroneous (RM 13.11.2), and
+    /// nothing changes, and so where memory is refused.
     #[inline(always)]
     pub(crate) fn touch_object(
         &mut self,
@@ -170,6 +171,10 @@ impl Engine {
                 let offset = offset_of(code, *record, *position);
                 Ok(self.take_part(code, offset, to, place))
             }
+            Instr::DropPart { .. } => {
+                self.drop_part(code, place);
+                Ok(Some(place + 1))
+            }
             Instr::TakeDiscriminant { which, to, .. } => {
                 Ok(self.take_discriminant(code, *which, to, place))
             }
@@ -186,12 +191,15 @@ impl Engine {
                 Ok(self.designate_slot(code, *out, *slot, to, place))
             }
             Instr::GiveValue { at, .. } => Ok(self.give_value(code, *at, place)),
+            Instr::Reserve { .. } | Instr::KeepPart { .. } | Instr::CopyBackPart { .. } => {
+                Ok(self.pass_component(code, instr, place))
+            }
             _ => unreachable!(),
         }
     }
 
-    /// Executes this instruction, which stands at this place and reaches a component, finds a part of an object, or gives a new one its value;
-    /// where there is no such object, the program is erroneous (RM 13.11.2). Unchanged where memory is refused.
+    /// Executes this instruction, which stands at this place and reaches a component, finds a part of an object or drops it, gives a new object its
+    /// value, or passes a component by copy; where there is no such object, the program is erroneous (RM 13.11.2). Unchanged where memory is refused.
     pub(crate) fn touch(
         &mut self,
         code: &Code,

@@ -11,6 +11,7 @@ mod calls;
 mod closing;
 mod components;
 mod computing;
+mod copies;
 mod creating;
 mod declare;
 mod dereferencing;

@@ -1,6 +1,6 @@
 //! Instructions whose operand is a part of an object (RM 4.1, 4.1.3, 5.2): it is found, one of its components takes its place, or the value
-//! of one does, and a component takes a value; access values that designate the object of one (RM 3.10.2), and a new object that takes the
-//! value below its access value (RM 4.8).
+//! of one does, it is dropped, and a component takes a value; access values that designate the object of one (RM 3.10.2), and a new object
+//! that takes the value below its access value (RM 4.8).
 
 ghost use Rattle.std.specs.Prelude.{◌≡◌, ◌+◌, ◌^◌, ◌<◌, ℕ, IfNone, IfOk, IfSome, OnErr, OnOk, Some, slice_get};
 ghost use Rattle.ctl_code.specs.declared.code.Instr.TheVariants as InstrOf;
@@ -125,6 +125,19 @@ impl Engine {
         self.spots[newest].select(offset, position)?;
         self.mode = Mode::At(place + 1);
         Ok(())
+    }
+
+    /// Drops the part that is the newest operand.
+    pub(crate) fn drop_part(&mut self, code: &Code, place: usize)
+        ghost s: { State }
+        requires before { (t : ℕ) × Before code.now self.old place (InstrOf.DropPart t) s }
+        requires place { place + 1 < 2 ^ 64 }
+        ensures mode { self.new.mode ≡ ModeOf.At (place + 1) }
+        ensures makes { (t : ℕ) → Makes code.now self.old self.new (Table.by_instr code.now (Some (InstrOf.DropPart t)) s.operands (here_of place s)) }
+    {
+        let _ = code;
+        let _ = self.spots.take_last();
+        self.mode = Mode::At(place + 1);
     }
 
     /// Puts the value of a component in place of the part that is the newest operand, by the first cell of the component, and answers what

@@ -8,6 +8,8 @@ mod code;
 #[cfg(test)]
 mod codes;
 #[cfg(test)]
+mod components;
+#[cfg(test)]
 mod controlled;
 #[cfg(test)]
 mod copied;

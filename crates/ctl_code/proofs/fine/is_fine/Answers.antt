@@ -9,3 +9,9 @@ returns-in-FreePart c = subst (λ (i : Instr). IsTrue c.is_free_part_fine.result
 
 pub returns-in-TakeBlockInto : goal.returns-in-TakeBlockInto
 returns-in-TakeBlockInto c = subst (λ (i : Instr). IsTrue c.is_taking_into_fine.result ↔ IsFine c.args.code.now c.args.place i (stack_at c.args.code.now.kinds c.args.place)) (sym c.in-TakeBlockInto.is) (c.is_taking_into_fine.ensures c.in-TakeBlockInto.position)
+
+pub returns-in-KeepPart : goal.returns-in-KeepPart
+returns-in-KeepPart c = subst (λ (i : Instr). IsTrue c.is_keep_part_fine.result ↔ IsFine c.args.code.now c.args.place i (stack_at c.args.code.now.kinds c.args.place)) (sym c.in-KeepPart.is) (c.is_keep_part_fine.ensures c.in-KeepPart.position c.in-KeepPart.begins)
+
+pub returns-in-CopyBackPart : goal.returns-in-CopyBackPart
+returns-in-CopyBackPart c = subst (λ (i : Instr). IsTrue c.is_copy_back_part_fine.result ↔ IsFine c.args.code.now c.args.place i (stack_at c.args.code.now.kinds c.args.place)) (sym c.in-CopyBackPart.is) (c.is_copy_back_part_fine.ensures c.in-CopyBackPart.record c.in-CopyBackPart.position)

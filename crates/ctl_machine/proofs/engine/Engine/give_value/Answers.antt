@@ -1,4 +1,4 @@
-use Rattle.std.proofs.Common.{◌≡◌, ◌+◌, ◌∙◌, ap, arith, refl, reverse, sym}
+use Rattle.std.proofs.Common.{◌+◌, ◌∙◌, ap, arith, reverse, sym}
 use Rattle.std.specs.Prelude.{slice_set}
 use Rattle.ctl_meaning.specs.Objects.{object_in}
 use Rattle.ctl_machine.specs.Masters.{first_window}

@@ -4,8 +4,10 @@ use Rattle.ctl_tree.specs.declared.ending.Stop.TheVariants.{UseAfterFree}
 use Rattle.ctl_code.specs.declared.code.Instr.{Instr}
 use Rattle.ctl_code.specs.Table.{by_instr}
 use Rattle.ctl_machine.specs.declared.frame.Mode.TheVariants.{At, Stopped}
+use Rattle.ctl_machine.specs.Instructions.{PassesComponent}
 use Rattle.ctl_machine.specs.Moves.{Makes, here_of}
 use Rattle.ctl_machine.specs.Windows.{Comes}
+use Rattle.ctl_machine.proofs.Steps.{either}
 use Rattle.ctl_machine.proofs.engine.Engine.touch_object.Goals as goal
 
 pub returns-in-FetchPart-clause-passed : goal.returns-in-FetchPart-clause-passed
@@ -41,6 +43,9 @@ returns-in-StorePart-clause-gone g c = subst (λ (i : Instr). IfNone c.store_par
 pub returns-in_ok-select-in-Select-clause-passed : goal.returns-in_ok-select-in-Select-clause-passed
 returns-in_ok-select-in-Select-clause-passed g c = subst (λ (i : Instr). (c.select.new.self.mode ≡ At (c.args.place + 1)) × Makes c.args.code.now c.args.self.now c.select.new.self (by_instr c.args.code.now (Some i) g.s.operands (here_of c.args.place g.s))) (sym c.in-Select.is) (c.in_ok-select-in-Select.ensures.mode, c.in_ok-select-in-Select.ensures.ok c.in-Select.record c.in-Select.part c.offset_of-offset-in-Select.ensures)
 
+pub returns-in-DropPart-clause-passed : goal.returns-in-DropPart-clause-passed
+returns-in-DropPart-clause-passed g c = subst (λ (i : Instr). (c.drop_part.new.self.mode ≡ At (c.args.place + 1)) × Makes c.args.code.now c.args.self.now c.drop_part.new.self (by_instr c.args.code.now (Some i) g.s.operands (here_of c.args.place g.s))) (sym c.in-DropPart.is) (c.drop_part.ensures.mode, c.drop_part.ensures.makes c.in-DropPart.record)
+
 pub returns-in-Designate-clause-passed : goal.returns-in-Designate-clause-passed
 returns-in-Designate-clause-passed g c = subst (λ (i : Instr). IfSome c.designate_slot.result (λ next. (c.designate_slot.new.self.mode ≡ At next) × Makes c.args.code.now c.args.self.now c.designate_slot.new.self (by_instr c.args.code.now (Some i) g.s.operands (here_of c.args.place g.s)))) (sym c.in-Designate.is) (c.designate_slot.ensures.passed c.in-Designate.ty)
 
@@ -52,3 +57,8 @@ returns-in-GiveValue-clause-passed g c = subst (λ (i : Instr). IfSome c.give_va
 
 pub returns-in-GiveValue-clause-gone : goal.returns-in-GiveValue-clause-gone
 returns-in-GiveValue-clause-gone g c = subst (λ (i : Instr). IfNone c.give_value.result (Comes c.args.code.now c.give_value.new.self (Stopped UseAfterFree) c.give_value.new.self.cells.items (by_instr c.args.code.now (Some i) g.s.operands (here_of c.args.place g.s)))) (sym c.in-GiveValue.is) (c.give_value.ensures.gone c.in-GiveValue.of c.in-GiveValue.ty)
+
+pub pass_component-requires : goal.pass_component-requires
+pass_component-requires g c =
+    let kind : PassesComponent c.args.instr.now = either (λ h. subst PassesComponent (sym h.2) tt) (either (λ h. subst PassesComponent (sym h.7) tt) (λ h. subst PassesComponent (sym h.6) tt)) c.in-Reserve.is in
+    (c.requires.0, (c.requires.1.0, (kind, c.requires.1.1.1)))

@@ -23,3 +23,9 @@ ghost-designate_slot g a = g.s
 
 abbrev pub ghost-give_value : goal.ghost-give_value
 ghost-give_value g a = g.s
+
+abbrev pub ghost-pass_component : goal.ghost-pass_component
+ghost-pass_component g a = g.s
+
+abbrev pub ghost-drop_part : goal.ghost-drop_part
+ghost-drop_part g a = g.s
