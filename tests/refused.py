@@ -133,11 +133,12 @@ TEXTS = [
         1,
         1,
     ),
-    # functions are run that give values of Integer, Boolean, Storage_Count, Address or an access type; others are left out where they stand
+    # functions are run that give values of Integer, Boolean, Storage_Count, Address or an access type, and records that are not limited
     (ITEM + "function F return Integer is begin return 1; end F; N : Integer; begin N := F; end Main;", ACCEPTED, 1, 1),
     (ITEM + "function F (N : Integer) return Boolean is begin return N > 1; end F; begin while F (1) loop null; end loop; end Main;", ACCEPTED, 1, 1),
     (ITEM + "type R is record N : Integer; end record; function F (X : R) return Integer is begin return X.N; end F; begin null; end Main;", ACCEPTED, 1, 1),
-    (ITEM + "type R is record N : Integer; end record; function F return R is V : R; begin return V; end F; begin null; end Main;", 12, 1, 61),
+    (ITEM + "type R is record N : Integer; end record; function F return R is V : R; begin return V; end F; begin null; end Main;", ACCEPTED, 1, 1),
+    (ITEM + "type R is limited record N : Integer; end record; function F return R is V : R; begin return V; end F; begin null; end Main;", 32, 1, 87),
     (ITEM + "function F (N : out Integer) return Integer is begin return 1; end F; begin null; end Main;", 31, 1, 31),
     (ITEM + "function F return Integer is begin null; end F; begin null; end Main;", 35, 1, 28),
     (ITEM + "function F return Integer is begin return True; end F; begin null; end Main;", 30, 1, 61),

@@ -91,7 +91,7 @@ kept_cells (suc n) s x y (z ∷ ops) first second = ap (λ xs. worth z ∷ xs) (
 a_number : (ty : Ty) (x : Word) → Some (Operand ty) ≡ Some (Operand Integer) → IsOperandOf ty x → (n : ℕ) × (x ≡ Scalar n)
 a_number ty (Scalar n) is o = (n, refl)
 a_number ty (Located m) is o = let same : ty ≡ Integer = cc in absurd (subst (λ (t : Ty). IsOperandOf t (Located m)) same o)
-a_number ty (Cells v) is o = absurd o
+a_number ty (Cells v) is o = let same : ty ≡ Integer = cc in absurd (subst (λ (t : Ty). IsOperandOf t (Cells v)) same o)
 
 -- where a part can be kept there stand two values, so no part is lost there
 pub kept_scalars : (code : Code) (n : ℕ) (stack : List Kind) (k : List Frame) (ops : List Word) → HaveOperands (suc (suc n)) stack → slice_get stack n ≡ Some (Operand Integer) → slice_get stack (suc n) ≡ Some (Operand Integer) → Stands code stack k ops → (x : ℕ) × (y : ℕ) × (slice_get ops n ≡ Some (Scalar x)) × (slice_get ops (suc n) ≡ Some (Scalar y))

@@ -7,7 +7,7 @@ use Rattle.std.proofs.lemmas.Option.{slice_get_within}
 use Rattle.ctl_code.specs.declared.code.Begun.{Begun}
 use Rattle.ctl_code.specs.declared.code.Code.{Code}
 use Rattle.ctl_code.specs.declared.code.Instr.{Instr}
-use Rattle.ctl_code.specs.declared.code.Instr.TheVariants.{Call, CopyBack, Evaluate, Declare, DeclareCopy, DeclarePool, Gather, New, NewCopy, TakeBlock, Free, FreePart, Fetch, Store, FetchPart, Locate, Designate, Assign}
+use Rattle.ctl_code.specs.declared.code.Instr.TheVariants.{Call, CopyBack, Evaluate, EvaluateRecord, Declare, DeclareCopy, DeclarePool, Gather, New, NewCopy, TakeBlock, Free, FreePart, Fetch, Store, FetchPart, Locate, Designate, Assign}
 use Rattle.ctl_code.specs.declared.code.Layout.{Layout}
 use Rattle.ctl_code.specs.declared.code.Operations.{Operations}
 use Rattle.ctl_code.specs.declared.homes.Declaration.{Declaration}
@@ -138,6 +138,7 @@ newest_slot most c s slot h =
 pub asks : (code : Code) (c : Counts) (place : ℕ) (i : Instr) (s : List Kind) → IsFine (with_counts c code) place i s → IsMet (with_counts c code) s (demand_of i)
 asks code c place (Call f count copies) s h = h.0.3
 asks code c place (Evaluate f count ty at) s h = h.1.3
+asks code c place (EvaluateRecord f count t at) s h = h.0.3
 asks code c place (Declare slot t) s h = h.3
 asks code c place (DeclareCopy slot t) s h = h.3
 asks code c place (DeclarePool slot t order at) s h = h.3
@@ -159,6 +160,7 @@ asks code c place _ s h = tt
 pub answered : (code : Code) (most c : Counts) (place : ℕ) (i : Instr) (s : List Kind) → IsFine (with_counts most code) place i s → IsMet (with_counts c code) s (demand_of i) → IsFine (with_counts c code) place i s
 answered code most c place (Call f count copies) s h met = ((h.0.0, h.0.1, h.0.2, met), h.1, h.2)
 answered code most c place (Evaluate f count ty at) s h met = (h.0, (h.1.0, h.1.1, h.1.2, met), h.2, h.3)
+answered code most c place (EvaluateRecord f count t at) s h met = ((h.0.0, h.0.1, h.0.2, met), h.1, h.2)
 answered code most c place (Declare slot t) s h met = (h.0, h.1, newest_slot most c s slot h.2, met)
 answered code most c place (DeclareCopy slot t) s h met = (h.0, h.1, newest_slot most c s slot h.2, met)
 answered code most c place (DeclarePool slot t order at) s h met = (h.0, h.1, newest_slot most c s slot h.2, met)

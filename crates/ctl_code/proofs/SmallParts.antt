@@ -24,7 +24,7 @@ use Rattle.ctl_code.specs.declared.code.Entry.{Entry}
 use Rattle.ctl_code.specs.declared.code.Code.{Code}
 use Rattle.ctl_code.specs.States as S
 use Rattle.ctl_code.specs.States.{Word, Handed, Complete, OperationFailed, Point, After, AfterBody, whole_spot, Newborn, Maker, ByDeclaration, ByPoolDeclaration, ByAllocator, Frame, Creating, Initializing, Adjusting, AdjustingOwn, Undoing, UndoingOwn, UndoingParts, FinalizingOwn, FinalizingParts}
-use Rattle.ctl_code.specs.Table.{joins, gone, uncreated, on_with, begin_part, newborn, Here, enter_body, call_operation, operation_of, gives, component_of, controlled_of, part_at, birth, completed, fail, failed_with, by_failing, finalize_left, finalize_own, finalize_part, own_failed, by_own_finalize, finalize_component, by_finalizing_parts, birth_in, adjusted, adjust_by, adjust_own, adjust_left, adjust_component, by_adjusting, by_own_adjust, adjusted_in, adjusted_of, undo_left, undo_components, undo_by, undo_own, undo_part, undo_component, by_undoing_parts, take_default, begin_component, initialize_by, initialize_own, complete_of, by_filling, by_initializing, come_to_life, by_creating, with_object, behind_declaration, by_declare, by_copying, adjust_new, parts_of, says_failed, transfers, take_value, by_copy, size_of, is_made_at_once, create_object, begun_of}
+use Rattle.ctl_code.specs.Table.{joins, gone, uncreated, on_with, begin_part, newborn, Here, enter_body, call_operation, operation_of, gives, component_of, controlled_of, part_at, birth, completed, fail, failed_with, by_failing, finalize_left, finalize_own, finalize_part, own_failed, by_own_finalize, finalize_component, by_finalizing_parts, birth_in, adjusted, adjust_by, adjust_own, adjust_left, adjust_component, by_adjusting, by_own_adjust, adjusted_in, adjusted_of, undo_left, undo_components, undo_by, undo_own, undo_part, undo_component, by_undoing_parts, take_default, begin_component, initialize_by, initialize_own, complete_of, by_filling, by_initializing, come_to_life, by_creating, with_object, behind_declaration, by_declare, by_copying, adjust_new, parts_of, says_failed, transfers, take_value, by_copy, size_of, is_made_at_once, create_object, begun_of, declare_with}
 
 -- a move from a world
 pub record Small (w : World) (m : S.Move) : Type 0 where
@@ -279,10 +279,13 @@ unfolding opened_changes
 value_stays code by x v None p k w = record { shows = omega arith; masters = refl; objects = refl; collections = refl }
 value_stays code by x v (Some o) p k w = let y = new_stays code (parts_of code x.type) by x p k (write_cells x.spot.object 0 v w) in record { shows = y.shows; masters = y.masters; objects = y.objects; collections = y.collections }
 
-pub small_copy : (code : Code) (slot t offset : ℕ) (o : Option Object) (ops : List Word) (h : Here) → Small h.world (by_copy code slot t offset o ops h)
+pub small_declare_with : (code : Code) (slot t : ℕ) (v : List ℕ) (ops : List Word) (h : Here) → Small h.world (declare_with code slot t v ops h)
 unfolding opened_changes opened_ledger
-small_copy code slot t offset None ops h = same_world h.world _ (omega arith) refl refl refl
-small_copy code slot t offset (Some o) ops h =
+small_declare_with code slot t v ops h =
     let w = with_object code h.display slot t h.world in
-    let x = value_stays code ByDeclaration (newborn h.world.ledger.next_object t (OwnerOf.Master (last_of h.display))) (cells_at offset (size_of code t) o) (object_at h.world.ledger.next_object w) (behind_declaration ops h) h.control w in
+    let x = value_stays code ByDeclaration (newborn h.world.ledger.next_object t (OwnerOf.Master (last_of h.display))) v (object_at h.world.ledger.next_object w) (behind_declaration ops h) h.control w in
     record { shows = x.shows; masters = omega (arith, x.masters); objects = omega (arith, x.objects); collections = omega (arith, x.collections) }
+
+pub small_copy : (code : Code) (slot t offset : ℕ) (o : Option Object) (ops : List Word) (h : Here) → Small h.world (by_copy code slot t offset o ops h)
+small_copy code slot t offset None ops h = same_world h.world _ (omega arith) refl refl refl
+small_copy code slot t offset (Some o) ops h = small_declare_with code slot t (cells_at offset (size_of code t) o) ops h

@@ -7,12 +7,12 @@ use Rattle.ctl_tree.specs.declared.ending.Stop.TheVariants.{UseAfterFree, BadAdd
 use Rattle.ctl_tree.specs.declared.event.Cause.{Cause}
 use Rattle.ctl_tree.specs.declared.event.Cause.TheVariants as CauseOf
 use Rattle.ctl_meaning.specs.World.{Place, Standard, InBlock, InSubpool, Object, BlockPool, World}
-use Rattle.ctl_meaning.specs.Finalization.{Spot}
 use Rattle.ctl_meaning.specs.Activations.{master_of}
 use Rattle.ctl_meaning.specs.Pools.{block_at, block_pool_at, give_block, take_block}
 use Rattle.ctl_meaning.specs.Changes.{close_pool_at, in_pools, is_vacant, object_at, slot_at}
 use Rattle.ctl_code.specs.declared.code.Code.{Code}
-use Rattle.ctl_code.specs.Table.{Grant, Granted, Exhausted, UnknownPool, AllocateOf, GivenBack, Returned, NotReturned, DeallocateOf, operation_for, block_grant, pool_grant, own_grant, object_grant, holder_grant, grant, block_return, pool_return, own_return, object_return, return_to, closed_if, with_end, spot_of}
+use Rattle.ctl_code.specs.States.{Word, object_of}
+use Rattle.ctl_code.specs.Table.{Grant, Granted, Exhausted, UnknownPool, AllocateOf, GivenBack, Returned, NotReturned, DeallocateOf, operation_for, block_grant, pool_grant, own_grant, object_grant, holder_grant, grant, block_return, pool_return, own_return, object_return, return_to, closed_if, with_end, word_of}
 
 -- where storage was granted this holds of the world then
 abbrev pub OnGrant : (World → Type 0) → Grant → Type 0
@@ -48,13 +48,13 @@ module _ (P : World → Type 0) (taken : (n : ℕ) (w : World) → P w → P (in
   of_object code size None w h = tt
   of_object code size (Some o) w h = of_own (operation_for (λ x. x.allocate) code o.ty) size o w h
 
-  of_holder : (code : Code) (s : Option Spot) (size : ℕ) (w : World) → P w → OnGrant P (holder_grant code s size w)
+  of_holder : (code : Code) (s : Option Word) (size : ℕ) (w : World) → P w → OnGrant P (holder_grant code s size w)
   of_holder code None size w h = tt
-  of_holder code (Some s) size w h = of_object code size (object_at s.object w) w h
+  of_holder code (Some x) size w h = of_object code size (object_at (object_of x) w) w h
 
   pub granted_keeps : (code : Code) (pool : Option Var) (d : List ℕ) (size : ℕ) (w : World) → P w → OnGrant P (grant code pool d size w)
   granted_keeps code None d size w h = h
-  granted_keeps code (Some v) d size w h = of_holder code (spot_of (slot_at (master_of d v) v.slot w).content) size w h
+  granted_keeps code (Some v) d size w h = of_holder code (word_of (slot_at (master_of d v) v.slot w).content) size w h
 
 module _ (P : World → Type 0) (given : (n a : ℕ) (w : World) → P w → P (in_pools (give_block n a) w)) where
   to_block : (n a : ℕ) (p : BlockPool) (w : World) → P w → OnReturn P (block_return n a p w)

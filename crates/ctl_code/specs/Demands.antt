@@ -3,7 +3,7 @@ use Rattle.std.specs.Prelude.{◌≡◌, ℕ, ◌-◌, List, Some, Bool, true, f
 use Rattle.ctl_program.specs.declared.types.Ty.TheVariants as TyOf
 use Rattle.ctl_code.specs.declared.code.Code.{Code}
 use Rattle.ctl_code.specs.declared.code.Instr.{Instr}
-use Rattle.ctl_code.specs.declared.code.Instr.TheVariants.{Call, CopyBack, Evaluate, Declare, DeclareCopy, DeclarePool, New, NewCopy, TakeBlock, Free, FreePart, Fetch, Store, FetchPart, Locate, Designate, Assign}
+use Rattle.ctl_code.specs.declared.code.Instr.TheVariants.{Call, CopyBack, Evaluate, EvaluateRecord, Declare, DeclareCopy, DeclarePool, New, NewCopy, TakeBlock, Free, FreePart, Fetch, Store, FetchPart, Locate, Designate, Assign}
 use Rattle.ctl_code.specs.declared.code.Layout.{Layout}
 use Rattle.ctl_code.specs.declared.homes.Declaration.TheVariants.{Subprogram, Record}
 use Rattle.ctl_code.specs.declared.kinds.Kind.{Kind}
@@ -21,6 +21,7 @@ with_counts counts code = record code { homes = counts }
 abbrev pub demand_of : Instr → Demand
 demand_of (Call f count copies) = DemandOf.Home (Subprogram f)
 demand_of (Evaluate f count ty at) = DemandOf.Home (Subprogram f)
+demand_of (EvaluateRecord f count t at) = DemandOf.Home (Subprogram f)
 demand_of (Declare slot t) = DemandOf.Home (Record t)
 demand_of (DeclareCopy slot t) = DemandOf.Home (Record t)
 demand_of (DeclarePool slot t order at) = DemandOf.Home (Record t)

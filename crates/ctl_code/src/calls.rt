@@ -157,6 +157,22 @@ pub(crate) fn is_evaluate_fine(
         && puts_operand(code, place, actuals, at, ty)
 }
 
+/// Checks the call of a function that gives a record of this type, which leaves its value in the place of its actuals (RM 6.4).
+pub(crate) fn is_record_fine(
+    code: &Code,
+    place: usize,
+    number: usize,
+    actuals: usize,
+    record: usize,
+    at: usize,
+) -> bool
+    requires { place + 1 < 2 ^ 64 }
+    ensures { IsTrue result ↔ IsFine code.now place (I.EvaluateRecord number actuals «record» at) (stack_at code.now.kinds place) }
+{
+    is_called(code, place, SubprogramKind::Function, number, actuals)
+        && puts_operand(code, place, actuals, at, Ty::Record(record))
+}
+
 /// Tells whether both are procedures, or both are functions.
 fn is_same_subprogram(kind: SubprogramKind, other: SubprogramKind) -> bool
     ensures { IsTrue result ↔ (kind ≡ other) }

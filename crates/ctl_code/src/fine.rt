@@ -21,7 +21,7 @@ use crate::accesses::{
 use crate::around::has_home;
 use crate::calls::{
     is_call_fine, is_copy_back_fine, is_copy_back_part_fine, is_discard_fine, is_evaluate_fine,
-    is_keep_part_fine, is_reserve_fine, is_start_fine,
+    is_keep_part_fine, is_record_fine, is_reserve_fine, is_start_fine,
 };
 use crate::code::{Cell, Code, Instr, Named, Operator, Way};
 use crate::homes::Declaration;
@@ -292,6 +292,7 @@ fn is_transfer_fine(code: &Code, place: usize, way: Way) -> bool
     match way {
         Way::Exit => is_at_end(code, place),
         Way::Return | Way::ReturnValue(_) => true,
+        Way::ReturnRecord => false,
         Way::Raise(exception) => exception < code.exceptions.len(),
     }
 }
@@ -468,6 +469,13 @@ fn is_return_fine(code: &Code, place: usize, from: Cell, ty: Ty) -> bool
     ensures { IsTrue result ↔ IsFine code.now place (I.Return from ty) (stack_at code.now.kinds place) }
 {
     is_scalar(ty) && gives_value(code, place, from, ty)
+}
+
+/// Tells whether a part of this record type stands on top, whose value a return statement gives (RM 6.5).
+fn gives_record(code: &Code, place: usize, record: usize) -> bool
+    ensures { IsTrue result ↔ IsFine code.now place (I.ReturnRecord «record») (stack_at code.now.kinds place) }
+{
+    is_part(code, place, 0, record)
 }
 
 /// Tells whether a cell has a value of this type.
@@ -653,8 +661,15 @@ pub fn is_fine(code: &Code, place: usize, instr: &Instr) -> bool
             ty,
             at,
         } => is_evaluate_fine(code, place, function, actuals, ty, at),
+        Instr::EvaluateRecord {
+            function,
+            actuals,
+            record,
+            at,
+        } => is_record_fine(code, place, function, actuals, record, at),
         Instr::Transfer(way) => is_transfer_fine(code, place, way),
         Instr::Return { from, ty } => is_return_fine(code, place, from, ty),
+        Instr::ReturnRecord { record } => gives_record(code, place, record),
         Instr::Handle(length) => is_handle_fine(code, place, length),
         Instr::Catch { exception, length } => is_catch_fine(code, place, exception, length),
         Instr::RaiseAgain => true,

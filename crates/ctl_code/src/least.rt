@@ -172,7 +172,9 @@ fn demand_of(instr: &Instr) -> Demand
 {
     match *instr {
         Instr::Call { procedure, .. } => Demand::Home(Declaration::Subprogram(procedure)),
-        Instr::Evaluate { function, .. } => Demand::Home(Declaration::Subprogram(function)),
+        Instr::Evaluate { function, .. } | Instr::EvaluateRecord { function, .. } => {
+            Demand::Home(Declaration::Subprogram(function))
+        }
         Instr::Declare { record, .. }
         | Instr::DeclareCopy { record, .. }
         | Instr::DeclarePool { record, .. }

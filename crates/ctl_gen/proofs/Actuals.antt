@@ -17,7 +17,7 @@ use Rattle.ctl_meaning.specs.Activations.{master_of}
 use Rattle.ctl_meaning.specs.Choice.{Ask}
 use Rattle.ctl_meaning.specs.Outcome.{ByRaise, Result, Goes, Leaves, Out, Gives, Act, add, bind, on_goes, ◌>>=◌, done, ticked, on_some, opened_outcome}
 use Rattle.ctl_meaning.specs.Types.{Tables, Category, Elementary, Composite, category_of, cells_of}
-use Rattle.ctl_meaning.specs.Names.{Alone, InObject, InVariable, Found, Call, Default, Tools, existing, gone, read_found, read_part, scalar_of, opened_names}
+use Rattle.ctl_meaning.specs.Names.{Alone, InObject, InVariable, Found, Call, Default, Tools, existing, gone, on_variable, read_found, read_part, scalar_of, opened_names}
 use Rattle.ctl_meaning.specs.Expressions.{Formal, Naming, Passed, Supplied, copied, no_actuals, going_back, pass_each, with_formal}
 use Rattle.ctl_meaning.specs.Expressions.{bound as bound_slot, by_copy as takes_copy, by_value as takes_value, by_reference as takes_reference}
 use Rattle.ctl_code.specs.declared.code.Instr.TheVariants as InstrOf
@@ -25,16 +25,16 @@ use Rattle.ctl_code.specs.declared.code.Named.TheVariants as NamedOf
 use Rattle.ctl_code.specs.declared.code.Code.{Code}
 use Rattle.ctl_code.specs.declared.kinds.Kind.{Kind}
 use Rattle.ctl_code.specs.declared.kinds.Kind.TheVariants as KindOf
-use Rattle.ctl_code.specs.States.{Word, Scalar, Located, Frame, State}
+use Rattle.ctl_code.specs.States.{Word, Scalar, Located, Cells, Frame, State}
 use Rattle.ctl_code.specs.Steps.{moved, step}
 use Rattle.ctl_code.specs.Table.{by_begin_copy, fetched, formal_of, keeping, offset_of, with_values}
 use Rattle.ctl_code.specs.Windows.{depth}
 use Rattle.ctl_code.proofs.Keeping.{words_of}
 use Rattle.ctl_layout.specs.Around.{Line, local_at, new_operand}
-use Rattle.ctl_layout.specs.Parts.{Reached, Object, Part, Start, Variable, any_type, are_followed, first_position, is_begun, located_code, part_code, part_runs}
+use Rattle.ctl_layout.specs.Parts.{Reached, Object, Part, Result as ResultOf, Start, Variable, any_type, are_followed, first_position, is_begun, located_code, part_code, part_runs}
 use Rattle.ctl_layout.specs.declared.copies.Back.{Back}
 use Rattle.ctl_layout.specs.declared.copies.Back.TheVariants as BackOf
-use Rattle.ctl_layout.specs.Values.{ActualCode, ValueCode, actuals_code, begins_code, by_copy, by_reference, kept_code, keeping_code, numbers_in, numbers_of, with_actuals}
+use Rattle.ctl_layout.specs.Values.{ActualCode, ValueCode, actuals_code, begins_code, by_copy, by_reference, by_value, copied as copied_from, given as start_by, kept_code, keeping_code, numbers_in, numbers_of, result_of, with_actuals}
 use Rattle.ctl_gen.proofs.Known.{IsScalar, both_true, scalar_elementary, scalar_if}
 use Rattle.ctl_gen.proofs.Values.{scalar_cells}
 use Rattle.ctl_gen.proofs.Place.{Laid, laid_front, laid_back}
@@ -43,9 +43,10 @@ use Rattle.ctl_gen.proofs.Setting.{Setting, tools_with, IsSeen}
 use Rattle.ctl_gen.proofs.Cells.{Any, by_code, here, landed, put_is, value_of}
 use Rattle.ctl_gen.proofs.Cells.{put_there as value_there}
 use Rattle.ctl_gen.proofs.Formals.{IsBackOf, Taken, back_found, backs_of, formal, keeps, kept_after, none_taken, one_taken, operands_and, operands_of, others_kept, part_of, same_kept, word_of}
-use Rattle.ctl_gen.proofs.Parts.{Agree, Leads, agree_part, agree_run, composite_leads, find_by, found_at}
+use Rattle.ctl_gen.proofs.Parts.{Agree, Leads, OfCells, OfObject, RecordOperand, agree_part, agree_run, composite_leads, find_by, found_at, word}
 use Rattle.ctl_gen.proofs.Reached.{Reaches}
 use Rattle.ctl_gen.proofs.LastSteps.{Ends as NameEnds, Last, itself, itself_ends, selected, selector_ends}
+use Rattle.ctl_gen.proofs.Sources.{is_alone, value_found}
 use Rattle.ctl_gen.proofs.Begun.{Starts, located_then, part_then}
 use Rattle.ctl_gen.proofs.Walked.{part_begun, start_of, steps_before, steps_of}
 use Rattle.ctl_gen.proofs.Worth.{both_cell}
@@ -106,6 +107,12 @@ module _ (ask : Ask) (k : Tables) (code : Code) (setting : Setting k code) (call
   pub value_passes : (x : ValueCode) (act : List ℕ → Act (List ℕ)) (ty : Ty) → IsScalar ty → Value ask k code bound w0 x act → Puts (λ over s. x.code (new_operand s) ty s) None (λ d. (act d >>= (λ v. done (Alone v))) >>= takes_value (category_of ty))
   value_passes x act ty scalar value = subst (λ (c : Category). Puts (λ over s. x.code (new_operand s) ty s) None (λ d. (act d >>= (λ v. done (Alone v))) >>= takes_value c)) (sym (scalar_elementary ty scalar)) (value_puts x act ty value)
 
+  -- what stands there is what the formal takes
+  refers : (p : RecordOperand) (d : List ℕ) (place over : ℕ) (ks : List Frame) (ops : List Word) (c : ℕ) (l : Log) (w : World) → Since k code w0 w → RunsTo ask code (OneFormal k code w0 d None) 0 0 (at d place ks (word p ∷ ops) l w) c (put_there code d place None over ks ops) (takes_reference (found_at p) c l w)
+  unfolding opened_outcome takes_reference bound_slot
+  refers (OfObject p) d place over ks ops c l w fits = no_step_to ask code (OneFormal k code w0 d None) 0 0 _ c 0 (put_there code d place None over ks ops) (Goes (formal (Located p) None)) l w (fits, (Located p, None, refl, refl)) refl
+  refers (OfCells v) d place over ks ops c l w fits = no_step_to ask code (OneFormal k code w0 d None) 0 0 _ c 0 (put_there code d place None over ks ops) (Goes (formal (Cells v) None)) l w (fits, (Cells v, None, refl, refl)) refl
+
   -- a part, by reference
   reference_puts : (x : Reached) (t : ℕ) (act : List ℕ → Act (List ℕ)) → Starts ask k code bound w0 (start_of x) act → are_followed (start_of x) (steps_before x) ≡ true → part_runs x k.records ≡ true → Puts (λ over. part_code x t) None (λ d. ticked (find_by K act (steps_of x) (start_of x) d) >>= takes_reference)
   unfolding opened_outcome takes_reference bound_slot
@@ -117,7 +124,7 @@ module _ (ask : Ask) (k : Tables) (code : Code) (setting : Setting k code) (call
       (sym (bind_add 1 o (on_goes takes_reference)))
       (added_to ask code Ends 1 0 0 0 0 _ c next _ (omega arith) (omega arith)
       (part_then ask k code bound w0 call default Ends next (on_goes takes_reference) d ks ops 0 0 x act begun t s place c l w walked (agree_part k code setting.places x runs) le fits long has
-      (λ c1 l1 w1 lo fits1 p. no_step_to ask code Ends 0 0 _ c1 0 next (Goes (formal (Located p) None)) l1 w1 (fits1, (Located p, None, refl, refl)) refl)
+      (λ c1 l1 w1 lo fits1 p. refers p d (place + length (part_code x t s)) over ks ops c1 l1 w1 fits1)
       (λ y c1 l1 w1 lo fits1. no_step_to ask code Ends 0 0 _ c1 0 next (Leaves (ByRaise y)) l1 w1 (fits1, tt) refl)))
 
   pub reference_passes : (o : Option Reached) (ty : Ty) (act : List ℕ → Act (List ℕ)) (find : Naming) → ((x : Reached) → o ≡ Some x → Leads K x act find) → ((x : Reached) → o ≡ Some x → is_begun (start_of x) k.records ≡ true → Starts ask k code bound w0 (start_of x) act) → (by_reference o ty).runs k.records ≡ true → Puts (by_reference o ty).code (by_reference o ty).back (λ d. ticked (find Composite K d) >>= takes_reference)
@@ -131,6 +138,34 @@ module _ (ask : Ask) (k : Tables) (code : Code) (setting : Setting k code) (call
   reference_passes (Some x) Address act find leads begun runs = absurd (cc)
   reference_passes (Some x) Handle act find leads begun runs = absurd (cc)
   reference_passes (Some x) (Access a) act find leads begun runs = absurd (cc)
+
+  -- the value of a record, which a function gives, as a copy
+  record_puts : (x : ValueCode) (t : ℕ) (act : List ℕ → Act (List ℕ)) → Starts ask k code bound w0 (start_by x) act → are_followed (start_by x) [] ≡ true → Puts (λ over. part_code (ResultOf (start_by x)) t) None (λ d. (act d >>= (λ v. done (Alone v))) >>= takes_value Composite)
+  unfolding opened_outcome takes_value
+  record_puts x t act begun walked over s d place ks ops c l w le fits long has =
+      let Ends = OneFormal k code w0 d None in
+      let o = find_by K act [] (start_by x) d c l w in
+      let code1 = part_code (ResultOf (start_by x)) t s in
+      let next = put_there code d (place + length code1) None over ks ops in
+      subst (RunsTo ask code Ends 0 0 (at d place ks ops l w) c next)
+      (sym (ap (λ z. bind z (on_goes (takes_value Composite))) (value_found K x act d c l w) ∙ bind_add 0 o (on_goes (takes_value Composite))))
+      (added_to ask code Ends 0 0 0 0 0 _ c next _ (omega arith) (omega arith)
+      (part_then ask k code bound w0 call default Ends next (on_goes (takes_value Composite)) d ks ops 0 0 (ResultOf (start_by x)) act begun t s place c l w walked tt le fits long has
+      (λ c1 l1 w1 lo fits1 p. refers p d (place + length code1) over ks ops c1 l1 w1 fits1)
+      (λ y c1 l1 w1 lo fits1. no_step_to ask code Ends 0 0 _ c1 0 next (Leaves (ByRaise y)) l1 w1 (fits1, tt) refl)))
+
+  pub record_passes : (x : ValueCode) (act : List ℕ → Act (List ℕ)) (t : ℕ) → (is_begun (start_by x) k.records ≡ true → Starts ask k code bound w0 (start_by x) act) → (by_value x (Record t)).runs k.records ≡ true → Puts (by_value x (Record t)).code (by_value x (Record t)).back (λ d. (act d >>= (λ v. done (Alone v))) >>= takes_value (category_of (Record t)))
+  unfolding category_of
+  record_passes x act t begun runs = by (result_of (copied_from t x)) refl runs
+    where
+      Is : Option Reached → Type 0
+      Is o = (by_reference o (Record t)).runs k.records ≡ true → Puts (by_reference o (Record t)).code (by_reference o (Record t)).back (λ d. (act d >>= (λ v. done (Alone v))) >>= takes_value Composite)
+
+      by : (o : Option Reached) → result_of (copied_from t x) ≡ o → Is o
+      by None e h = absurd (cc h)
+      by (Some y) e h =
+          let alone = is_alone t x y e in
+          subst (λ z. Is (Some z)) (sym alone.0) (λ h1. record_puts x t act (begun h1) alone.1) h
 
   -- a copy of a variable: what its formal takes
   copy_gives : (begins : CopyStart) (v : Var) (d : List ℕ) (c : ℕ) (l : Log) (w : World) → takes_copy 1 begins (InVariable (master_of d v) v.slot) c l w ≡ Gives (Goes (formal (Scalar (begins_with begins d v w)) (Some (InVariable (master_of d v) v.slot)))) 0 c l w
@@ -191,7 +226,7 @@ module _ (ask : Ask) (k : Tables) (code : Code) (setting : Setting k code) (call
     -- one step, to the new operand, or to a stop
     begins_it : (begins : CopyStart) (over : ℕ) (p : Spot) (d : List ℕ) (place : ℕ) (ks : List Frame) (ops : List Word) (c : ℕ) (l : Log) (w : World) (s0 : State) → Since k code w0 w → step ask code s0 ≡ moved l (by_begin_copy begins last.offset p (kept_after code kept_back over (Some (kept_found p)) ops) (here d place ks w)) →
         RunsTo ask code (OneFormal k code w0 d kept_back) 8 8 s0 c (put_there code d (place + 1) kept_back over ks ops) (add last.ticks (takes_copy 1 begins (kept_found p) c l w))
-    unfolding takes_copy copied read_found read_part existing gone cells_at scalar_of opened_outcome opened_lists
+    unfolding takes_copy on_variable copied read_found read_part existing gone cells_at scalar_of opened_outcome opened_lists
     begins_it CopyStartOf.Beginning over p d place ks ops c l w s0 fits go =
         let g = Some (kept_found p) in
         last_step_to ask code (OneFormal k code w0 d kept_back) 8 8 s0 c (last.ticks + 0) (put_there code d (place + 1) kept_back over ks ops) (Goes (formal (Scalar 0) g)) l w (omega arith) (fits, (Scalar 0, g, refl, kept_is d p))
@@ -209,11 +244,15 @@ module _ (ask : Ask) (k : Tables) (code : Code) (setting : Setting k code) (call
             last_step_to ask code (OneFormal k code w0 d kept_back) 8 8 s0 c (last.ticks + 0) (put_there code d (place + 1) kept_back over ks ops) (Goes (formal (Scalar (scalar_of v)) g)) l w (omega arith) (fits, (Scalar (scalar_of v), g, refl, kept_is d p))
             (first ∙ value_there NamedOf.Operand v d place ks below l w)
 
-    keeps_it : (begins : CopyStart) (ty : Ty) (over kept at_cell : ℕ) (p : Spot) (d : List ℕ) (place : ℕ) (ks : List Frame) (ops : List Word) (c : ℕ) (l : Log) (w : World) → Since k code w0 w → slice_get code.instructions.items place ≡ Some (InstrOf.KeepPart t position begins ty (over + 3) kept at_cell) →
-        RunsTo ask code (OneFormal k code w0 d kept_back) 8 8 (at d place ks (Located p ∷ ops) l w) c (put_there code d (place + 1) kept_back over ks ops) (begins_copy begins (Goes (found_at p)) c l w)
-    unfolding opened_outcome
-    keeps_it begins ty over kept at_cell p d place ks ops c l w fits has =
-        subst (λ o. RunsTo ask code (OneFormal k code w0 d kept_back) 8 8 (at d place ks (Located p ∷ ops) l w) c (put_there code d (place + 1) kept_back over ks ops) (bind o (on_goes (takes_copy 1 begins)))) (sym (last.is p c l w))
+    keeps_it : (begins : CopyStart) (ty : Ty) (over kept at_cell : ℕ) (p : RecordOperand) (d : List ℕ) (place : ℕ) (ks : List Frame) (ops : List Word) (c : ℕ) (l : Log) (w : World) → Since k code w0 w → slice_get code.instructions.items place ≡ Some (InstrOf.KeepPart t position begins ty (over + 3) kept at_cell) →
+        RunsTo ask code (OneFormal k code w0 d kept_back) 8 8 (at d place ks (word p ∷ ops) l w) c (put_there code d (place + 1) kept_back over ks ops) (begins_copy begins (Goes (found_at p)) c l w)
+    unfolding takes_copy on_variable gone opened_outcome
+    keeps_it begins ty over kept at_cell (OfCells v) d place ks ops c l w fits has =
+        subst (λ o. RunsTo ask code (OneFormal k code w0 d kept_back) 8 8 (at d place ks (Cells v ∷ ops) l w) c (put_there code d (place + 1) kept_back over ks ops) (bind o (on_goes (takes_copy 1 begins)))) (sym (last.is (OfCells v) c l w))
+        (stop_step_to ask code (OneFormal k code w0 d kept_back) 8 8 _ _ c (last.ticks + 0) (put_there code d (place + 1) kept_back over ks ops) UseAfterFree l (omega arith)
+        (by_code ask code d place ks (Cells v ∷ ops) l w (InstrOf.KeepPart t position begins ty (over + 3) kept at_cell) has) refl refl)
+    keeps_it begins ty over kept at_cell (OfObject p) d place ks ops c l w fits has =
+        subst (λ o. RunsTo ask code (OneFormal k code w0 d kept_back) 8 8 (at d place ks (Located p ∷ ops) l w) c (put_there code d (place + 1) kept_back over ks ops) (bind o (on_goes (takes_copy 1 begins)))) (sym (last.is (OfObject p) c l w))
         (begins_it begins over p d place ks ops c l w _ fits
         (by_code ask code d place ks (Located p ∷ ops) l w (InstrOf.KeepPart t position begins ty (over + 3) kept at_cell) has
         ∙ ap (λ j. moved l (by_begin_copy begins j p (keeping (over + 3 - 3) p ops) (here d place ks w))) last.there
@@ -240,7 +279,7 @@ module _ (ask : Ask) (k : Tables) (code : Code) (setting : Setting k code) (call
         subst (RunsTo ask code Ends1 0 0 (at d place ks ops l w) c next) (sym (copy_means begins ty scalar find is d c l w))
         (added_to ask code Ends1 1 8 8 0 0 _ c next _ (omega arith) (omega arith)
         (located_then ask k code bound w0 call default Ends1 next (begins_copy begins) d ks ops 8 8 start given begun steps t s place c l w followed agree le fits long (laid_front code place front back has)
-        (λ c1 l1 w1 lo fits1 p. subst (λ z. RunsTo ask code Ends1 8 8 (at d q ks (Located p ∷ ops) l1 w1) c1 (put_there code d z kept_back over ks ops) (begins_copy begins (Goes (found_at p)) c1 l1 w1)) end
+        (λ c1 l1 w1 lo fits1 p. subst (λ z. RunsTo ask code Ends1 8 8 (at d q ks (word p ∷ ops) l1 w1) c1 (put_there code d z kept_back over ks ops) (begins_copy begins (Goes (found_at p)) c1 l1 w1)) end
         (keeps_it begins ty over _ _ p d q ks ops c1 l1 w1 fits1 (laid_back code place front back has).0))
         (λ y c1 l1 w1 lo fits1. no_step_to ask code Ends1 8 8 _ c1 0 next (Leaves (ByRaise y)) l1 w1 (fits1, tt) refl)))
 
@@ -250,6 +289,7 @@ module _ (ask : Ask) (k : Tables) (code : Code) (setting : Setting k code) (call
 
   pub copy_passes : (o : Option Reached) (ty : Ty) (begins : CopyStart) (act : List ℕ → Act (List ℕ)) (find : Naming) → ((x : Reached) → o ≡ Some x → Reaches K x act (find Elementary K)) → ((x : Reached) → o ≡ Some x → is_begun (start_of x) k.records ≡ true → Starts ask k code bound w0 (start_of x) act) → (by_copy o ty begins).runs k.records ≡ true → Puts (by_copy o ty begins).code (by_copy o ty begins).back (λ d. ticked (find (category_of ty) K d) >>= takes_copy (cells_of k ty) begins)
   copy_passes None ty begins act find reaches begun runs = absurd (cc)
+  copy_passes (Some (ResultOf b)) ty begins act find reaches begun runs = absurd (cc)
   copy_passes (Some (Variable v)) ty begins act find reaches begun runs =
       elementary_copy (λ over. begins_code begins v ty) (Some (BackOf.Variable v)) ty begins find (scalar_if ty runs) (copy_puts begins v ty (find Elementary K) (reaches (Variable v) refl) (scalar_if ty runs))
   copy_passes (Some (Object b steps)) ty begins act find reaches begun runs =

@@ -28,7 +28,7 @@ module _ (k : Tables) (code : Code) where
   made_in m Nothing w x held at counted = absurd (let number = found_number 0 w x at in omega (arith, number, counted))
   made_in m (Holds n) w x held at counted = absurd (let number = found_number 0 w x at in omega (arith, number, counted))
   made_in m (Binds n offset path) w x held at counted = absurd (let number = found_number 0 w x at in omega (arith, number, counted))
-  made_in m (Copies v) w x held at counted = absurd held
+  made_in m (Copies v) w x held at counted = absurd (let number = found_number 0 w x at in omega (arith, number, counted))
 
   -- around the master of the one that is seen there are so many masters as the level of its access type says, itself among them
   pub collection_seen : (v : Var) (d : List ℕ) (s : List Kind) (w0 w : World) (x : Collection) → 1 ≤ v.level → v.level ≤ length d → Sees d s w0 → Since k code w0 w → collection_at (set_in (slot_at (master_of d v) v.slot w).content) w.ledger ≡ Some x → length (home x.master w.activations) ≡ v.level

@@ -8,13 +8,12 @@ use Rattle.ctl_program.specs.declared.expression.Actual.TheOpen.{Expr-F}
 use Rattle.ctl_tree.specs.declared.ending.Stop.TheVariants.{UseAfterFree}
 use Rattle.ctl_meaning.specs.World.{Object, Log, World}
 use Rattle.ctl_meaning.specs.Lists.{opened_lists}
-use Rattle.ctl_meaning.specs.Objects.{cells_at}
+use Rattle.ctl_meaning.specs.Objects.{cells_at, first_cells}
 use Rattle.ctl_meaning.specs.Changes.{object_at}
 use Rattle.ctl_meaning.specs.Choice.{Ask}
 use Rattle.ctl_meaning.specs.Outcome.{ByRaise, Result, Goes, Leaves, Out, Gives, Stops, Cut, Act, add, bind, on_goes, ◌>>=◌, done, spend, opened_outcome}
 use Rattle.ctl_meaning.specs.Types.{Tables}
 use Rattle.ctl_meaning.specs.Names.{OfAllocator, Returned, Call, Default, Tools, scalar_of}
-use Rattle.ctl_meaning.specs.Finalization.{Spot}
 use Rattle.ctl_meaning.specs.Expressions.{Valued, eval_step, opened_expressions}
 use Rattle.ctl_code.specs.declared.code.Cell.{Cell}
 use Rattle.ctl_code.specs.declared.code.Code.{Code}
@@ -22,7 +21,7 @@ use Rattle.ctl_code.specs.declared.code.Instr.{Instr}
 use Rattle.ctl_code.specs.declared.code.Instr.TheVariants as InstrOf
 use Rattle.ctl_code.specs.declared.kinds.Kind.{Kind}
 use Rattle.ctl_code.specs.declared.kinds.Kind.TheVariants.{Operand, RecordValue}
-use Rattle.ctl_code.specs.States.{Word, Scalar, Located, AfterFunction, Frame, State}
+use Rattle.ctl_code.specs.States.{Word, Scalar, Located, Cells, AfterFunction, Frame, State}
 use Rattle.ctl_code.specs.Table as Table
 use Rattle.ctl_code.specs.Table.{pool_in, set_seen, size_of as code_size}
 use Rattle.ctl_code.specs.Steps.{moved, step}
@@ -42,7 +41,8 @@ use Rattle.ctl_gen.proofs.Calls.{point_at}
 use Rattle.ctl_gen.proofs.Expressions.{Value, moved_by}
 use Rattle.ctl_gen.proofs.Worth.{both_cell}
 use Rattle.ctl_gen.proofs.Sources.{Reads}
-use Rattle.ctl_gen.proofs.PartValues.{taken_from, value_then}
+use Rattle.ctl_gen.proofs.Parts.{OfCells, OfObject, RecordOperand, word}
+use Rattle.ctl_gen.proofs.PartValues.{taken, taken_from, value_then}
 use Rattle.ctl_gen.proofs.Follow.{RunsTo, add_none, added_to, at, bind_add, both_to, by_raise, no_step_to, one_step_to, stop_step_to, transferred, within_to}
 
 module _ (ask : Ask) (k : Tables) (code : Code) (setting : Setting k code) (call : Call) (default : Default) (bound : ℕ) (calls : Calls ask k code setting bound call) (w0 : World) (access : ℕ) where
@@ -54,7 +54,7 @@ module _ (ask : Ask) (k : Tables) (code : Code) (setting : Setting k code) (call
   cells r = done r.cells
 
   -- a new operand, and then where it is wanted
-  value_runs : (to : Cell) (ty : Ty) (s : List Kind) (d : List ℕ) (place : ℕ) (ks : List Frame) (ops : List Word) → Laid code place (moved_to to ty s) → (r : Result Returned) (c : ℕ) (l : Log) (w : World) → Allocates k code w0 r w → RunsTo ask code (OneCell (Since k code w0) Any) 1 1 (returned_to (AfterFunction (point_at d place ops)) ks r l w) c (landed to.named d (place + length (moved_to to ty s)) ks ops) (on_goes cells r c l w)
+  value_runs : (to : Cell) (ty : Ty) (s : List Kind) (d : List ℕ) (place : ℕ) (ks : List Frame) (ops : List Word) → Laid code place (moved_to to ty s) → (r : Result Returned) (c : ℕ) (l : Log) (w : World) → Allocates k code w0 r w → RunsTo ask code (OneCell (Since k code w0) Any) 1 1 (returned_to (AfterFunction None (point_at d place ops)) ks r l w) c (landed to.named d (place + length (moved_to to ty s)) ks ops) (on_goes cells r c l w)
   unfolding opened_outcome scalar_of opened_lists
   value_runs to ty s d place ks ops has (Goes r) c l w h = by r.cells h.0.0 h.0.1
     where
@@ -78,7 +78,7 @@ module _ (ask : Ask) (k : Tables) (code : Code) (setting : Setting k code) (call
   unfolding opened_outcome
   step_runs m plain to ty s d place ks ops c l w s0 le fits long allocable served has first =
       let p = behind_allocator place in
-      both_to ask code (Allocates k code w0) (OneCell (Since k code w0) Any) 6 (allocator_steps m) 1 1 7 (allocator_steps m) s0 c (returned_to (AfterFunction (point_at d p ops)) ks) (landed to.named d (p + length (moved_to to ty s)) ks ops) (call (OfAllocator access (made_type m) None (made_value m)) d c l w) (on_goes cells) (omega arith) (omega arith) (steps_enough m)
+      both_to ask code (Allocates k code w0) (OneCell (Since k code w0) Any) 6 (allocator_steps m) 1 1 7 (allocator_steps m) s0 c (returned_to (AfterFunction None (point_at d p ops)) ks) (landed to.named d (p + length (moved_to to ty s)) ks ops) (call (OfAllocator access (made_type m) None (made_value m)) d c l w) (on_goes cells) (omega arith) (omega arith) (steps_enough m)
       (calls.allocates access m plain w0 d place ks ops c l w s0 le fits (may_allocate k code access (made_type m) d s w0 w allocable long fits) served first)
       (λ r c1 l1 w1 lo1 h. value_runs to ty s d p ks ops has r c1 l1 w1 h)
 
@@ -132,12 +132,17 @@ module _ (ask : Ask) (k : Tables) (code : Code) (setting : Setting k code) (call
     value_means d zero l w = refl
     value_means d (suc c) l w = ap (add 1) (valued_is d (m V d c l w))
 
-  -- Of a record type, with the value of a part --------------------------------------------------------
+  -- Of a record type, with the value of a part, or of a function ----------------------------------------
 
   module _ (t : ℕ) (plain : IsPlainType k (Record t)) (m : Valued) (x : Reached) (known : Reads ask k code call default bound w0 t x m) (walks : part_runs x k.records ≡ true) where
-    -- over the part whose value it is
-    over_part : (q : Spot) (to : Cell) (ty : Ty) (s : List Kind) (d : List ℕ) (place : ℕ) (ks : List Frame) (ops : List Word) (c : ℕ) (l : Log) (w : World) → c + 1 ≤ bound → Since k code w0 w → IsSeen w0 d s → Laid code place ((InstrOf.NewCopy access t ty (height s), Operand (Record t) ∷ s) ∷ (InstrOf.NewCopyIn t ty (height s), over_numbers address_numbers (RecordValue ∷ s)) ∷ moved_to to ty s) → RunsTo ask code (OneCell (Since k code w0) Any) 8 8 (at d place ks (Located q ∷ ops) l w) c (landed to.named d (place + 1 + 1 + length (moved_to to ty s)) ks ops) (taken_from ask k code setting call default t plain (λ v. allocated (Record t) d (Some v)) q.offset (object_at q.object w) c l w)
-    over_part q to ty s d place ks ops c l w le fits long has = by (object_at q.object w) (by_code ask code d place ks (Located q ∷ ops) l w i has.0)
+    -- over the part whose value it is, or that value
+    over_part : (q : RecordOperand) (to : Cell) (ty : Ty) (s : List Kind) (d : List ℕ) (place : ℕ) (ks : List Frame) (ops : List Word) (c : ℕ) (l : Log) (w : World) → c + 1 ≤ bound → Since k code w0 w → IsSeen w0 d s → Laid code place ((InstrOf.NewCopy access t ty (height s), Operand (Record t) ∷ s) ∷ (InstrOf.NewCopyIn t ty (height s), over_numbers address_numbers (RecordValue ∷ s)) ∷ moved_to to ty s) → RunsTo ask code (OneCell (Since k code w0) Any) 8 8 (at d place ks (word q ∷ ops) l w) c (landed to.named d (place + 1 + 1 + length (moved_to to ty s)) ks ops) (taken ask k code setting call default t plain (λ v. allocated (Record t) d (Some v)) q c l w)
+    over_part (OfCells v) to ty s d place ks ops c l w le fits long has =
+        let i = InstrOf.NewCopy access t ty (height s) in
+        let s0 = at d place ks (Cells v ∷ ops) l w in
+        within_to ask code (OneCell (Since k code w0) Any) 7 8 8 8 s0 c (landed to.named d (place + 1 + 1 + length (moved_to to ty s)) ks ops) _ (omega arith) (omega arith)
+        (step_runs (Copied t (first_cells (code_size code t) v)) plain to ty s d place ks ops c l w s0 le fits long (setting.valid.each place i (Operand (Record t) ∷ s) has.0 has.1).1 (ty, height s, has.2.0) has.2.2 (by_code ask code d place ks (Cells v ∷ ops) l w i has.0))
+    over_part (OfObject q) to ty s d place ks ops c l w le fits long has = by (object_at q.object w) (by_code ask code d place ks (Located q ∷ ops) l w i has.0)
       where
         i : Instr
         i = InstrOf.NewCopy access t ty (height s)
@@ -168,9 +173,9 @@ module _ (ask : Ask) (k : Tables) (code : Code) (setting : Setting k code) (call
         subst (λ n. RunsTo ask code Ends 8 8 (at d place ks ops l w) (suc c) (landed to.named d n ks ops) (valued (Record t) m d c l w)) behind
         (one_step_to ask code Ends 0 0 8 8 (at d place ks ops l w) (at d p ks ops l w) (suc c) c next (valued (Record t) m d c l w) (omega arith) (omega arith) (omega arith) (omega arith)
         (by_code ask code d place ks ops l w (InstrOf.Skip 0) has.0 ∙ ap (λ q. at d q ks ops l w) skipped)
-        (value_then ask k code setting call default t plain (λ v. allocated (Record t) d (Some v)) bound w0 Ends next m x known walks 8 8 (omega arith) (omega arith) s d p ks ops c l w (omega (arith, le)) fits long (laid_front code p front last (laid_front code p (front ++ last) (moved_to to ty s) has.2))
+        (value_then ask k code setting call default t plain (λ v. allocated (Record t) d (Some v)) bound w0 Ends next 8 8 (omega arith) (omega arith) s d p ks ops c l w m x known walks (omega (arith, le)) fits long (laid_front code p front last (laid_front code p (front ++ last) (moved_to to ty s) has.2))
         (λ q c1 l1 w1 lo fits1.
-        subst (λ n. RunsTo ask code Ends 8 8 (at d (p + length front) ks (Located q ∷ ops) l1 w1) c1 (landed to.named d n ks ops) (taken_from ask k code setting call default t plain (λ v. allocated (Record t) d (Some v)) q.offset (object_at q.object w1) c1 l1 w1)) end
+        subst (λ n. RunsTo ask code Ends 8 8 (at d (p + length front) ks (word q ∷ ops) l1 w1) c1 (landed to.named d n ks ops) (taken ask k code setting call default t plain (λ v. allocated (Record t) d (Some v)) q c1 l1 w1)) end
         (over_part q to ty s d (p + length front) ks ops c1 l1 w1 (omega (arith, lo, le)) fits1 long here))
         (λ y c1 l1 w1 lo fits1. no_step_to ask code Ends 8 8 _ c1 0 next (Leaves (ByRaise y)) l1 w1 (fits1, tt) (landed_leaves to.named d (p + length whole) ks ops (ByRaise y) l1 w1))))
 
@@ -192,7 +197,7 @@ module _ (ask : Ask) (k : Tables) (code : Code) (setting : Setting k code) (call
         let i = InstrOf.New access of ty (height (Operand of ∷ s)) in
         let p = behind_allocator place + 1 in
         let given : IsGiven code of place = ((ty, height (Operand of ∷ s), has.2.0), (ty, height s, has.2.2.0)) in
-        both_to ask code (Allocates k code w0) Ends 7 9 1 1 8 10 (at d place ks (Scalar n ∷ ops) l w) c (returned_to (AfterFunction (point_at d p ops)) ks) (landed to.named d (p + length (moved_to to ty s)) ks ops) (call (OfAllocator access of None (Some (n ∷ []))) d c l w) (on_goes cells) (omega arith) (omega arith) (omega arith)
+        both_to ask code (Allocates k code w0) Ends 7 9 1 1 8 10 (at d place ks (Scalar n ∷ ops) l w) c (returned_to (AfterFunction None (point_at d p ops)) ks) (landed to.named d (p + length (moved_to to ty s)) ks ops) (call (OfAllocator access of None (Some (n ∷ []))) d c l w) (on_goes cells) (omega arith) (omega arith) (omega arith)
         (calls.gives_value access of scalar n w0 d place ks ops c l w (at d place ks (Scalar n ∷ ops) l w) le fits (may_allocate k code access of d s w0 w (setting.valid.each place i (Operand of ∷ s) has.0 has.1).1 long fits) given (by_code ask code d place ks (Scalar n ∷ ops) l w i has.0))
         (λ r c1 l1 w1 lo h. value_runs to ty s d p ks ops has.2.2.2 r c1 l1 w1 h)
 

@@ -142,32 +142,32 @@ module _ (ask : Ask) (k : Tables) (code : Code) (setting : Setting k code) (call
   module _ (w0 : World) where
     -- where control is behind it
     abbrev Gets : ℕ → ℕ → State → ℕ → Point → List Frame → Out Returned → Type 0
-    Gets b h s c p ks o = RunsTo ask code (Allocates k code w0) b h s c (returned_to (AfterFunction p) ks) o
+    Gets b h s c p ks o = RunsTo ask code (Allocates k code w0) b h s c (returned_to (AfterFunction None p) ks) o
 
     -- where it raises
     raises : (b h : ℕ) (e : ℕ) (p : Point) (ks : List Frame) (c : ℕ) (l : Log) (w : World) → Since k code w0 w → Gets b h (transferred (ByRaise e) ks l w) c p ks (Gives (Leaves (ByRaise e)) 0 c l w)
-    raises b h e p ks c l w fits = no_step_to ask code (Allocates k code w0) b h _ c 0 (returned_to (AfterFunction p) ks) (Leaves (ByRaise e)) l w (tt, fits) refl
+    raises b h e p ks c l w fits = no_step_to ask code (Allocates k code w0) b h _ c 0 (returned_to (AfterFunction None p) ks) (Leaves (ByRaise e)) l w (tt, fits) refl
 
     -- the new object joins its collection, in a step that takes at most one from the clock, or nothing more is done
     joins_runs : (n : ℕ) (o : Object) (set : Option Collection) (p : Point) (ks : List Frame) (s0 : State) (c0 c : ℕ) (l : Log) (w : World) → c ≤ c0 → c0 ≤ c + 1 → Since k code w0 w → step ask code s0 ≡ moved l (joins n o set p ks w) → Gets 1 3 s0 c0 p ks (joined_to n o set c l w)
     unfolding opened_outcome opened_names opened_lists
-    joins_runs n o None p ks s0 c0 c l w lo hi fits first = stop_step_to ask code (Allocates k code w0) 1 3 s0 _ c0 0 (returned_to (AfterFunction p) ks) UseAfterFree l (omega arith) first refl refl
+    joins_runs n o None p ks s0 c0 c l w lo hi fits first = stop_step_to ask code (Allocates k code w0) 1 3 s0 _ c0 0 (returned_to (AfterFunction None p) ks) UseAfterFree l (omega arith) first refl refl
     joins_runs n o (Some x) p ks s0 c0 c l w lo hi fits first = by (is_new o) first
       where
         by : (b : Bool) → step ask code s0 ≡ moved l (if b then Table.on_with n p ks (join n w) else Table.gone ks w) → Gets 1 3 s0 c0 p ks (bind (either b (change (join n)) gone c l w) (on_goes (λ _. done (as_value n))))
         by true go =
-            let next = returned_to (AfterFunction p) ks in
+            let next = returned_to (AfterFunction None p) ks in
             let w1 = join n w in
             one_step_to ask code (Allocates k code w0) 0 2 1 3 s0 (next (Goes (as_value n)) l w1) c0 c next (Gives (Goes (as_value n)) 0 c l w1) (omega arith) (omega arith) lo hi go
             (no_step_to ask code (Allocates k code w0) 0 2 _ c 0 next (Goes (as_value n)) l w1 ((n, refl), since_join k code n w0 w fits) refl)
-        by false go = stop_step_to ask code (Allocates k code w0) 1 3 s0 _ c0 0 (returned_to (AfterFunction p) ks) UseAfterFree l (omega arith) go refl refl
+        by false go = stop_step_to ask code (Allocates k code w0) 1 3 s0 _ c0 0 (returned_to (AfterFunction None p) ks) UseAfterFree l (omega arith) go refl refl
 
     -- the object comes to life
     lives_on : (n : ℕ) (p : Point) (ks : List Frame) (s0 : State) (c0 c : ℕ) (l : Log) (w : World) → c ≤ c0 → c0 ≤ c + 1 → Since k code w0 w → step ask code s0 ≡ moved l (come_to_life ByAllocator n (object_at n w) p ks w) → Gets 1 3 s0 c0 p ks (stands n (Goes tt) c l w)
     lives_on n p ks s0 c0 c l w lo hi fits first = by (object_at n w) refl
       where
         by : (o : Option Object) → object_at n w ≡ o → Gets 1 3 s0 c0 p ks (stands n (Goes tt) c l w)
-        by None is = subst (Gets 1 3 s0 c0 p ks) (sym (missing_is n c l w is)) (stop_step_to ask code (Allocates k code w0) 1 3 _ _ c0 0 (returned_to (AfterFunction p) ks) UseAfterFree l (omega arith) (first ∙ ap (λ q. moved l (come_to_life ByAllocator n q p ks w)) is) refl refl)
+        by None is = subst (Gets 1 3 s0 c0 p ks) (sym (missing_is n c l w is)) (stop_step_to ask code (Allocates k code w0) 1 3 _ _ c0 0 (returned_to (AfterFunction None p) ks) UseAfterFree l (omega arith) (first ∙ ap (λ q. moved l (come_to_life ByAllocator n q p ks w)) is) refl refl)
         by (Some o) is =
             subst (Gets 1 3 s0 c0 p ks) (sym (there_is n c l w o is))
             (joins_runs n o (set_of o.origin w) p ks s0 c0 c l w lo hi fits (first ∙ ap (λ q. moved l (come_to_life ByAllocator n q p ks w)) is))
@@ -180,7 +180,7 @@ module _ (ask : Ask) (k : Tables) (code : Code) (setting : Setting k code) (call
         by_raise (λ v. Gets 1 3 (returns {A = Done} (Creating ByAllocator n t p ∷ ks) (Leaves v) l w) c p ks (stands n (Leaves v) c l w))
         (λ e.
         subst (Gets 1 3 (returns {A = Done} (Creating ByAllocator n t p ∷ ks) (Leaves (ByRaise e)) l w) c p ks) (sym (raised_is n e c l w))
-        (last_step_to ask code (Allocates k code w0) 1 3 _ c 1 (returned_to (AfterFunction p) ks) (Leaves (ByRaise e)) l (forget n w) (omega arith) (tt, since_forget k code n w0 w (since_on k code w0 w1 w fits1 told1.1)) refl)) y told1.0
+        (last_step_to ask code (Allocates k code w0) 1 3 _ c 1 (returned_to (AfterFunction None p) ks) (Leaves (ByRaise e)) l (forget n w) (omega arith) (tt, since_forget k code n w0 w (since_on k code w0 w1 w fits1 told1.1)) refl)) y told1.0
 
     -- a collection stands, and objects of a type may lie in it
     abbrev MayStand : Ty → ℕ → Collection → World → Type 0
@@ -226,8 +226,8 @@ module _ (ask : Ask) (k : Tables) (code : Code) (setting : Setting k code) (call
           fills_runs go =
               let mid = Creating ByAllocator n t p ∷ ks in
               let s1 = gives (Filling (newborn n t (OwnerOf.Collection set)) (begun_of code t) (begun_of code t) ∷ mid) (Fine Complete) l w1 in
-              one_step_to ask code (Allocates k code w0) 5 6 6 7 s0 s1 c0 c (returned_to (AfterFunction p) ks) (bind (begins (ByDefault (Record t)) plain set place c l w) (stands n)) (omega arith) (omega arith) lo hi go
-              (both_to ask code (λ r v. Told k code w1 (way_of r) v) (Allocates k code w0) 3 3 1 3 5 6 s1 c (returns mid) (returned_to (AfterFunction p) ks) (begins (ByDefault (Record t)) plain set place c l w) (stands n) (omega arith) (omega arith) (omega arith)
+              one_step_to ask code (Allocates k code w0) 5 6 6 7 s0 s1 c0 c (returned_to (AfterFunction None p) ks) (bind (begins (ByDefault (Record t)) plain set place c l w) (stands n)) (omega arith) (omega arith) lo hi go
+              (both_to ask code (λ r v. Told k code w1 (way_of r) v) (Allocates k code w0) 3 3 1 3 5 6 s1 c (returns mid) (returned_to (AfterFunction None p) ks) (begins (ByDefault (Record t)) plain set place c l w) (stands n) (omega arith) (omega arith) (omega arith)
               (parts_run ask k code setting call default constants bound calls (suc (length k.records)) t (let within = slice_get_within k.records t plain.0 plain.1 in omega (arith, within)) plain (whole_spot n) (OwnerOf.Collection set) (birth_of (Allocated set place) w) refl w1 fits1.0 (member_around t set place w fits fits1) mid c l w1 le (fits1.0, keeps_itself k code w1))
               (λ r c1 l1 w2 lo1 told1. stands_runs w1 n t p ks fits1 r c1 l1 w2 told1))
 
@@ -236,7 +236,7 @@ module _ (ask : Ask) (k : Tables) (code : Code) (setting : Setting k code) (call
               → Gets 6 7 s0 c0 p ks (bind (begins (ByDefault (Record t)) plain set place c l w) (stands n))
           empty true is go =
               subst (λ o. Gets 6 7 s0 c0 p ks (bind o (stands n))) (sym (at_once_is ask k code setting call default constants bound calls (length k.records) (birth_of (Allocated set place) w) (whole_spot n) t c l w1 plain is))
-              (added_to ask code (Allocates k code w0) 0 1 3 6 7 s0 c0 (returned_to (AfterFunction p) ks) (stands n (Goes tt) c l w1) (omega arith) (omega arith) (lives_on n p ks s0 c0 c l w1 lo hi fits1 go))
+              (added_to ask code (Allocates k code w0) 0 1 3 6 7 s0 c0 (returned_to (AfterFunction None p) ks) (stands n (Goes tt) c l w1) (omega arith) (omega arith) (lives_on n p ks s0 c0 c l w1 lo hi fits1 go))
           empty false is go = fills_runs go
 
       -- of an elementary type: nothing is executed for its creation
@@ -245,7 +245,7 @@ module _ (ask : Ask) (k : Tables) (code : Code) (setting : Setting k code) (call
       at_once ty plain none may first =
           let w1 = with_member code set ty place w in
           subst (λ (f : Act Done). Gets 6 7 s0 c0 p ks (bind (f c l w1) (stands n))) (sym (none (birth_of (Allocated set place) w)))
-          (added_to ask code (Allocates k code w0) 0 1 3 6 7 s0 c0 (returned_to (AfterFunction p) ks) (stands n (Goes tt) c l w1) (omega arith) (omega arith) (lives_on n p ks s0 c0 c l w1 lo hi (member_fits ty plain set x place w may fits) first))
+          (added_to ask code (Allocates k code w0) 0 1 3 6 7 s0 c0 (returned_to (AfterFunction None p) ks) (stands n (Goes tt) c l w1) (omega arith) (omega arith) (lives_on n p ks s0 c0 c l w1 lo hi (member_fits ty plain set x place w may fits) first))
 
       default_runs : (ty : Ty) (plain : IsPlainType k ty) → Creates (ByDefault ty) plain
       unfolding initialize of_record
@@ -263,7 +263,7 @@ module _ (ask : Ask) (k : Tables) (code : Code) (setting : Setting k code) (call
       copied_runs t v plain may first =
           let w1 = with_member code set (Record t) place w in
           let fits1 = member_fits (Record t) plain set x place w may fits in
-          T.taken_runs ask k code setting call default constants bound calls t plain ByAllocator n (OwnerOf.Collection set) (birth_of (Allocated set place) w) refl p ks w1 fits1.0 (member_around t set place w fits fits1) (Allocates k code w0) (returned_to (AfterFunction p) ks) (stands n)
+          T.taken_runs ask k code setting call default constants bound calls t plain ByAllocator n (OwnerOf.Collection set) (birth_of (Allocated set place) w) refl p ks w1 fits1.0 (member_around t set place w fits fits1) (Allocates k code w0) (returned_to (AfterFunction None p) ks) (stands n)
           (λ s1 d0 d l1 w2 lo1 hi1 fits2 go1. lives_on n p ks s1 d0 d l1 w2 lo1 hi1 (since_on k code w0 w1 w2 fits1 fits2) go1)
           (λ r c1 l1 w2 told1. stands_runs w1 n t p ks fits1 r c1 l1 w2 told1)
           v s0 c0 c l le lo hi first
@@ -370,7 +370,7 @@ module _ (ask : Ask) (k : Tables) (code : Code) (setting : Setting k code) (call
           subst (λ o. Gets 6 (allocator_steps m) s0 c (point_at d (place + 1) ops) ks (bind o (on_goes completed))) (sym (add_none (makes set (InBlock n a) c l w)))
           (created_runs set x (InBlock n a) (point_at d (place + 1) ops) ks s0 c c l w le (omega arith) (omega arith) fits m plain may (first ∙ passes m set n a d place ks ops l w))
       placed_runs set x n a (NotPassed s) d place ks ops s0 c l w le may fits first =
-          stop_step_to ask code (Allocates k code w0) 6 (allocator_steps m) s0 _ c 0 (returned_to (AfterFunction (point_at d (place + 1) ops)) ks) s l (let enough = steps_enough m in omega (arith, enough)) (first ∙ fails m set n a s d place ks ops l w) refl refl
+          stop_step_to ask code (Allocates k code w0) 6 (allocator_steps m) s0 _ c 0 (returned_to (AfterFunction None (point_at d (place + 1) ops)) ks) s l (let enough = steps_enough m in omega (arith, enough)) (first ∙ fails m set n a s d place ks ops l w) refl refl
 
       -- what follows the call
       abbrev after_allocate : ℕ → ℕ → Result Returned → Act Returned
@@ -432,7 +432,7 @@ module _ (ask : Ask) (k : Tables) (code : Code) (setting : Setting k code) (call
           by : (b : Bool) → nat_lt integer_last units ≡ b → step ask code s0 ≡ moved l (if b then Table.transfers (ByRaise constraint_error) ks w else Table.enter_body (slice_get code.entries.items f) (Allocate n units ∷ []) v actuals after ks w) → goal (user_allocate K n units f c l w)
           by true is go =
               subst goal (sym (great_is K n units f c l w is))
-              (one_step_to ask code (Allocates k code w0) 5 6 6 (allocator_steps m) s0 (transferred (ByRaise constraint_error) ks l w) c c (returned_to (AfterFunction p) ks) (Gives (Leaves (ByRaise constraint_error)) 0 c l w) (omega arith) (steps_enough m) (omega arith) (omega arith) go (raises 5 6 constraint_error p ks c l w fits))
+              (one_step_to ask code (Allocates k code w0) 5 6 6 (allocator_steps m) s0 (transferred (ByRaise constraint_error) ks l w) c c (returned_to (AfterFunction None p) ks) (Gives (Leaves (ByRaise constraint_error)) 0 c l w) (omega arith) (steps_enough m) (omega arith) (omega arith) go (raises 5 6 constraint_error p ks c l w fits))
           by false is go =
               let u = own.1.0 in
               let op = own.1.2 in
@@ -440,18 +440,18 @@ module _ (ask : Ask) (k : Tables) (code : Code) (setting : Setting k code) (call
               let callable = allocate_in code setting.valid (length v) u f (type_inside k code n w o u fits.0 own.0 own.1.1) (setting.allocate u ∙ op) in
               subst goal (sym (user_is K n units f c l w o own.0 is))
               (subst (Gets 6 (allocator_steps m) s0 c p ks) (sym (called_is set n (call (OfSubprogram f actuals) v c shown w)))
-              (both_to ask code (λ r w1. Told k code w (way_of r) w1) (Allocates k code w0) 0 3 6 (allocator_steps m) 6 (allocator_steps m) s0 c (returned_to after ks) (returned_to (AfterFunction p) ks) (call (OfSubprogram f actuals) v c shown w) (after_allocate set n) (omega arith) (let enough = steps_enough m in omega (arith, enough)) (omega arith)
+              (both_to ask code (λ r w1. Told k code w (way_of r) w1) (Allocates k code w0) 0 3 6 (allocator_steps m) 6 (allocator_steps m) s0 c (returned_to after ks) (returned_to (AfterFunction None p) ks) (call (OfSubprogram f actuals) v c shown w) (after_allocate set n) (omega arith) (let enough = steps_enough m in omega (arith, enough)) (omega arith)
               (calls.runs f body.0 body.1 w v actuals after ks c shown w s0 Procedure storage_formals tt le (fits.0, keeps_itself k code w) callable (origin_nested k code o.origin w fits.0) (plain_actuals n units)
               (go ∙ enter_shows (slice_get code.entries.items f) (Allocate n units) v actuals after ks l w))
               (λ r c1 l1 w1 lo told1. after_runs set n x d place ks ops w may fits served r c1 l1 w1 (omega (arith, lo, le)) told1)))
 
       -- an exception in its step
       raise_runs : (e : ℕ) (p : Point) (ks : List Frame) (s0 : State) (c : ℕ) (l : Log) (w : World) → Since k code w0 w → step ask code s0 ≡ transferred (ByRaise e) ks l w → Gets 6 (allocator_steps m) s0 c p ks (Gives (Leaves (ByRaise e)) 0 c l w)
-      raise_runs e p ks s0 c l w fits first = one_step_to ask code (Allocates k code w0) 5 6 6 (allocator_steps m) s0 (transferred (ByRaise e) ks l w) c c (returned_to (AfterFunction p) ks) (Gives (Leaves (ByRaise e)) 0 c l w) (omega arith) (steps_enough m) (omega arith) (omega arith) first (raises 5 6 e p ks c l w fits)
+      raise_runs e p ks s0 c l w fits first = one_step_to ask code (Allocates k code w0) 5 6 6 (allocator_steps m) s0 (transferred (ByRaise e) ks l w) c c (returned_to (AfterFunction None p) ks) (Gives (Leaves (ByRaise e)) 0 c l w) (omega arith) (steps_enough m) (omega arith) (omega arith) first (raises 5 6 e p ks c l w fits)
 
       -- a use of what has ceased to exist
       gone_runs : (p : Point) (ks : List Frame) (s0 : State) (c : ℕ) (l : Log) (w : World) → step ask code s0 ≡ moved l (Table.gone ks w) → Gets 6 (allocator_steps m) s0 c p ks (Stops UseAfterFree 0 l)
-      gone_runs p ks s0 c l w first = stop_step_to ask code (Allocates k code w0) 6 (allocator_steps m) s0 _ c 0 (returned_to (AfterFunction p) ks) UseAfterFree l (let enough = steps_enough m in omega (arith, enough)) first refl refl
+      gone_runs p ks s0 c l w first = stop_step_to ask code (Allocates k code w0) 6 (allocator_steps m) s0 _ c 0 (returned_to (AfterFunction None p) ks) UseAfterFree l (let enough = steps_enough m in omega (arith, enough)) first refl refl
 
       -- from there, for a collection that stands
       granted_runs : (set : ℕ) (x : Collection) (g : Grant) (d : List ℕ) (place : ℕ) (ks : List Frame) (ops : List Word) (s0 : State) (c : ℕ) (l : Log) (w : World) → c ≤ bound → Stand set x w → OnGrant (Stand set x) g → OnGrant (Since k code w0) g → IsOwn k w g → Since k code w0 w → IsServed code m place → step ask code s0 ≡ moved l (grants m set g ops (here d place ks w))
@@ -518,7 +518,7 @@ module _ (ask : Ask) (k : Tables) (code : Code) (setting : Setting k code) (call
     behind_value d place ops = point_at d (behind_allocator place + 1) ops
 
     -- the step in which it does, where it is there
-    takes_value : (of : Ty) (x : ℕ) (d : List ℕ) (place : ℕ) (ks : List Frame) (ops : List Word) → IsGiven code of place → (r : Result Returned) (c : ℕ) (l : Log) (w : World) → Allocates k code w0 r w → Gets 1 3 (returned_to (AfterFunction (point_at d (behind_allocator place) (Scalar x ∷ ops))) ks r l w) c (behind_value d place ops) ks (on_goes (takes (x ∷ [])) r c l w)
+    takes_value : (of : Ty) (x : ℕ) (d : List ℕ) (place : ℕ) (ks : List Frame) (ops : List Word) → IsGiven code of place → (r : Result Returned) (c : ℕ) (l : Log) (w : World) → Allocates k code w0 r w → Gets 1 3 (returned_to (AfterFunction None (point_at d (behind_allocator place) (Scalar x ∷ ops))) ks r l w) c (behind_value d place ops) ks (on_goes (takes (x ∷ [])) r c l w)
     unfolding write_part existing gone opened_outcome
     takes_value of x d place ks ops (served, (ty, top, there)) (Goes r) c l w h = by (object_at n w) (by_code ask code d (behind_allocator place) ks (Scalar n ∷ Scalar x ∷ ops) l w (InstrOf.GiveValue of ty top) there)
       where
@@ -526,7 +526,7 @@ module _ (ask : Ask) (k : Tables) (code : Code) (setting : Setting k code) (call
         n = scalar_of r.cells
 
         next : Result Returned → Log → World → State
-        next = returned_to (AfterFunction (behind_value d place ops)) ks
+        next = returned_to (AfterFunction None (behind_value d place ops)) ks
 
         s1 : State
         s1 = at d (behind_allocator place) ks (Scalar n ∷ Scalar x ∷ ops) l w
@@ -543,6 +543,6 @@ module _ (ask : Ask) (k : Tables) (code : Code) (setting : Setting k code) (call
     giver_runs access named of scalar x d place ks ops s0 c l w le fits may given first =
         let mid = point_at d (behind_allocator place) (Scalar x ∷ ops) in
         subst (Gets 7 9 s0 c (behind_value d place ops) ks) (sym (given_is K of scalar (x ∷ []) d access c l w))
-        (both_to ask code (Allocates k code w0) (Allocates k code w0) 6 7 1 3 7 9 s0 c (returned_to (AfterFunction mid) ks) (returned_to (AfterFunction (behind_value d place ops)) ks) (bind (allocate K d access of None None c l w) (on_goes completed)) (on_goes (takes (x ∷ []))) (omega arith) (omega arith) (omega arith)
+        (both_to ask code (Allocates k code w0) (Allocates k code w0) 6 7 1 3 7 9 s0 c (returned_to (AfterFunction None mid) ks) (returned_to (AfterFunction None (behind_value d place ops)) ks) (bind (allocate K d access of None None c l w) (on_goes completed)) (on_goes (takes (x ∷ []))) (omega arith) (omega arith) (omega arith)
         (allocator_runs (ByDefault of) (scalar_plain k of scalar) access named d place ks (Scalar x ∷ ops) s0 c l w le fits may given.0 first)
         (λ r c1 l1 w1 lo h. takes_value of x d place ks ops given r c1 l1 w1 h))

@@ -92,11 +92,11 @@ behind_is Procedure AfterBody ends slots (Leaves ByExit) ks l w = refl
 behind_is Procedure AfterBody ends slots (Leaves (ByReturn v)) ks l w = refl
 behind_is Procedure AfterBody ends slots (Leaves (ByRaise e)) ks l w = refl
 behind_is Procedure (AfterBlock p) ends slots r ks l w = absurd ends
-behind_is Procedure (AfterFunction p) ends slots r ks l w = absurd ends
-behind_is Function (AfterFunction p) ends slots (Goes a) ks l w = refl
-behind_is Function (AfterFunction p) ends slots (Leaves ByExit) ks l w = refl
-behind_is Function (AfterFunction p) ends slots (Leaves (ByReturn v)) ks l w = refl
-behind_is Function (AfterFunction p) ends slots (Leaves (ByRaise e)) ks l w = refl
+behind_is Procedure (AfterFunction cells p) ends slots r ks l w = absurd ends
+behind_is Function (AfterFunction cells p) ends slots (Goes a) ks l w = refl
+behind_is Function (AfterFunction cells p) ends slots (Leaves ByExit) ks l w = refl
+behind_is Function (AfterFunction cells p) ends slots (Leaves (ByReturn v)) ks l w = refl
+behind_is Function (AfterFunction cells p) ends slots (Leaves (ByRaise e)) ks l w = refl
 behind_is Function (AfterBlock p) ends slots r ks l w = absurd ends
 behind_is Function (AfterProcedure copies p) ends slots r ks l w = absurd ends
 behind_is Function AfterBody ends slots r ks l w = absurd ends
@@ -160,7 +160,7 @@ module _ (ask : Ask) (p : Meaning) (code : Code) (setting : Setting p.tables cod
       (number_runs (execution ask p (suc n)) n below f s here w0 v actuals after ks (suc c) c l w s0 kind count ends (omega (arith, le)) (omega arith) (omega arith) fits callable nested plain first)
 
   -- an allocator has taken one before
-  allocate_runs : (n : ℕ) → Below n → (access : ℕ) (m : Made) → IsPlainType k (made_type m) → (w0 : World) (d : List ℕ) (place : ℕ) (ks : List Frame) (ops : List Word) (c : ℕ) (l : Log) (w : World) (s0 : State) → c + 1 ≤ n → Since k code w0 w → MayAllocate code access (made_type m) d w → IsServed code m place → step ask code s0 ≡ moved l (by_allocator code m (pool_in (slice_get code.accesses.items access)) (set_seen (slice_get code.accesses.items access) d w) ops (here d place ks w)) → RunsTo ask code (Allocates k code w0) 6 (allocator_steps m) s0 c (returned_to (AfterFunction (point_at d (behind_allocator place) ops)) ks) (execution ask p (suc n) (OfAllocator access (made_type m) None (made_value m)) d c l w)
+  allocate_runs : (n : ℕ) → Below n → (access : ℕ) (m : Made) → IsPlainType k (made_type m) → (w0 : World) (d : List ℕ) (place : ℕ) (ks : List Frame) (ops : List Word) (c : ℕ) (l : Log) (w : World) (s0 : State) → c + 1 ≤ n → Since k code w0 w → MayAllocate code access (made_type m) d w → IsServed code m place → step ask code s0 ≡ moved l (by_allocator code m (pool_in (slice_get code.accesses.items access)) (set_seen (slice_get code.accesses.items access) d w) ops (here d place ks w)) → RunsTo ask code (Allocates k code w0) 6 (allocator_steps m) s0 c (returned_to (AfterFunction None (point_at d (behind_allocator place) ops)) ks) (execution ask p (suc n) (OfAllocator access (made_type m) None (made_value m)) d c l w)
   unfolding execution execute tools_with opened_outcome
   allocate_runs zero below access m plain w0 d place ks ops c l w s0 le fits may served first = absurd (omega (arith, le))
   allocate_runs (suc n) below access m plain w0 d place ks ops c l w s0 le fits may served first =
@@ -168,7 +168,7 @@ module _ (ask : Ask) (p : Meaning) (code : Code) (setting : Setting p.tables cod
       allocator_runs ask k code setting inner (default_in p.defaults (expression_tools ask p inner)) (constants inner) n below w0 m plain access (setting.accesses access) d place ks ops s0 c l w (omega (arith, le)) fits may served first
 
   -- and so has one whose object takes a value
-  give_runs : (n : ℕ) → Below n → (access : ℕ) (of : Ty) → IsScalar of → (x : ℕ) (w0 : World) (d : List ℕ) (place : ℕ) (ks : List Frame) (ops : List Word) (c : ℕ) (l : Log) (w : World) (s0 : State) → c + 1 ≤ n → Since k code w0 w → MayAllocate code access of d w → IsGiven code of place → step ask code s0 ≡ moved l (by_new code of (pool_in (slice_get code.accesses.items access)) (set_seen (slice_get code.accesses.items access) d w) (Scalar x ∷ ops) (here d place ks w)) → RunsTo ask code (Allocates k code w0) 7 9 s0 c (returned_to (AfterFunction (point_at d (behind_allocator place + 1) ops)) ks) (execution ask p (suc n) (OfAllocator access of None (Some (x ∷ []))) d c l w)
+  give_runs : (n : ℕ) → Below n → (access : ℕ) (of : Ty) → IsScalar of → (x : ℕ) (w0 : World) (d : List ℕ) (place : ℕ) (ks : List Frame) (ops : List Word) (c : ℕ) (l : Log) (w : World) (s0 : State) → c + 1 ≤ n → Since k code w0 w → MayAllocate code access of d w → IsGiven code of place → step ask code s0 ≡ moved l (by_new code of (pool_in (slice_get code.accesses.items access)) (set_seen (slice_get code.accesses.items access) d w) (Scalar x ∷ ops) (here d place ks w)) → RunsTo ask code (Allocates k code w0) 7 9 s0 c (returned_to (AfterFunction None (point_at d (behind_allocator place + 1) ops)) ks) (execution ask p (suc n) (OfAllocator access of None (Some (x ∷ []))) d c l w)
   unfolding execution execute tools_with opened_outcome
   give_runs zero below access of scalar x w0 d place ks ops c l w s0 le fits may given first = absurd (omega (arith, le))
   give_runs (suc n) below access of scalar x w0 d place ks ops c l w s0 le fits may given first =

@@ -7,6 +7,7 @@ use Rattle.std.proofs.lemmas.Bool.{ltb-true, ltb-false}
 use Rattle.ctl_program.specs.declared.types.Var.{Var}
 use Rattle.ctl_meaning.specs.World.{Log, World}
 use Rattle.ctl_meaning.specs.Lists.{item_or, opened_lists}
+use Rattle.ctl_meaning.specs.Objects.{first_cells}
 use Rattle.ctl_meaning.specs.Activations.{master_of}
 use Rattle.ctl_meaning.specs.Outcome.{Way, Result, Goes, Leaves}
 use Rattle.ctl_meaning.specs.Choice.{Ask, picked}
@@ -18,7 +19,7 @@ use Rattle.ctl_code.specs.declared.code.Instr.{Instr}
 use Rattle.ctl_code.specs.declared.code.Code.{Code}
 use Rattle.ctl_code.specs.declared.kinds.Kind.{Kind}
 use Rattle.ctl_code.specs.States as S
-use Rattle.ctl_code.specs.States.{Word, Scalar, Frame, State}
+use Rattle.ctl_code.specs.States.{Word, Scalar, Cells, Frame, State}
 use Rattle.ctl_code.specs.Table.{Here, cell_at, with_cell, out_of, taking, put, by_instr}
 use Rattle.ctl_code.specs.Steps.{moved, step}
 use Rattle.ctl_code.specs.Windows.{depth}
@@ -119,3 +120,13 @@ OneCell Fits P (Leaves y) w = Fits w × IsRaise y
 
 abbrev pub Any : ℕ → World → Type 0
 Any n w = Unit {0}
+
+-- the value of a record of so many cells, in a world that fits
+abbrev pub OneRecord : (World → Type 0) → ℕ → Result (List ℕ) → World → Type 0
+OneRecord Fits n (Goes u) w = Fits w × (first_cells n u ≡ u)
+OneRecord Fits n (Leaves y) w = Fits w × IsRaise y
+
+-- where its evaluation leads: behind it, where the value is a new operand, or out of the statement
+abbrev pub landed_record : List ℕ → ℕ → List Frame → List Word → Result (List ℕ) → Log → World → State
+landed_record d place ks ops (Goes u) l w = at d place ks (Cells u ∷ ops) l w
+landed_record d place ks ops (Leaves y) l w = transferred y ks l w

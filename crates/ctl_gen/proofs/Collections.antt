@@ -167,10 +167,8 @@ of_other n c (y ∷ cs) x is e = by (nat_eq y.number c) (nat_eq y.master n) refl
 abbrev pub IsMadeIn : ℕ → ℕ → Collection → Type 0
 IsMadeIn c m x = x.number ≡ c → x.master ≡ m
 
--- what a slot of a master may hold, where the next collection has this number and these stand: no copy of a record, and no collection but one
--- that was made in it
+-- what a slot of a master may hold, where the next collection has this number and these stand: no collection but one that was made in it
 abbrev pub IsHeldBy : ℕ → List Collection → ℕ → Content → Type 0
-IsHeldBy next cs m (Copies v) = ⊥
 IsHeldBy next cs m (Gathers c) = (c < next) × Each (IsMadeIn c m) cs
 IsHeldBy next cs m _ = Unit {0}
 
@@ -178,7 +176,7 @@ pub held_in : (a b : ℕ) (cs ds : List Collection) → a ≤ b → ((c m : ℕ)
 held_in a b cs ds more kept m Nothing h = tt
 held_in a b cs ds more kept m (Holds n) h = tt
 held_in a b cs ds more kept m (Binds n offset path) h = tt
-held_in a b cs ds more kept m (Copies v) h = h
+held_in a b cs ds more kept m (Copies v) h = tt
 held_in a b cs ds more kept m (Gathers c) h = let less = h.0 in (omega (arith, less, more), kept c m h.0 h.1)
 
 -- Owners of objects -------------------------------------------------------------------------------------

@@ -13,7 +13,6 @@ use Rattle.ctl_meaning.specs.Names.{Found, Call, Default, Tools, gone, object_of
 use Rattle.ctl_meaning.specs.Pools.{block_pool_at, opened_pools}
 use Rattle.ctl_meaning.specs.Marks.{discriminant as discriminant_of}
 use Rattle.ctl_meaning.specs.Expressions.{Naming, eval_step}
-use Rattle.ctl_meaning.specs.Finalization.{Spot}
 use Rattle.ctl_code.specs.declared.code.Cell.{Cell}
 use Rattle.ctl_code.specs.declared.code.Code.{Code}
 use Rattle.ctl_code.specs.declared.code.Instr.TheVariants as InstrOf
@@ -21,7 +20,7 @@ use Rattle.ctl_code.specs.declared.code.PoolDiscriminant.{PoolDiscriminant}
 use Rattle.ctl_code.specs.declared.code.PoolDiscriminant.TheVariants.{BlockSize, BlockCount}
 use Rattle.ctl_code.specs.declared.kinds.Kind.{Kind}
 use Rattle.ctl_code.specs.declared.kinds.Kind.TheVariants.{Operand}
-use Rattle.ctl_code.specs.States.{Word, Located, Frame, State}
+use Rattle.ctl_code.specs.States.{Word, Frame, State}
 use Rattle.ctl_code.specs.Table.{by_discriminant, discriminant_in}
 use Rattle.ctl_code.specs.Steps.{moved, step}
 use Rattle.ctl_layout.specs.Around.{Line}
@@ -30,7 +29,7 @@ use Rattle.ctl_layout.specs.Values.{block_pool, discriminant, discriminant_at, d
 use Rattle.ctl_gen.proofs.Worlds.{Since}
 use Rattle.ctl_gen.proofs.Setting.{Setting, IsSeen, tools_with}
 use Rattle.ctl_gen.proofs.Place.{Laid, laid_front, laid_back}
-use Rattle.ctl_gen.proofs.Parts.{Leads, agree_part, composite_leads, find_by, found_at}
+use Rattle.ctl_gen.proofs.Parts.{Leads, RecordOperand, agree_part, composite_leads, find_by, found_at, same_object, word}
 use Rattle.ctl_gen.proofs.Begun.{Starts, part_then}
 use Rattle.ctl_gen.proofs.Walked.{start_of, steps_of}
 use Rattle.ctl_gen.proofs.Expressions as X
@@ -72,14 +71,17 @@ module _ (ask : Ask) (k : Tables) (code : Code) (setting : Setting k code) (call
       by (Some p) = ap (λ (m : ℕ). done (m ∷ []) c l w) (sym (taken_is position p))
 
   -- one step over the pool, to the value where it is wanted, or to a stop
-  takes : (p : Spot) (to : Cell) (d : List ℕ) (place : ℕ) (ks : List Frame) (ops : List Word) (c : ℕ) (l : Log) (w : World) → Fits w → slice_get code.instructions.items place ≡ Some (InstrOf.TakeDiscriminant block_pool which to) → X.Gets ask k code bound w0 Any 8 8 (at d place ks (Located p ∷ ops) l w) c (landed to.named d (place + 1) ks ops) (reading (Goes (found_at p)) c l w)
-  unfolding gone object_of opened_outcome
+  takes : (p : RecordOperand) (to : Cell) (d : List ℕ) (place : ℕ) (ks : List Frame) (ops : List Word) (c : ℕ) (l : Log) (w : World) → Fits w → slice_get code.instructions.items place ≡ Some (InstrOf.TakeDiscriminant block_pool which to) → X.Gets ask k code bound w0 Any 8 8 (at d place ks (word p ∷ ops) l w) c (landed to.named d (place + 1) ks ops) (reading (Goes (found_at p)) c l w)
+  unfolding gone opened_outcome
   takes p to d place ks ops c l w fits has =
-      subst (X.Gets ask k code bound w0 Any 8 8 s0 c next) (sym (of_block_pool p.object c l w fits))
-      (by (block_pool_at p.object w.pools) (by_code ask code d place ks (Located p ∷ ops) l w (InstrOf.TakeDiscriminant block_pool which to) has))
+      let n = object_of (found_at p) in
+      subst (X.Gets ask k code bound w0 Any 8 8 s0 c next) (sym (of_block_pool n c l w fits))
+      (by (block_pool_at n w.pools)
+      (by_code ask code d place ks (word p ∷ ops) l w (InstrOf.TakeDiscriminant block_pool which to) has
+      ∙ ap (λ i. moved l (by_discriminant which (block_pool_at i w.pools) to.named ops (here d place ks w))) (same_object p)))
     where
       s0 : State
-      s0 = at d place ks (Located p ∷ ops) l w
+      s0 = at d place ks (word p ∷ ops) l w
 
       next : Result (List ℕ) → Log → World → State
       next = landed to.named d (place + 1) ks ops

@@ -1,6 +1,6 @@
 -- The code of each expression and of each actual that this version runs does what it means.
-use Rattle.std.proofs.Common.{◌≡◌, ℕ, List, [], ◌∷◌, map, Option, Some, None, true, refl, sym, ap, ◌∙◌, subst}
-use Rattle.std.proofs.lemmas.Bool.{not-true}
+use Rattle.std.proofs.Common.{◌≡◌, ℕ, List, [], ◌∷◌, map, Option, Some, None, Bool, true, false, refl, sym, ap, ◌∙◌, subst}
+use Rattle.std.proofs.lemmas.Bool.{eqb-true, not-true}
 use Rattle.ctl_program.specs.declared.types.Ty.{Ty}
 use Rattle.ctl_program.specs.declared.types.Ty.TheVariants.{Integer, Count, Boolean, Address, Handle, Access, Record}
 use Rattle.ctl_program.specs.declared.expression.Expr.{Expr, roll-Expr, map-Expr, ind-Expr}
@@ -18,8 +18,8 @@ use Rattle.ctl_meaning.specs.Names.{Call, Default, Tools, read_found}
 use Rattle.ctl_meaning.specs.Expressions.{Applied, Naming, Supplied, Valued, actual_step, apply, eval, eval_name, eval_step, operand_step, supply}
 use Rattle.ctl_meaning.proofs.Trees.{actual_roll as supply_roll, eval_roll, operand_roll}
 use Rattle.ctl_code.specs.declared.code.Code.{Code}
-use Rattle.ctl_layout.specs.Parts.{Start, OfVariable, Reached, Variable, Part, Object, any_type, behind_steps, first_position, is_begun}
-use Rattle.ctl_layout.specs.Values.{ActualCode, ValueCode, OperatorCode, actual_code, actuals_run, copied, discriminant, given, missing_value, new, new_copy, new_given, operator_of, operators_run, read, value_code, values_run, reached_by}
+use Rattle.ctl_layout.specs.Parts.{Start, OfVariable, OfRecord, Reached, Variable, Part, Object, Result, any_type, behind_steps, first_position, is_begun}
+use Rattle.ctl_layout.specs.Values.{ActualCode, ValueCode, OperatorCode, actual_code, actuals_run, by_value, call_reached, copied, discriminant, given, is_of, is_result, missing_value, new, new_copy, new_given, operator_of, operators_run, reached_if, read, record_call_code, record_runs, value_code, values_run, reached_by}
 use Rattle.ctl_gen.proofs.Known.{IsScalar, both_true, plain_if, scalar_elementary, scalar_if}
 use Rattle.ctl_gen.proofs.Worlds.{Since}
 use Rattle.ctl_gen.proofs.Walked.{behind_is, part_begun, start_of}
@@ -29,10 +29,10 @@ use Rattle.ctl_gen.proofs.Begun.{Starts, value_starts}
 use Rattle.ctl_gen.proofs.Components.{component_value}
 use Rattle.ctl_gen.proofs.Reached.{Reaches, name_finds}
 use Rattle.ctl_layout.proofs.TreeLayers.{value_roll, operator_roll, actual_roll, reached_roll}
-use Rattle.ctl_layout.proofs.Layers.{copied_layer, copied_rolled}
+use Rattle.ctl_layout.proofs.Layers.{access_given, copied_layer, copied_rolled, result_rolled}
 use Rattle.ctl_gen.proofs.Setting.{Setting, Calls, tools_with}
 use Rattle.ctl_gen.proofs.Actuals as A
-use Rattle.ctl_gen.proofs.FunctionCalls.{function_value}
+use Rattle.ctl_gen.proofs.FunctionCalls.{function_record, function_value}
 use Rattle.ctl_gen.proofs.Sources.{Reads, name_reads}
 use Rattle.ctl_gen.proofs.AllocatedValues.{copied_value, given_value, new_value}
 use Rattle.ctl_gen.proofs.Designated.{designating_value}
@@ -59,7 +59,7 @@ module _ (ask : Ask) (k : Tables) (code : Code) (setting : Setting k code) (call
   abbrev pub IsValue : Expr → Type 0
   IsValue e = (value_code e).runs k.records ≡ true → X.Value ask k code bound w0 (value_code e) (eval e K)
 
-  -- what is copied of it is read from a part, if the code of what its name begins with is run
+  -- what is copied of it is read from a part, or given by a function, if the code of what it begins with is run
   abbrev IsCopied : Expr → Type 0
   IsCopied e = (t : ℕ) (x : Reached) → copied t (value_code e) ≡ Some x → is_begun (start_of x) k.records ≡ true → Reads ask k code call default bound w0 t x (eval e)
 
@@ -76,9 +76,13 @@ module _ (ask : Ask) (k : Tables) (code : Code) (setting : Setting k code) (call
   abbrev ActualToo : Type 0
   ActualToo = (a : Actual) × IsActual a
 
-  -- an expression, whose value may be copied
+  -- the code of the value that a name begins with, if it is run
+  abbrev IsStart : Expr → Type 0
+  IsStart e = is_begun (given (value_code e)) k.records ≡ true → Starts ask k code bound w0 (given (value_code e)) (eval e K)
+
+  -- an expression, whose value may be copied, and which a name may begin with
   abbrev IsExpr : Expr → Type 0
-  IsExpr e = IsValue e × IsCopied e
+  IsExpr e = IsValue e × IsCopied e × IsStart e
 
   abbrev ExprToo : Type 0
   ExprToo = (e : Expr) × IsExpr e
@@ -138,7 +142,7 @@ module _ (ask : Ask) (k : Tables) (code : Code) (setting : Setting k code) (call
   allocates access Handle runs = absurd (cc runs)
   allocates access (Access a) runs = new_value ask k code setting call default bound calls w0 access (Access a) tt
 
-  -- with the value of a part
+  -- with the value of a part, or of a function
   copies : (access t : ℕ) (v : ExprToo) (o : Option Reached) → copied t (value_code v.0) ≡ o → Meets (new_copy access t o) (eval_step (Expr-F.New access (Record t) None (Some (eval v.0))))
   copies access t v None is runs = absurd (cc)
   copies access t v (Some x) is runs =
@@ -180,6 +184,7 @@ module _ (ask : Ask) (k : Tables) (code : Code) (setting : Setting k code) (call
 
   reads : (o : Option Reached) (ty : Ty) (act : List ℕ → Act (List ℕ)) (find : Naming) → ((x : Reached) → o ≡ Some x → Reaches K x act (find Elementary K)) → ((x : Reached) → o ≡ Some x → is_begun (start_of x) k.records ≡ true → Starts ask k code bound w0 (start_of x) act) → Meets (read o ty) (eval_step (Expr-F.Read find ty))
   reads None ty act find h begun runs = absurd (cc)
+  reads (Some (Result b)) ty act find h begun runs = absurd (cc)
   reads (Some (Variable v)) ty act find h begun runs = elementary (Some (Variable v)) ty find (scalar_if ty runs) (X.read_value ask k code bound w0 v (find Elementary K) (h (Variable v) refl) ty (scalar_if ty runs))
   reads (Some (Object b steps)) ty act find h begun runs =
       let e = both_true _ _ runs in
@@ -238,11 +243,44 @@ module _ (ask : Ask) (k : Tables) (code : Code) (setting : Setting k code) (call
   expr_rolled (Expr-F.Subpool which n) = missing_rolled (Expr-F.Subpool which n.0) (value_roll (Expr-F.Subpool which n.0))
   expr_rolled (Expr-F.Discriminant n i) = meets (Expr-F.Discriminant n.0 i) _ _ (value_roll (Expr-F.Discriminant n.0 i)) (eval_roll (Expr-F.Discriminant n.0 i)) (discriminates (reached_by n.0) i (given_by n.0 K) (eval_name n.0) (name_leads K n.0) n.1)
 
-  -- the part of the name that it reads
+  -- the call of a function that gives a record
+  call_starts : (f : ℕ) (xs : List ActualToo) (u : ℕ) → record_runs (map actual_code (map (λ z. z.0) xs)) u k.records ≡ true → Starts ask k code bound w0 (OfRecord u (record_runs (map actual_code (map (λ z. z.0) xs)) u) (record_call_code f (map actual_code (map (λ z. z.0) xs)) u)) (eval (roll-Expr (Expr-F.Call f (map (λ z. z.0) xs) (Record u))) K)
+  unfolding eval_step
+  call_starts f xs u runs =
+      let ys = map actual_code (map (λ z. z.0) xs) in
+      let g = both_true _ _ runs in
+      let i = both_true _ _ g.1 in
+      let size = setting.sizes u (plain_if k u g.0).2.laid.is in
+      subst (λ (m : Valued). Starts ask k code bound w0 (OfRecord u (record_runs ys u) (record_call_code f ys u)) (m K)) (sym (eval_roll (Expr-F.Call f (map (λ z. z.0) xs) (Record u))))
+      (function_record ask k code setting call default bound calls w0 f ys (map supply (map (λ z. z.0) xs)) u (record_runs ys u) size (not-true _ i.0) (actuals_too xs i.1))
+
+  called_copied : (f : ℕ) (xs : List ActualToo) (u t : ℕ) (x : Reached) (b : Bool) → is_of t (Some (Record u)) ≡ b → reached_if (call_reached f (map actual_code (map (λ z. z.0) xs)) (Record u)) b ≡ Some x → is_begun (start_of x) k.records ≡ true → Reads ask k code call default bound w0 t x (eval (roll-Expr (Expr-F.Call f (map (λ z. z.0) xs) (Record u))))
+  called_copied f xs u t x false of is begun = absurd (cc is)
+  called_copied f xs u t x true of is begun =
+      let ys = map actual_code (map (λ z. z.0) xs) in
+      let e = roll-Expr (Expr-F.Call f (map (λ z. z.0) xs) (Record u)) in
+      let value = OfRecord u (record_runs ys u) (record_call_code f ys u) in
+      let same : Result value ≡ x = cc is in
+      let runs = subst (λ y. is_begun (start_of y) k.records ≡ true) (sym same) begun in
+      subst (λ y. Reads ask k code call default bound w0 t y (eval e)) same
+      (record { given = eval e K; begun = call_starts f xs u runs; walked = refl; reads = (eqb-true u t of, refl) })
+
+  -- no other value is copied
+  no_copy : {x : Reached} (b : Bool) → reached_if None b ≡ Some x → ⊥
+  no_copy true is = absurd (cc is)
+  no_copy false is = absurd (cc is)
+
+  -- the part of the name that it reads, or that value
   copy_rolled : (y : Expr-F ActualToo ExprToo NameToo OperandToo) (t : ℕ) (x : Reached) → copied_layer t (bare_expr y) ≡ Some x → is_begun (start_of x) k.records ≡ true → Reads ask k code call default bound w0 t x (eval (roll-Expr (bare_expr y)))
   copy_rolled (Expr-F.Read n ty) t x is begun = subst (Reads ask k code call default bound w0 t x) (sym (eval_roll (Expr-F.Read n.0 ty))) (name_reads ask k code call default bound w0 n.0 ty t x is (λ reaches. n.1 x reaches begun))
   copy_rolled (Expr-F.Constant n) t x is begun = absurd (cc is)
-  copy_rolled (Expr-F.Call f xs ty) t x is begun = absurd (cc is)
+  copy_rolled (Expr-F.Call f xs (Record u)) t x is begun = called_copied f xs u t x (is_of t (Some (Record u))) refl is begun
+  copy_rolled (Expr-F.Call f xs Integer) t x is begun = absurd (no_copy (is_of t (Some Integer)) is)
+  copy_rolled (Expr-F.Call f xs Count) t x is begun = absurd (no_copy (is_of t (Some Count)) is)
+  copy_rolled (Expr-F.Call f xs Boolean) t x is begun = absurd (no_copy (is_of t (Some Boolean)) is)
+  copy_rolled (Expr-F.Call f xs Address) t x is begun = absurd (no_copy (is_of t (Some Address)) is)
+  copy_rolled (Expr-F.Call f xs Handle) t x is begun = absurd (no_copy (is_of t (Some Handle)) is)
+  copy_rolled (Expr-F.Call f xs (Access a)) t x is begun = absurd (no_copy (is_of t (Some (Access a))) is)
   copy_rolled (Expr-F.Unary op ty e) t x is begun = absurd (cc is)
   copy_rolled (Expr-F.Chain e o os) t x is begun = absurd (cc is)
   copy_rolled (Expr-F.Short form e f es) t x is begun = absurd (cc is)
@@ -252,8 +290,39 @@ module _ (ask : Ask) (k : Tables) (code : Code) (setting : Setting k code) (call
   copy_rolled (Expr-F.Subpool which n) t x is begun = absurd (cc is)
   copy_rolled (Expr-F.Discriminant n i) t x is begun = absurd (cc is)
 
+  -- any other value is put as one cell
+  access_starts : (e : Expr) → is_result (value_code e).reached ≡ false → IsValue e → IsStart e
+  access_starts e none value h =
+      let is = access_given (value_code e) none in
+      let runs = subst (λ b. is_begun b k.records ≡ true) is h in
+      subst (λ b. Starts ask k code bound w0 b (eval e K)) (sym is) (value_starts ask k code bound w0 (value_code e).runs (value_code e) (eval e K) (value runs))
+
+  start_rolled : (y : Expr-F ActualToo ExprToo NameToo OperandToo) → IsValue (roll-Expr (bare_expr y)) → IsStart (roll-Expr (bare_expr y))
+  start_rolled (Expr-F.Call f xs (Record u)) value =
+      let y = Expr-F.Call f (map (λ z. z.0) xs) (Record u) in
+      subst (λ (x : ValueCode). is_begun (given x) k.records ≡ true → Starts ask k code bound w0 (given x) (eval (roll-Expr y) K)) (sym (value_roll y)) (call_starts f xs u)
+  start_rolled (Expr-F.Call f xs Integer) value = access_starts _ (result_rolled (Expr-F.Call f (map (λ z. z.0) xs) Integer)) value
+  start_rolled (Expr-F.Call f xs Count) value = access_starts _ (result_rolled (Expr-F.Call f (map (λ z. z.0) xs) Count)) value
+  start_rolled (Expr-F.Call f xs Boolean) value = access_starts _ (result_rolled (Expr-F.Call f (map (λ z. z.0) xs) Boolean)) value
+  start_rolled (Expr-F.Call f xs Address) value = access_starts _ (result_rolled (Expr-F.Call f (map (λ z. z.0) xs) Address)) value
+  start_rolled (Expr-F.Call f xs Handle) value = access_starts _ (result_rolled (Expr-F.Call f (map (λ z. z.0) xs) Handle)) value
+  start_rolled (Expr-F.Call f xs (Access a)) value = access_starts _ (result_rolled (Expr-F.Call f (map (λ z. z.0) xs) (Access a))) value
+  start_rolled (Expr-F.Read n ty) value = access_starts _ (result_rolled (Expr-F.Read n.0 ty)) value
+  start_rolled (Expr-F.Constant n) value = access_starts _ (result_rolled (Expr-F.Constant n)) value
+  start_rolled (Expr-F.Unary op ty e) value = access_starts _ (result_rolled (Expr-F.Unary op ty e.0)) value
+  start_rolled (Expr-F.Chain e o os) value = access_starts _ (result_rolled (Expr-F.Chain e.0 o.0 (map (λ z. z.0) os))) value
+  start_rolled (Expr-F.Short form e f es) value = access_starts _ (result_rolled (Expr-F.Short form e.0 f.0 (map (λ z. z.0) es))) value
+  start_rolled (Expr-F.Convert ty e) value = access_starts _ (result_rolled (Expr-F.Convert ty e.0)) value
+  start_rolled (Expr-F.Access v) value = access_starts _ (result_rolled (Expr-F.Access v)) value
+  start_rolled (Expr-F.New access ty None None) value = access_starts _ (result_rolled (Expr-F.New access ty None None)) value
+  start_rolled (Expr-F.New access ty None (Some v)) value = access_starts _ (result_rolled (Expr-F.New access ty None (Some v.0))) value
+  start_rolled (Expr-F.New access ty (Some h) None) value = access_starts _ (result_rolled (Expr-F.New access ty (Some h.0) None)) value
+  start_rolled (Expr-F.New access ty (Some h) (Some v)) value = access_starts _ (result_rolled (Expr-F.New access ty (Some h.0) (Some v.0))) value
+  start_rolled (Expr-F.Subpool which n) value = access_starts _ (result_rolled (Expr-F.Subpool which n.0)) value
+  start_rolled (Expr-F.Discriminant n i) value = access_starts _ (result_rolled (Expr-F.Discriminant n.0 i)) value
+
   expr_too : (y : Expr-F ActualToo ExprToo NameToo OperandToo) → IsExpr (roll-Expr (bare_expr y))
-  expr_too y = (expr_rolled y, λ t x is. copy_rolled y t x (sym (copied_rolled t (bare_expr y)) ∙ is))
+  expr_too y = (expr_rolled y, λ t x is. copy_rolled y t x (sym (copied_rolled t (bare_expr y)) ∙ is), start_rolled y (expr_rolled y))
 
   operand_rolled : (y : Operand-F ActualToo ExprToo NameToo OperandToo) → IsOperator (roll-Operand (bare_operand y))
   unfolding operand_step
@@ -271,13 +340,20 @@ module _ (ask : Ask) (k : Tables) (code : Code) (setting : Setting k code) (call
   passing : (y : Actual-F Actual Expr Name Operand) (x : ActualCode) (m : Supplied) → actual_code (roll-Actual y) ≡ x → supply (roll-Actual y) ≡ m → Passing x m → IsActual (roll-Actual y)
   passing y x m same means h = subst (λ z. Passing z (supply (roll-Actual y))) (sym same) (subst (Passing x) (sym means) h)
 
+  -- a value
+  value_passes : (e : ExprToo) (ty : Ty) → Passing (by_value (value_code e.0) ty) (actual_step (Actual-F.ByValue (eval e.0) ty))
+  unfolding actual_step
+  value_passes e (Record t) runs = A.record_passes ask k code setting call default bound w0 (value_code e.0) (eval e.0 K) t e.1.2 runs
+  value_passes e Integer runs = let g = both_true _ _ runs in A.value_passes ask k code setting call default bound w0 (value_code e.0) (eval e.0 K) Integer (scalar_if Integer g.0) (e.1.0 g.1)
+  value_passes e Count runs = let g = both_true _ _ runs in A.value_passes ask k code setting call default bound w0 (value_code e.0) (eval e.0 K) Count (scalar_if Count g.0) (e.1.0 g.1)
+  value_passes e Boolean runs = let g = both_true _ _ runs in A.value_passes ask k code setting call default bound w0 (value_code e.0) (eval e.0 K) Boolean (scalar_if Boolean g.0) (e.1.0 g.1)
+  value_passes e Address runs = let g = both_true _ _ runs in A.value_passes ask k code setting call default bound w0 (value_code e.0) (eval e.0 K) Address (scalar_if Address g.0) (e.1.0 g.1)
+  value_passes e Handle runs = let g = both_true _ _ runs in A.value_passes ask k code setting call default bound w0 (value_code e.0) (eval e.0 K) Handle (scalar_if Handle g.0) (e.1.0 g.1)
+  value_passes e (Access a) runs = let g = both_true _ _ runs in A.value_passes ask k code setting call default bound w0 (value_code e.0) (eval e.0 K) (Access a) (scalar_if (Access a) g.0) (e.1.0 g.1)
+
   actual_rolled : (y : Actual-F ActualToo ExprToo NameToo OperandToo) → IsActual (roll-Actual (bare_actual y))
   unfolding actual_step
-  actual_rolled (Actual-F.ByValue e ty) =
-      passing (Actual-F.ByValue e.0 ty) _ _ (actual_roll (Actual-F.ByValue e.0 ty)) (supply_roll (Actual-F.ByValue e.0 ty))
-      (λ h.
-      let g = both_true _ _ h in
-      A.value_passes ask k code setting call default bound w0 (value_code e.0) (eval e.0 K) ty (scalar_if ty g.0) (e.1.0 g.1))
+  actual_rolled (Actual-F.ByValue e ty) = passing (Actual-F.ByValue e.0 ty) _ _ (actual_roll (Actual-F.ByValue e.0 ty)) (supply_roll (Actual-F.ByValue e.0 ty)) (value_passes e ty)
   actual_rolled (Actual-F.Part n ty) = passing (Actual-F.Part n.0 ty) _ _ (actual_roll (Actual-F.Part n.0 ty)) (supply_roll (Actual-F.Part n.0 ty)) (A.reference_passes ask k code setting call default bound w0 (reached_by n.0) ty (given_by n.0 K) (eval_name n.0) (name_leads K n.0) n.1)
   actual_rolled (Actual-F.Copied n ty begins) = passing (Actual-F.Copied n.0 ty begins) _ _ (actual_roll (Actual-F.Copied n.0 ty begins)) (supply_roll (Actual-F.Copied n.0 ty begins)) (A.copy_passes ask k code setting call default bound w0 (reached_by n.0) ty begins (given_by n.0 K) (eval_name n.0) (name_finds K n.0) n.1)
 
@@ -287,7 +363,7 @@ module _ (ask : Ask) (k : Tables) (code : Code) (setting : Setting k code) (call
 
   name_rolled : (y : Name-F ActualToo ExprToo NameToo OperandToo) (x : Reached) → reached_by (roll-Name (bare_name y)) ≡ Some x → is_begun (start_of x) k.records ≡ true → Starts ask k code bound w0 (start_of x) (given_layer (bare_name y) K)
   name_rolled (Name-F.Variable v ss) x is = starts_with (OfVariable v) ss x _ (sym (reached_roll (Name-F.Variable v ss)) ∙ is) (λ h. tt)
-  name_rolled (Name-F.Given e ss) x is = starts_with (given (value_code e.0)) ss x _ (sym (reached_roll (Name-F.Given e.0 ss)) ∙ is) (λ h. value_starts ask k code bound w0 (value_code e.0) (eval e.0 K) (e.1.0 h))
+  name_rolled (Name-F.Given e ss) x is = starts_with (given (value_code e.0)) ss x _ (sym (reached_roll (Name-F.Given e.0 ss)) ∙ is) e.1.2
 
   name_too : (y : Name-F ActualToo ExprToo NameToo OperandToo) → IsName (roll-Name (bare_name y))
   name_too y x is h = subst (λ z. Starts ask k code bound w0 (start_of x) (given_layer z K)) (sym (layer_is (bare_name y))) (name_rolled y x is h)
@@ -306,6 +382,9 @@ module _ (ask : Ask) (k : Tables) (code : Code) (setting : Setting k code) (call
 
   pub copied_means : (e : Expr) → IsCopied e
   copied_means e = (expr_means e).1
+
+  pub start_means : (e : Expr) → IsStart e
+  start_means e = (expr_means e).2
 
   -- a name, whose part is a whole tree
   name_means : (y : Name-F Actual Expr Name Operand) (x : Reached) → reached_by (roll-Name y) ≡ Some x → is_begun (start_of x) k.records ≡ true → Starts ask k code bound w0 (start_of x) (given_layer y K)

@@ -1,5 +1,7 @@
 -- The code of each statement and of each master that this version runs does what it means.
-use Rattle.std.proofs.Common.{◌≡◌, ℕ, ◌+◌, List, [], ◌∷◌, map, Option, Some, None, true, false, refl, sym, ap, ◌∙◌, subst, arith, option_map}
+use Rattle.std.proofs.Common.{◌≡◌, ℕ, ◌+◌, List, [], ◌∷◌, map, Option, Some, None, true, false, inl, inr, refl, sym, ap, ◌∙◌, subst, arith, option_map}
+use Rattle.ctl_program.specs.declared.types.Ty.{Ty}
+use Rattle.ctl_program.specs.declared.types.Ty.TheVariants.{Integer, Count, Boolean, Address, Handle, Access, Record}
 use Rattle.ctl_program.specs.declared.expression.Actual.{Actual}
 use Rattle.ctl_program.specs.declared.expression.Expr.{Expr}
 use Rattle.ctl_program.specs.declared.expression.Name.{Name}
@@ -22,9 +24,10 @@ use Rattle.ctl_code.specs.declared.code.Code.{Code}
 use Rattle.ctl_code.specs.declared.code.Instr.TheVariants as InstrOf
 use Rattle.ctl_code.specs.declared.code.Way.TheVariants as WayOf
 use Rattle.ctl_code.specs.Table.{caught_in}
-use Rattle.ctl_layout.specs.Parts.{Reached, Variable, Part, Object, any_type, first_position, is_begun}
-use Rattle.ctl_layout.specs.Values.{value_code, value_type, reached_by, sourced}
-use Rattle.ctl_layout.specs.Layout.{StatementCode, all, all_items, arm_code, assign, assign_record, call as call_code, call_nothing, dropped_code, record_code, exit, free as free_code, handled, handler_code, return, inside, item_code, library_allocate, library_deallocate, master_code, missing_statement, statement_code, leaves_code}
+use Rattle.ctl_layout.specs.Parts.{Reached, Variable, Part, Object, Result, any_type, first_position, is_begun}
+use Rattle.ctl_layout.specs.Records.{is_run_type}
+use Rattle.ctl_layout.specs.Values.{copied, value_code, value_type, reached_by, sourced}
+use Rattle.ctl_layout.specs.Layout.{StatementCode, all, all_items, arm_code, assign, assign_record, call as call_code, call_nothing, dropped_code, record_code, exit, free as free_code, handled, handler_code, return, return_of, return_record, inside, item_code, library_allocate, library_deallocate, master_code, missing_statement, statement_code, leaves_code}
 use Rattle.ctl_layout.specs.Values.{actual_code}
 use Rattle.ctl_gen.proofs.Known.{both_true, plain_if}
 use Rattle.ctl_layout.proofs.TreeLayers.{handler_roll, arm_roll, master_roll, statement_roll}
@@ -33,20 +36,20 @@ use Rattle.ctl_gen.proofs.Parted.{GivesDefaults}
 use Rattle.ctl_gen.proofs.Worlds.{Kept}
 use Rattle.ctl_gen.proofs.Cells.{by_code}
 use Rattle.ctl_gen.proofs.Expressions.{Value}
-use Rattle.ctl_gen.proofs.Evaluated.{actuals_mean, name_starts, value_means}
+use Rattle.ctl_gen.proofs.Evaluated.{actuals_mean, copied_means, name_starts, start_means, value_means}
 use Rattle.ctl_gen.proofs.Reached.{Reaches, name_finds}
 use Rattle.ctl_gen.proofs.Components.{part_does}
-use Rattle.ctl_gen.proofs.Parts.{Leads, agree_part, agree_run, composite_leads, find_by, given_by, name_leads}
+use Rattle.ctl_gen.proofs.Parts.{Leads, agree_part, agree_run, composite_leads, given_by, name_leads}
 use Rattle.ctl_gen.proofs.LastSteps.{itself, itself_ends, selected, selector_ends}
 use Rattle.ctl_gen.proofs.Begun.{Starts}
-use Rattle.ctl_gen.proofs.Walked.{part_begun, start_of, steps_of}
-use Rattle.ctl_gen.proofs.Sources.{IsSource, source_means}
+use Rattle.ctl_gen.proofs.Walked.{part_begun, start_of}
+use Rattle.ctl_gen.proofs.Sources.{IsGivenBy, IsSource, source_means}
 use Rattle.ctl_gen.proofs.RecordAssign.{record_does}
 use Rattle.ctl_gen.proofs.ExplicitCalls.{nothing_does}
 use Rattle.ctl_gen.proofs.Freeing.{part_freed_does, variable_freed_does}
 use Rattle.ctl_gen.proofs.LibraryCalls.{library_allocate_does, library_deallocate_does, part_allocated_does}
 use Rattle.ctl_gen.proofs.Calls.{call_does}
-use Rattle.ctl_gen.proofs.Returns.{return_runs}
+use Rattle.ctl_gen.proofs.Returns.{record_returns, return_runs}
 use Rattle.ctl_gen.proofs.Assign.{assign_runs}
 use Rattle.ctl_gen.proofs.Texts.{print_runs}
 use Rattle.ctl_gen.proofs.Branches.{only_if_runs, paid}
@@ -136,6 +139,7 @@ module _ (ask : Ask) (k : Tables) (code : Code) (setting : Setting k code) (call
 
   assign_does : (o : Option Reached) (act : List ℕ → Act (List ℕ)) (find : Naming) (e : Expr) → ((x : Reached) → o ≡ Some x → Reaches K x act (find Elementary K)) → Begins o act → Performs (assign o (value_code e)) (assign_doing find (eval e))
   unfolding assign_doing
+  assign_does (Some (Result b)) act find e reaches begun runs n texts = absurd (cc)
   assign_does None act find e reaches begun runs n texts = absurd (cc)
   assign_does (Some (Variable v)) act find e reaches begun runs n texts = assign_runs ask k code setting.valid bound v (find Elementary K) (reaches (Variable v) refl) (value_code e) (eval e K) (means e runs.1)
   assign_does (Some (Object b steps)) act find e reaches begun runs n texts =
@@ -151,6 +155,13 @@ module _ (ask : Ask) (k : Tables) (code : Code) (setting : Setting k code) (call
       let agree = agree_run k code setting.places b steps t h.0 in
       part_does ask k code call default b act steps t position agree.0 (selected k code t position (agree.1 position)) g.0 bound (value_code e) (eval e K) (means e h.1) (begun x refl (both_true _ _ h.0).0) (find Elementary K) (selector_ends K code t position (agree.1 position) act steps b (find Elementary K) g.1)
 
+  -- what is copied begins with a name, or is the value of a function
+  source_begins : (y : Reached) (act : List ℕ → Act (List ℕ)) → IsGivenBy K y act → is_begun (start_of y) k.records ≡ true → (w0 : World) → Starts ask k code bound w0 (start_of y) act
+  source_begins y act (inl (n, is, same)) begun w0 = subst (Starts ask k code bound w0 (start_of y)) (sym same) (begins n y is begun w0)
+  source_begins y act (inr (e, start, same)) begun w0 =
+      subst (Starts ask k code bound w0 (start_of y)) (sym same)
+      (subst (λ b. Starts ask k code bound w0 b (eval e K)) (sym start) (start_means ask k code setting call default bound calls w0 e (subst (λ b. is_begun b k.records ≡ true) start begun)))
+
   record_assign_does : (o : Option Reached) (t : ℕ) (q : Option Reached) (act : List ℕ → Act (List ℕ)) (find : Naming) (m : Supplied) → ((x : Reached) → o ≡ Some x → Leads K x act find) → Begins o act → ((y : Reached) → q ≡ Some y → IsSource K y m) → Performs (assign_record o t q) (assign_part find t m)
   unfolding assign_part
   record_assign_does None t q act find m target begun source runs n texts = absurd (cc)
@@ -162,13 +173,13 @@ module _ (ask : Ask) (k : Tables) (code : Code) (setting : Setting k code) (call
       let to = target x refl in
       let from = source y refl in
       let first = begun x refl (part_begun k.records x h.0) in
-      let second = begins from.name y from.reaches (part_begun k.records y g.0) in
+      let second = source_begins y from.given from.by (part_begun k.records y g.0) in
       subst (λ (find1 : List ℕ → Act Found). DoesIn 0 ask k code bound (λ a. record_code x t y a.stack) (λ d caught. ticked (find1 d >>= (λ f. m.source K d >>= assign_found K d t f)))) (sym (composite_leads K x act find to))
-      (subst (λ (find2 : List ℕ → Act Found). DoesIn 0 ask k code bound (λ a. record_code x t y a.stack) (λ d caught. ticked (find_by K act (steps_of x) (start_of x) d >>= (λ f. find2 d >>= assign_found K d t f)))) (sym from.finds)
-      (record_does ask k code setting call default constants t known bound calls x act y (given_by from.name K) first second to.walked from.walked h.0 g.0))
+      (record_does ask k code setting call default constants t known bound calls x act y from.given first second to.walked from.walked h.0 g.0 (m.source K) from.ticks from.finds)
 
   free_does : (access : ℕ) (o : Option Reached) (act : List ℕ → Act (List ℕ)) (find : Naming) → ((x : Reached) → o ≡ Some x → Reaches K x act (find Elementary K)) → Begins o act → Performs (free_code access o) (free_object_of access find)
   unfolding free_object_of
+  free_does access (Some (Result b)) act find reaches begun runs n texts = absurd (cc)
   free_does access None act find reaches begun runs n texts = absurd (cc)
   free_does access (Some (Variable v)) act find reaches begun runs n texts = variable_freed_does ask k code setting call default constants bound calls access v (find Elementary K) (reaches (Variable v) refl)
   free_does access (Some (Object b steps)) act find reaches begun runs n texts =
@@ -187,6 +198,7 @@ module _ (ask : Ask) (k : Tables) (code : Code) (setting : Setting k code) (call
   block_taken None q act held pool address size alignment leads reaches begun runs n texts = absurd (cc)
   block_taken (Some (Part b steps t position)) q act held pool address size alignment leads reaches begun runs n texts = absurd (cc)
   block_taken (Some (Object b steps)) q act held pool address size alignment leads reaches begun runs n texts = absurd (cc)
+  block_taken (Some (Result b)) q act held pool address size alignment leads reaches begun runs n texts = absurd (cc)
   block_taken (Some (Variable p)) None act held pool address size alignment leads reaches begun runs n texts = absurd (cc)
   block_taken (Some (Variable p)) (Some (Part b steps t position)) act held pool address size alignment leads reaches begun runs n texts =
       let x = Part b steps t position in
@@ -195,6 +207,7 @@ module _ (ask : Ask) (k : Tables) (code : Code) (setting : Setting k code) (call
       let f = both_true _ _ h.1 in
       let agree = agree_run k code setting.places b steps t h.0 in
       part_allocated_does ask k code call default bound p act pool (leads (Variable p) refl) b held (begun x refl (both_true _ _ h.0).0) steps t position agree.0 (selected k code t position (agree.1 position)) g.0 address (selector_ends K code t position (agree.1 position) held steps b (address Elementary K) g.1) (value_code size) (value_code alignment) (eval size) (eval alignment) (means size f.0) (means alignment (both_true _ _ f.1).0)
+  block_taken (Some (Variable p)) (Some (Result b)) act held pool address size alignment leads reaches begun runs n texts = absurd (cc)
   block_taken (Some (Variable p)) (Some (Object b steps)) act held pool address size alignment leads reaches begun runs n texts =
       let x = Object b steps in
       let g = reaches x refl in
@@ -211,6 +224,7 @@ module _ (ask : Ask) (k : Tables) (code : Code) (setting : Setting k code) (call
   block_given None act pool address size alignment leads runs n texts = absurd (cc)
   block_given (Some (Part b steps t position)) act pool address size alignment leads runs n texts = absurd (cc)
   block_given (Some (Object b steps)) act pool address size alignment leads runs n texts = absurd (cc)
+  block_given (Some (Result b)) act pool address size alignment leads runs n texts = absurd (cc)
   block_given (Some (Variable p)) act pool address size alignment leads runs n texts =
       let h = both_true _ _ runs.1 in
       let g = both_true _ _ h.1 in
@@ -238,10 +252,29 @@ module _ (ask : Ask) (k : Tables) (code : Code) (setting : Setting k code) (call
   exit_does None runs n texts = paid ask k code bound leaves_code (λ d caught. leave_by ByExit) exits
   exit_does (Some e) runs n texts = only_if_runs ask k code bound (value_code e) (eval e K) (means e runs.1) leaves_code (λ d caught. leave_by ByExit) exits
 
+  -- with the value of a record, of a part or of a function
+  record_return : (e : Expr) (t : ℕ) (o : Option Reached) → copied t (value_code e) ≡ o → Performs (return_record t o) (return_doing (Some (eval e)))
+  unfolding return_doing
+  record_return e t None is runs n texts = absurd (cc)
+  record_return e t (Some x) is runs n texts =
+      let h = both_true _ _ runs.1 in
+      record_returns ask k code setting call default t (plain_if k t h.0) bound x e h.1 (λ w0. copied_means ask k code setting call default bound calls w0 e t x is (part_begun k.records x h.1))
+
+  -- with a value of this type
+  return_with : (e : Expr) (ty : Ty) → Performs (return_of ty (value_code e)) (return_doing (Some (eval e)))
+  unfolding return_doing
+  return_with e (Record t) runs n texts = record_return e t (copied t (value_code e)) refl runs n texts
+  return_with e Integer runs n texts = return_runs ask k code bound Integer (value_code e) (eval e K) (means e (both_true (is_run_type Integer) ((value_code e).runs k.records) runs.1).1)
+  return_with e Count runs n texts = return_runs ask k code bound Count (value_code e) (eval e K) (means e (both_true (is_run_type Count) ((value_code e).runs k.records) runs.1).1)
+  return_with e Boolean runs n texts = return_runs ask k code bound Boolean (value_code e) (eval e K) (means e (both_true (is_run_type Boolean) ((value_code e).runs k.records) runs.1).1)
+  return_with e Address runs n texts = return_runs ask k code bound Address (value_code e) (eval e K) (means e (both_true (is_run_type Address) ((value_code e).runs k.records) runs.1).1)
+  return_with e Handle runs n texts = return_runs ask k code bound Handle (value_code e) (eval e K) (means e (both_true (is_run_type Handle) ((value_code e).runs k.records) runs.1).1)
+  return_with e (Access a) runs n texts = return_runs ask k code bound (Access a) (value_code e) (eval e K) (means e (both_true (is_run_type (Access a)) ((value_code e).runs k.records) runs.1).1)
+
   return_does : (o : Option Expr) → Performs (return (option_map value_code o)) (return_doing (option_map eval o))
   unfolding return_doing opened_outcome
   return_does None runs n texts = λ a w0 d place ks ops c l w le fits sees has. last_step ask code (Kept k code w0) 0 0 _ c 1 (arrives (lands a place) d (place + 1) ks ops) (Leaves (ByReturn [])) l w (omega arith) fits (by_code ask code d place ks ops l w (InstrOf.Transfer WayOf.Return) has.0)
-  return_does (Some e) runs n texts = return_runs ask k code bound (value_type (value_code e)) (value_code e) (eval e K) (means e (both_true _ _ runs.1).1)
+  return_does (Some e) runs n texts = return_with e (value_type (value_code e)) runs n texts
 
   stmt_rolled : (y : Stmt-F StmtToo ArmToo HandlerToo MasterToo) → Does (roll-Stmt (bare_stmt y))
   unfolding null_doing put put_line new_line raise_new raise_again loop_plainly loop_while loop_for opened_outcome

@@ -9,7 +9,6 @@ use Rattle.ctl_meaning.specs.Names.{Found, Call, Default, Tools}
 use Rattle.ctl_code.specs.declared.code.Instr.TheVariants as InstrOf
 use Rattle.ctl_code.specs.declared.code.Code.{Code}
 use Rattle.ctl_code.specs.declared.kinds.Kind.TheVariants.{Operand}
-use Rattle.ctl_code.specs.States.{Located}
 use Rattle.ctl_layout.specs.Around.{Line}
 use Rattle.ctl_layout.specs.Parts.{Reached, any_type, are_followed, part_code, part_runs}
 use Rattle.ctl_layout.specs.Layout.{dropped_code}
@@ -17,7 +16,7 @@ use Rattle.ctl_gen.proofs.Worlds.{Since, Kept}
 use Rattle.ctl_gen.proofs.Setting.{Setting, seen, tools_with}
 use Rattle.ctl_gen.proofs.Cells.{by_code}
 use Rattle.ctl_gen.proofs.Place.{laid_front, laid_back}
-use Rattle.ctl_gen.proofs.Parts.{agree_part, find_by, found_at}
+use Rattle.ctl_gen.proofs.Parts.{agree_part, find_by, found_at, word}
 use Rattle.ctl_gen.proofs.Begun.{Starts, part_then}
 use Rattle.ctl_gen.proofs.Walked.{start_of, steps_before, steps_of}
 use Rattle.ctl_gen.proofs.Does.{Does}
@@ -39,6 +38,6 @@ module _ (ask : Ask) (k : Tables) (code : Code) (setting : Setting k code) (call
       let end : place + length front + 1 ≡ place + length (dropped_code x s) = omega (arith, length-append front last) in
       added ask code (Kept k code w0) 1 6 6 0 0 _ c next _ (omega arith) (omega arith)
       (part_then ask k code bound w0 call default (λ r. Since k code w0) next after d ks ops 6 6 x act (begun w0) any_type s place c l w walked (agree_part k code setting.places x runs) le fits (seen sees) (laid_front code place front last has)
-      (λ c1 l1 w1 lo fits1 part. subst (λ q. Runs ask code (Kept k code w0) 6 6 (at d (place + length front) ks (Located part ∷ ops) l1 w1) c1 (arrives (lands a place) d q ks ops) (after (Goes (found_at part)) c1 l1 w1)) end
-      (last_step ask code (Kept k code w0) 6 6 _ c1 0 (arrives (lands a place) d (place + length front + 1) ks ops) (Goes tt) l1 w1 (omega arith) fits1 (by_code ask code d (place + length front) ks (Located part ∷ ops) l1 w1 (InstrOf.DropPart any_type) (laid_back code place front last has).0)))
+      (λ c1 l1 w1 lo fits1 part. subst (λ q. Runs ask code (Kept k code w0) 6 6 (at d (place + length front) ks (word part ∷ ops) l1 w1) c1 (arrives (lands a place) d q ks ops) (after (Goes (found_at part)) c1 l1 w1)) end
+      (last_step ask code (Kept k code w0) 6 6 _ c1 0 (arrives (lands a place) d (place + length front + 1) ks ops) (Goes tt) l1 w1 (omega arith) fits1 (by_code ask code d (place + length front) ks (word part ∷ ops) l1 w1 (InstrOf.DropPart any_type) (laid_back code place front last has).0)))
       (λ z c1 l1 w1 lo fits1. no_step ask code (Kept k code w0) 6 6 _ c1 0 next (Leaves (ByRaise z)) l1 w1 fits1 refl))

@@ -2,7 +2,7 @@
 -- operands (6.2, 6.4.1).
 use Rattle.std.proofs.Common.{◌≡◌, ℕ, zero, suc, ◌+◌, ◌-◌, List, [], ◌∷◌, ◌++◌, length, Option, Some, None, false, refl, sym, ap, ◌∙◌, arith, length-append, append-nil}
 use Rattle.std.specs.Prelude.{drop, ◌||◌, is_some}
-use Rattle.ctl_meaning.specs.World.{Content, Binds, Slot}
+use Rattle.ctl_meaning.specs.World.{Content, Binds, Copies, Slot}
 use Rattle.ctl_meaning.specs.Finalization.{Spot}
 use Rattle.ctl_meaning.specs.Activations.{master_of}
 use Rattle.ctl_meaning.specs.Names.{InObject, InVariable, Found}
@@ -19,7 +19,7 @@ use Rattle.ctl_gen.proofs.Worlds.{IsPlainSlot}
 
 -- Formals -----------------------------------------------------------------------------------------
 
--- what a formal begins with is no copy and no collection
+-- what a formal begins with is no collection
 formal_plain : (x : Word) → IsPlainSlot (formal_of x)
 formal_plain (Scalar n) = tt
 formal_plain (Located p) = tt
@@ -32,6 +32,7 @@ formal x back = record { slot = formal_of x; back = back }
 -- the operand that a formal took, whose slot holds this
 abbrev word_in : Content → ℕ → Word
 word_in (Binds n offset path) v = Located (record { object = n; offset = offset; path = path })
+word_in (Copies x) v = Cells x
 word_in _ v = Scalar v
 
 abbrev pub word_of : Slot → Word

@@ -1,7 +1,7 @@
 -- The code of a call is well formed where its actuals are: each of them is a new operand, the call takes them all, and copies go back from
 -- what it leaves (6.4, 6.4.1).
 use Rattle.std.proofs.Common.{◌≡◌, ℕ, zero, suc, ◌+◌, ◌-◌, ◌≤◌, ◌<◌, List, [], ◌∷◌, ◌++◌, drop, length, Option, Some, None, Bool, true, false, refl, sym, ap, ◌∙◌, subst, arith, inl}
-use Rattle.std.specs.Prelude.{if◌then◌else◌, slice_get}
+use Rattle.std.specs.Prelude.{if◌then◌else◌, slice_get, ◌&&◌}
 use Rattle.ctl_program.specs.declared.types.Ty.{Ty}
 use Rattle.ctl_program.specs.declared.types.Ty.TheVariants.{Integer, Count, Boolean, Address, Handle, Access, Record}
 use Rattle.ctl_program.specs.declared.types.RecordType.{RecordType}
@@ -26,18 +26,18 @@ use Rattle.ctl_code.specs.Valid as Valid
 use Rattle.ctl_code.specs.Valid.{HasFormals, HaveNumbers, HaveOperands, IsCalled, IsCellOf, IsFine, IsInScope, Leads, over_numbers}
 use Rattle.ctl_code.proofs.Numbered.{below_over, have_over, numbers_end}
 use Rattle.ctl_layout.specs.Around.{new_operand, out_to}
-use Rattle.ctl_layout.specs.Parts.{Reached, Object, Part, Start, Variable, any_type, are_followed, first_position, located_code, part_runs, parts_run}
+use Rattle.ctl_layout.specs.Parts.{OfRecord, OfValue, OfVariable, Reached, Object, Part, Result, Start, Variable, any_type, first_position, located_code, part_runs, parts_run}
 use Rattle.ctl_layout.specs.Records.{is_run_type}
 use Rattle.ctl_layout.specs.Layout.{calls_code}
 use Rattle.ctl_layout.specs.declared.copies.Back.{Back}
 use Rattle.ctl_layout.specs.declared.copies.Back.TheVariants as BackOf
-use Rattle.ctl_layout.specs.Values.{ActualCode, ValueCode, actuals_code, numbers_in, numbers_of, reserved_code, keeping_code, kept_code, back_to, backs_code, begins_code, by_copy, by_reference, by_value, copied_back, copies_code, copies_of, evaluates_code, function_call, goes_back, moved_to, read, with_actuals}
+use Rattle.ctl_layout.specs.Values.{ActualCode, ValueCode, actuals_code, numbers_in, numbers_of, reserved_code, keeping_code, kept_code, back_to, backs_code, begins_code, by_copy, by_reference, by_value, copied_back, copies_code, copies_of, evaluates_code, function_call, goes_back, moved_to, copied, read, record_call_code, result_of, with_actuals}
 use Rattle.ctl_layout.proofs.Extensions.{both_true}
 use Rattle.ctl_gen.specs.Emitted.{taking_actuals}
 use Rattle.ctl_gen.proofs.EmittedCalls.{actuals_left, height_over, none_kept}
 use Rattle.ctl_gen.proofs.Formed.{Behind, Formed, both, none, one}
 use Rattle.ctl_gen.proofs.FormedAround.{Agrees, Granted, IsNamed, agrees_over, granted_home}
-use Rattle.ctl_gen.proofs.FormedParts.{IsBegun, IsFound, located_formed, part_formed}
+use Rattle.ctl_gen.proofs.FormedParts.{Follows, IsBegun, IsFound, IsFoundAt, located_formed, part_formed}
 use Rattle.ctl_gen.proofs.Walked.{part_begun}
 use Rattle.ctl_gen.proofs.FormedTypes.{run_scalar}
 use Rattle.ctl_gen.proofs.FormedValues.{Fine, IsMade, Own, Usable, moved_formed, own_as, puts, read_own, usable_as, with_put}
@@ -297,19 +297,46 @@ module _ (code : Code) (env : W.Frames) where
         constant = λ n is. absurd (cc);
       })
 
+  -- that of one that gives a record
+  pub record_call_formed : (f : ℕ) (actuals : List ActualCode) (t : ℕ) (s : List Kind) → Agrees code env s → IsInScope code (length env) (Some f) → Granted code env (DeclarationOf.Subprogram f) → HasFormals code Function f (length actuals) → goes_back actuals ≡ false → GoodActuals code env actuals → Formed code (record_call_code f actuals t s) s (Some (Operand (Record t) ∷ s))
+  record_call_formed f actuals t s agrees scope granted formals none_back good =
+      let left = sym (actuals_left actuals s) in
+      taking_formed (InstrOf.EvaluateRecord f (length actuals) t (height s)) actuals s (Some (Operand (Record t) ∷ s)) agrees (reserved_none actuals s none_back) good
+      (λ p next. (called Function f actuals s agrees scope granted formals, ap height left, subst (λ r. Leads code (p + 1) (Operand (Record t) ∷ r)) left next))
+
   -- Actuals ----------------------------------------------------------------------------------------
 
   module _ (records : List RecordType) where
-    pub value_good : (x : ValueCode) (k : W.Setting) (t s : Ty) → Covers k t s → (x.runs records ≡ true → Fine code env x s) → (by_value x t).runs records ≡ true → GoodActual code env (by_value x t)
-    value_good x k t s J.same_type fine runs =
+    -- a value of a scalar type
+    scalar_used : (x : ValueCode) (k : W.Setting) (t s : Ty) → Covers k t s → (x.runs records ≡ true → Fine code env x s) → (is_run_type t && x.runs records) ≡ true → Usable code env x t
+    scalar_used x k t s J.same_type fine runs =
         let e = both_true (is_run_type t) (x.runs records) runs in
-        let u : Usable code env x t = usable_as code env x t (run_scalar t e.0) (fine e.1) in
-        (λ over m stack agrees reserved. u.formed (new_operand stack) stack agrees refl, tt)
-    value_good x k t s (J.ancestor descends) fine runs = absurd (cc)
+        usable_as code env x t (run_scalar t e.0) (fine e.1)
+    scalar_used x k t s (J.ancestor descends) fine runs = absurd (cc)
+
+    -- or that of a record, which a function gives
+    result_good : (o : Option Reached) (t : ℕ) → IsFoundAt code env records t o → (by_reference (result_of o) (Record t)).runs records ≡ true → GoodActual code env (by_reference (result_of o) (Record t))
+    result_good None t found runs = absurd (cc)
+    result_good (Some (Variable v)) t found runs = absurd (cc)
+    result_good (Some (Part b steps u position)) t found runs = absurd (cc)
+    result_good (Some (Object b steps)) t found runs = absurd (cc)
+    result_good (Some (Result (OfVariable v))) t found runs = absurd (cc)
+    result_good (Some (Result (OfValue started lines))) t found runs = absurd (cc)
+    result_good (Some (Result (OfRecord u started lines))) t found runs =
+        (λ over m s agrees reserved. part_formed code env (Result (OfRecord u started lines)) t s agrees found.0 (found.1 (part_begun records (Result (OfRecord u started lines)) runs)), tt)
+
+    pub value_good : (x : ValueCode) (k : W.Setting) (t s : Ty) → Covers k t s → (x.runs records ≡ true → Fine code env x s) → ((u : ℕ) → IsFoundAt code env records u (copied u x)) → (by_value x t).runs records ≡ true → GoodActual code env (by_value x t)
+    value_good x k (Record u) s covers fine found runs = result_good (copied u x) u (found u) runs
+    value_good x k Integer s covers fine found runs = let u = scalar_used x k Integer s covers fine runs in (λ over m stack agrees reserved. u.formed (new_operand stack) stack agrees refl, tt)
+    value_good x k Count s covers fine found runs = let u = scalar_used x k Count s covers fine runs in (λ over m stack agrees reserved. u.formed (new_operand stack) stack agrees refl, tt)
+    value_good x k Boolean s covers fine found runs = let u = scalar_used x k Boolean s covers fine runs in (λ over m stack agrees reserved. u.formed (new_operand stack) stack agrees refl, tt)
+    value_good x k Address s covers fine found runs = let u = scalar_used x k Address s covers fine runs in (λ over m stack agrees reserved. u.formed (new_operand stack) stack agrees refl, tt)
+    value_good x k Handle s covers fine found runs = let u = scalar_used x k Handle s covers fine runs in (λ over m stack agrees reserved. u.formed (new_operand stack) stack agrees refl, tt)
+    value_good x k (Access a) s covers fine found runs = let u = scalar_used x k (Access a) s covers fine runs in (λ over m stack agrees reserved. u.formed (new_operand stack) stack agrees refl, tt)
 
     pub reference_good : (o : Option Reached) (t : Ty) → IsFound code env records o → (by_reference o t).runs records ≡ true → GoodActual code env (by_reference o t)
     reference_good None t found runs = absurd (cc)
-    reference_good (Some o) (Record t) found runs = (λ over m s agrees reserved. part_formed code env o t s agrees found.0 (found.1 (part_begun records o runs)), tt)
+    reference_good (Some o) (Record t) found runs = (λ over m s agrees reserved. part_formed code env o t s agrees (found.0 t) (found.1 (part_begun records o runs)), tt)
     reference_good (Some o) Integer found runs = absurd (cc)
     reference_good (Some o) Count found runs = absurd (cc)
     reference_good (Some o) Boolean found runs = absurd (cc)
@@ -319,7 +346,7 @@ module _ (code : Code) (env : W.Frames) where
 
     -- what a copy of a variable begins with
     begins_good : (begins : CopyStart) (v : Var) (t : Ty) → IsNamed env v → (read (Some (Variable v)) t).runs records ≡ true → (s : List Kind) → Agrees code env s → Formed code (begins_code begins v t s) s (Some (Operand t ∷ s))
-    begins_good CopyStartOf.Actual v t named runs s agrees = ((read_own code env records (Some (Variable v)) t (refl, λ h. named) runs).usable t (inl refl)).formed (new_operand s) s agrees refl
+    begins_good CopyStartOf.Actual v t named runs s agrees = ((read_own code env records (Some (Variable v)) t ((λ u. (refl, tt)), λ h. named) runs).usable t (inl refl)).formed (new_operand s) s agrees refl
     begins_good CopyStartOf.Beginning v t named runs s agrees = one code (InstrOf.Set 0 t (new_operand s)) s (Some (Operand t ∷ s)) (λ p next. (begins_cell t (run_scalar t runs), puts code p (new_operand s) t s refl next))
 
     -- a part is kept, and what the copy of its component begins with takes its place
@@ -333,7 +360,7 @@ module _ (code : Code) (env : W.Frames) where
         one code (InstrOf.KeepPart t position begins ty (over + 3) (height s - (over + 2)) (height s)) top (Some (Operand ty ∷ s))
         (λ p next. (scalar, (omega arith, subst (λ n. HaveOperands n top) deep have, ap (slice_get top) first ∙ h.1 0 (omega arith), ap (slice_get top) second ∙ h.1 1 (omega arith), sym (ap (λ n. height (drop n top)) (sym deep) ∙ height_below (over + 2) s have)), (s, refl, (refl, next))))
 
-    kept_good : (b : Start) (steps : List Step) (t position : ℕ) (begins : CopyStart) (ty : Ty) (over m : ℕ) (s : List Kind) → Valid.IsScalar ty → are_followed b steps ≡ true → IsBegun code env b → Agrees code env s → Reserved over (2 + m) s → Formed code (kept_code b steps t position begins ty over s) s (Some (Operand ty ∷ s))
+    kept_good : (b : Start) (steps : List Step) (t position : ℕ) (begins : CopyStart) (ty : Ty) (over m : ℕ) (s : List Kind) → Valid.IsScalar ty → Follows b steps t → IsBegun code env b → Agrees code env s → Reserved over (2 + m) s → Formed code (kept_code b steps t position begins ty over s) s (Some (Operand ty ∷ s))
     kept_good b steps t position begins ty over m s scalar followed begun agrees h =
         both code (located_code b steps t s) (keeping_code t position begins ty over s) s (Operand (Record t) ∷ s) (Some (Operand ty ∷ s))
         (located_formed code env b steps t s agrees followed begun)
@@ -344,11 +371,12 @@ module _ (code : Code) (env : W.Frames) where
     copy_good (Some (Part b steps u position)) t begins found runs =
         let e = both_true (is_run_type t) (parts_run records b steps u) runs in
         let begun = found.1 (both_true _ _ e.1).0 in
-        (λ over m s agrees h. kept_good b steps u position begins t over m s (run_scalar t e.0) found.0 begun agrees h, tt)
+        (λ over m s agrees h. kept_good b steps u position begins t over m s (run_scalar t e.0) (found.0 u) begun agrees h, tt)
     copy_good (Some (Object b steps)) t begins found runs =
         let e = both_true (is_run_type t) (part_runs (Object b steps) records) runs in
         let begun = found.1 (both_true _ _ e.1).0 in
-        (λ over m s agrees h. kept_good b steps any_type first_position begins t over m s (run_scalar t e.0) found.0 begun agrees h, tt)
+        (λ over m s agrees h. kept_good b steps any_type first_position begins t over m s (run_scalar t e.0) (found.0 any_type) begun agrees h, tt)
+    copy_good (Some (Result b)) t begins found runs = absurd (cc)
     copy_good (Some (Variable v)) t begins found runs = (λ over m s agrees h. begins_good begins v t (found.1 refl) runs s agrees, found.1 refl)
 
     -- another name of the same actual

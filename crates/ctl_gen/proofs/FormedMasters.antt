@@ -33,12 +33,12 @@ use Rattle.ctl_code.specs.Windows.{HasSlot}
 use Rattle.ctl_meaning.specs.Outcome.{program_error}
 use Rattle.ctl_code.specs.Valid.{IsAtEnd, IsDeclarable, IsException, IsScalar}
 use Rattle.ctl_layout.specs.Around.{Site, among, behind, local_at, out_to}
-use Rattle.ctl_layout.specs.Parts.{Reached, Variable, Part, Object, any_type, first_position, part_runs, parts_run}
-use Rattle.ctl_layout.specs.Values.{ValueCode, actual_code, copied, sourced, value_code, value_type, reached_by}
-use Rattle.ctl_layout.specs.Records.{is_pool, is_run_type}
+use Rattle.ctl_layout.specs.Parts.{Reached, Variable, Part, Object, any_type, first_position, part_runs, parts_run, Result}
+use Rattle.ctl_layout.specs.Values.{ValueCode, actual_code, copied, held, sourced, value_code, value_type, reached_by}
+use Rattle.ctl_layout.specs.Records.{is_plain, is_pool, is_run_type}
 use Rattle.ctl_layout.specs.Defaults.{is_assignable}
 use Rattle.ctl_layout.specs.Layout as Layout
-use Rattle.ctl_layout.specs.Layout.{ArmCode, HandlerCode, ItemCode, MasterCode, StatementCode, all, all_items, arm_code, arms_run, assign, assign_record, block, call, call_nothing, exit, free, gathers_code, return, handled, handler_code, handlers_run, has_choice, in_master, inside, item_code, library_allocate, library_deallocate, master_code, missing_statement, order_of, ordered_pool, statement_code, tested, valued, with_value}
+use Rattle.ctl_layout.specs.Layout.{ArmCode, HandlerCode, ItemCode, MasterCode, StatementCode, all, all_items, arm_code, arms_run, assign, assign_record, block, call, call_nothing, exit, free, gathers_code, return, return_held, return_of, return_record, handled, handler_code, handlers_run, has_choice, in_master, inside, item_code, library_allocate, library_deallocate, master_code, missing_statement, order_of, ordered_pool, statement_code, tested, valued, with_value}
 use Rattle.ctl_layout.proofs.Extensions.{both_true}
 use Rattle.ctl_layout.proofs.TreeLayers.{arm_roll, layer_of, master_roll, handler_roll}
 use Rattle.ctl_gen.proofs.Place.{HasAt}
@@ -49,9 +49,9 @@ use Rattle.ctl_gen.proofs.FormedHandlers.{AreChoices, AreExceptions, GoodHandler
 use Rattle.ctl_gen.proofs.FormedCalls.{MayCall, MayNew, call_formed, named_level}
 use Rattle.ctl_gen.proofs.FormedExpressions.{copied_found, name_found, source_found, actuals_good, has_formals, typed_fine}
 use Rattle.ctl_gen.proofs.FormedLines.{block_formed}
-use Rattle.ctl_gen.proofs.FormedParts.{IsFound, record_formed}
+use Rattle.ctl_gen.proofs.FormedParts.{IsFound, IsFoundAt, record_formed}
 use Rattle.ctl_gen.proofs.Walked.{part_begun}
-use Rattle.ctl_gen.proofs.FormedStatements.{MayDeclare, Stays, all_stay, allocate_formed, allocate_into_formed, assign_formed, assign_part_formed, copy_formed, deallocate_formed, declaration_formed, dropped_formed, for_stays, free_formed, free_part_formed, leaves_stay, leaves_when_stay, loop_stays, pool_formed, returned_formed, tested_turns, valued_formed}
+use Rattle.ctl_gen.proofs.FormedStatements.{MayDeclare, Stays, all_stay, allocate_formed, allocate_into_formed, assign_formed, assign_part_formed, copy_formed, deallocate_formed, declaration_formed, dropped_formed, for_stays, free_formed, free_part_formed, leaves_stay, leaves_when_stay, loop_stays, pool_formed, record_returned, returned_formed, tested_turns, valued_formed}
 use Rattle.ctl_gen.proofs.FormedTexts.{print_formed}
 use Rattle.ctl_gen.proofs.FormedTypes.{run_scalar}
 use Rattle.ctl_gen.proofs.FormedValues.{Fine, Usable, usable_as, value_usable}
@@ -98,7 +98,7 @@ module _ (code : Code) (records : List RecordType) (k : W.Setting) (declarable :
       valued_formed code env slot ty x s agrees there (usable_as code env x ty (run_scalar ty g.0) (fine g.1))
 
   -- a declaration with a value
-  given_good : (env : W.Frames) (slot : ℕ) (ty : Ty) (e : Expr) {s : List Kind} → W.InView k env ty → HasSlot code.homes s 0 slot → ((t : ℕ) → IsFound code env records (copied t (value_code e))) → ((value_code e).runs records ≡ true → Fine code env (value_code e) ty) → (with_value slot ty (value_code e)).runs records ≡ true → Agrees code env s → Formed code ((with_value slot ty (value_code e)).code s) s (Some s)
+  given_good : (env : W.Frames) (slot : ℕ) (ty : Ty) (e : Expr) {s : List Kind} → W.InView k env ty → HasSlot code.homes s 0 slot → ((t : ℕ) → IsFoundAt code env records t (copied t (value_code e))) → ((value_code e).runs records ≡ true → Fine code env (value_code e) ty) → (with_value slot ty (value_code e)).runs records ≡ true → Agrees code env s → Formed code ((with_value slot ty (value_code e)).code s) s (Some s)
   given_good env slot (Record t) e {s} view there found fine runs agrees = copy_formed code env records slot t (copied t (value_code e)) s agrees there (found t) runs (may_hold env t s agrees view)
   given_good env slot Integer e {s} view there found fine runs agrees = valued_good env slot Integer (value_code e) s agrees there fine runs
   given_good env slot Count e {s} view there found fine runs agrees = valued_good env slot Count (value_code e) s agrees there fine runs
@@ -176,13 +176,14 @@ module _ (code : Code) (records : List RecordType) (k : W.Setting) (declarable :
   assign_good env None x t found fine runs a n p agrees texts can = absurd (cc)
   assign_good env (Some (Object b steps)) x t found fine runs a n p agrees texts can =
       let e = both_true (part_runs (Object b steps) records) (x.runs records) runs in
-      assign_part_formed code env b steps any_type first_position x a.stack agrees found.0 (found.1 (both_true _ _ e.0).0) (value_usable code env x t (fine e.1)) p
+      assign_part_formed code env b steps any_type first_position x a.stack agrees (found.0 any_type) (found.1 (both_true _ _ e.0).0) (value_usable code env x t (fine e.1)) p
   assign_good env (Some (Part b steps u position)) x t found fine runs a n p agrees texts can =
       let e = both_true (parts_run records b steps u) (x.runs records) runs in
-      assign_part_formed code env b steps u position x a.stack agrees found.0 (found.1 (both_true _ _ e.0).0) (value_usable code env x t (fine e.1)) p
+      assign_part_formed code env b steps u position x a.stack agrees (found.0 u) (found.1 (both_true _ _ e.0).0) (value_usable code env x t (fine e.1)) p
+  assign_good env (Some (Result b)) x t found fine runs a n p agrees texts can = absurd (cc)
   assign_good env (Some (Variable v)) x t found fine runs a n p agrees texts can = assign_formed code env (local_at a.stack v) v x a.stack agrees (found.1 refl) refl (value_usable code env x t (fine runs)) p
 
-  record_good : (env : W.Frames) (o : Option Reached) (t : ℕ) (q : Option Reached) → W.HasRecord k env t → IsFound code env records o → IsFound code env records q → GoodStatement env (assign_record o t q)
+  record_good : (env : W.Frames) (o : Option Reached) (t : ℕ) (q : Option Reached) → W.HasRecord k env t → IsFound code env records o → IsFoundAt code env records t q → GoodStatement env (assign_record o t q)
   record_good env None t q view to from runs a n p agrees texts can = absurd (cc)
   record_good env (Some target) t None view to from runs a n p agrees texts can = absurd (cc)
   record_good env (Some target) t (Some source) view to from runs a n p agrees texts can =
@@ -193,16 +194,17 @@ module _ (code : Code) (records : List RecordType) (k : W.Setting) (declarable :
   free_good : (env : W.Frames) (access : ℕ) (o : Option Reached) → IsFound code env records o → IsHoused code env access → GoodStatement env (free access o)
   free_good env access None found housed runs a n p agrees texts can = absurd (cc)
   free_good env access (Some (Object b steps)) found housed runs a n p agrees texts can =
-      free_part_formed code env access b steps any_type first_position a.stack agrees fails found.0 (found.1 (both_true _ _ runs).0) (housed a.stack agrees) p
+      free_part_formed code env access b steps any_type first_position a.stack agrees fails (found.0 any_type) (found.1 (both_true _ _ runs).0) (housed a.stack agrees) p
   free_good env access (Some (Part b steps t position)) found housed runs a n p agrees texts can =
-      free_part_formed code env access b steps t position a.stack agrees fails found.0 (found.1 (both_true _ _ runs).0) (housed a.stack agrees) p
+      free_part_formed code env access b steps t position a.stack agrees fails (found.0 t) (found.1 (both_true _ _ runs).0) (housed a.stack agrees) p
+  free_good env access (Some (Result b)) found housed runs a n p agrees texts can = absurd (cc)
   free_good env access (Some (Variable v)) found housed runs a n p agrees texts can =
       let named = found.1 refl in
       free_formed code access (out_to a.stack v) v.slot a.stack fails (housed a.stack agrees) (agrees.1 v named.0 named.1) p
 
   nothing_good : (env : W.Frames) (o : Option Reached) → IsFound code env records o → GoodStatement env (call_nothing o)
   nothing_good env None found runs a n p agrees texts can = absurd (cc)
-  nothing_good env (Some o) found runs a n p agrees texts can = dropped_formed code env o a.stack agrees found.0 (found.1 (part_begun records o runs)) p
+  nothing_good env (Some o) found runs a n p agrees texts can = dropped_formed code env o a.stack agrees (found.0 any_type) (found.1 (part_begun records o runs)) p
 
   -- The library's Allocate and Deallocate, which are run for a pool in a variable (13.11) -----------
 
@@ -214,17 +216,19 @@ module _ (code : Code) (records : List RecordType) (k : W.Setting) (declarable :
   allocate_good env None o size alignment pool target h g runs a n q agrees texts can = absurd (cc)
   allocate_good env (Some (Part b steps t position)) o size alignment pool target h g runs a n q agrees texts can = absurd (cc)
   allocate_good env (Some (Object b steps)) o size alignment pool target h g runs a n q agrees texts can = absurd (cc)
+  allocate_good env (Some (Result b)) o size alignment pool target h g runs a n q agrees texts can = absurd (cc)
   allocate_good env (Some (Variable p)) None size alignment pool target h g runs a n q agrees texts can = absurd (cc)
   allocate_good env (Some (Variable p)) (Some (Part b steps t position)) size alignment pool target h g runs a n q agrees texts can =
       let d = both_true (parts_run records b steps t) ((value_code size).runs records && ((value_code alignment).runs records && true)) runs in
       let e = both_true ((value_code size).runs records) ((value_code alignment).runs records && true) d.1 in
       let f = both_true ((value_code alignment).runs records) true e.1 in
-      allocate_into_formed code env p b steps t position (value_code size) (value_code alignment) a.stack agrees (pool.1 refl) target.0 (target.1 (both_true _ _ d.0).0) (usable_typed env size Count h tt e.0) (usable_typed env alignment Count g tt f.0) q
+      allocate_into_formed code env p b steps t position (value_code size) (value_code alignment) a.stack agrees (pool.1 refl) (target.0 t) (target.1 (both_true _ _ d.0).0) (usable_typed env size Count h tt e.0) (usable_typed env alignment Count g tt f.0) q
   allocate_good env (Some (Variable p)) (Some (Object b steps)) size alignment pool target h g runs a n q agrees texts can =
       let d = both_true (part_runs (Object b steps) records) ((value_code size).runs records && ((value_code alignment).runs records && true)) runs in
       let e = both_true ((value_code size).runs records) ((value_code alignment).runs records && true) d.1 in
       let f = both_true ((value_code alignment).runs records) true e.1 in
-      allocate_into_formed code env p b steps any_type first_position (value_code size) (value_code alignment) a.stack agrees (pool.1 refl) target.0 (target.1 (both_true _ _ d.0).0) (usable_typed env size Count h tt e.0) (usable_typed env alignment Count g tt f.0) q
+      allocate_into_formed code env p b steps any_type first_position (value_code size) (value_code alignment) a.stack agrees (pool.1 refl) (target.0 any_type) (target.1 (both_true _ _ d.0).0) (usable_typed env size Count h tt e.0) (usable_typed env alignment Count g tt f.0) q
+  allocate_good env (Some (Variable p)) (Some (Result b)) size alignment pool target h g runs a n q agrees texts can = absurd (cc)
   allocate_good env (Some (Variable p)) (Some (Variable v)) size alignment pool target h g runs a n q agrees texts can =
       let e = both_true ((value_code size).runs records) ((value_code alignment).runs records && true) runs in
       let f = both_true ((value_code alignment).runs records) true e.1 in
@@ -235,6 +239,7 @@ module _ (code : Code) (records : List RecordType) (k : W.Setting) (declarable :
   deallocate_good env None address size alignment pool h g m runs a n q agrees texts can = absurd (cc)
   deallocate_good env (Some (Part b steps t position)) address size alignment pool h g m runs a n q agrees texts can = absurd (cc)
   deallocate_good env (Some (Object b steps)) address size alignment pool h g m runs a n q agrees texts can = absurd (cc)
+  deallocate_good env (Some (Result b)) address size alignment pool h g m runs a n q agrees texts can = absurd (cc)
   deallocate_good env (Some (Variable p)) address size alignment pool h g m runs a n q agrees texts can =
       let e = both_true ((value_code address).runs records) ((value_code size).runs records && ((value_code alignment).runs records && true)) runs in
       let f = both_true ((value_code size).runs records) ((value_code alignment).runs records && true) e.1 in
@@ -249,12 +254,29 @@ module _ (code : Code) (records : List RecordType) (k : W.Setting) (declarable :
   leaving_good {env} None T.left_out runs = leaves_stay code env
   leaving_good {env} (Some e) (T.given h) runs = leaves_when_stay code env (value_code e) (usable_as code env (value_code e) Boolean tt (typed_fine code records k may_call may_new h runs))
 
+  -- a return statement with a value of a scalar type
+  scalar_returned : (env : W.Frames) (x : ValueCode) (t ty : Ty) → value_type x ≡ ty → (x.runs records ≡ true → Fine code env x t) → (is_run_type ty && x.runs records) ≡ true → (s : List Kind) → Agrees code env s → Formed code (return_held ty (held x ty s)) s (Some s)
+  scalar_returned env x t ty same fine runs s agrees =
+      let g = both_true (is_run_type ty) (x.runs records) runs in
+      subst (λ u. Formed code (return_held u (held x u s)) s (Some s)) same (returned_formed code env x s agrees (value_usable code env x t (fine g.1)))
+
+  -- or of a record type
+  returns_record : (env : W.Frames) (u : ℕ) (o : Option Reached) → IsFoundAt code env records u o → GoodStatement env (return_record u o)
+  returns_record env u None found runs a n p agrees texts can = absurd (cc)
+  returns_record env u (Some o) found runs a n p agrees texts can = record_returned code env records u o a.stack agrees found (both_true (is_plain records u) (part_runs o records) runs).1 p
+
+  returned_good : (env : W.Frames) (x : ValueCode) (t ty : Ty) → value_type x ≡ ty → ((u : ℕ) → IsFoundAt code env records u (copied u x)) → (x.runs records ≡ true → Fine code env x t) → GoodStatement env (return_of ty x)
+  returned_good env x t (Record u) same found fine = returns_record env u (copied u x) (found u)
+  returned_good env x t Integer same found fine = λ runs a n p agrees texts can. scalar_returned env x t Integer same fine runs a.stack agrees p
+  returned_good env x t Count same found fine = λ runs a n p agrees texts can. scalar_returned env x t Count same fine runs a.stack agrees p
+  returned_good env x t Boolean same found fine = λ runs a n p agrees texts can. scalar_returned env x t Boolean same fine runs a.stack agrees p
+  returned_good env x t Address same found fine = λ runs a n p agrees texts can. scalar_returned env x t Address same fine runs a.stack agrees p
+  returned_good env x t Handle same found fine = λ runs a n p agrees texts can. scalar_returned env x t Handle same fine runs a.stack agrees p
+  returned_good env x t (Access c) same found fine = λ runs a n p agrees texts can. scalar_returned env x t (Access c) same fine runs a.stack agrees p
+
   returning_good : {env : W.Frames} {gives : Option Ty} (o : Option Expr) → Returns k env gives o → GoodStatement env (return (option_map value_code o))
-  returning_good None D.nothing runs = λ a n p agrees texts can. one code (InstrOf.Transfer WayOf.Return) a.stack (Some a.stack) (λ q next. tt) p
-  returning_good {env} (Some e) (D.result {t = t} h) runs = λ a n p agrees texts can.
-      let x = value_code e in
-      let g = both_true (is_run_type (value_type x)) (x.runs records) runs in
-      returned_formed code env x a.stack agrees (value_usable code env x t (typed_fine code records k may_call may_new h g.1)) p
+  returning_good None D.nothing = λ runs a n p agrees texts can. one code (InstrOf.Transfer WayOf.Return) a.stack (Some a.stack) (λ q next. tt) p
+  returning_good {env} (Some e) (D.result {t = t} h) = returned_good env (value_code e) t (value_type (value_code e)) refl (λ u. copied_found code records k may_call may_new u h) (typed_fine code records k may_call may_new h)
 
   -- Masters ------------------------------------------------------------------------------------------
 
@@ -337,7 +359,7 @@ module _ (code : Code) (records : List RecordType) (k : W.Setting) (declarable :
         (usable_as code env (value_code high) Integer tt (typed_fine code records k may_call may_new to g.0))
         (each_good h g.1))
     statement_good {env} (D.block {m = m} {f = f} h) = good_as env _ _ (layer_of _ (sym (rolls-Block m))) (block_good env f (master_code m) (slots_told h) (master_good h))
-    statement_good {env} (D.assign_record {x = x} {t = t} {v = v} denotes view fits) = good_as env _ _ (layer_of _ (sym (rolls-AssignRecord x t v))) (record_good env (reached_by x) t (sourced v) view (name_found code records k may_call may_new denotes) (source_found code records k may_call may_new fits))
+    statement_good {env} (D.assign_record {x = x} {t = t} {v = v} denotes view fits) = good_as env _ _ (layer_of _ (sym (rolls-AssignRecord x t v))) (record_good env (reached_by x) t (sourced v) view (name_found code records k may_call may_new denotes) (source_found code records k may_call may_new fits t refl))
     statement_good {env} (D.call {s = f} {actuals = actuals} can_call gives fits) = good_as env _ _ (layer_of _ (sym (rolls-Call f actuals))) (call_good can_call gives fits)
     statement_good {env} (D.nothing_done {x = x} (T.view covers denotes)) = good_as env _ _ (layer_of _ (sym (rolls-Nothing x))) (nothing_good env (reached_by x) (name_found code records k may_call may_new denotes))
     statement_good {env} (D.dispatch {o = o} {x = x} views) = not_missing env _ (layer_of _ (sym (rolls-Dispatch o x)))

@@ -17,7 +17,7 @@ use Rattle.ctl_code.specs.declared.code.Code.{Code}
 use Rattle.ctl_code.specs.declared.template.TextPart.{TextPart}
 use Rattle.ctl_code.specs.Windows.{HasSlot, height, variable_at}
 use Rattle.ctl_code.specs.Valid.{IsCellOf, IsException, IsFine, HasCollection, Leads}
-use Rattle.ctl_layout.specs.Parts.{Start, Reached, Variable, any_type, are_followed, located_code, part_code, part_runs}
+use Rattle.ctl_layout.specs.Parts.{Start, Reached, Variable, any_type, located_code, part_code, part_runs}
 use Rattle.ctl_layout.specs.Around.{Line, Around, behind, local_at, local_cell, new_operand, newest_at, newest_cell, out_to}
 use Rattle.ctl_layout.specs.Values.{ValueCode, held, value_type}
 use Rattle.ctl_layout.specs.Layout.{StatementCode, all, assign_code, assign_part_code, bounds_code, copy, declaration, discriminants_code, dropped_code, failed_code, for, free_part_code, in_loop, leaves_code, loop, on_pool, on_pool_and_part, pool_code, pool_operand, pool_type, request, return_held, scalar_code, store_part_code, test_code, test_held, test_length, tested_code, turns_code, valued_code, values_code, values_then, with_bounds, with_discriminants, with_pool, with_pool_and_part, with_types}
@@ -29,8 +29,8 @@ use Rattle.ctl_gen.proofs.Place as Place
 use Rattle.ctl_gen.proofs.Formed.{both, both_at, Formed, FormedAt, has_end, leads_at, none, one}
 use Rattle.ctl_gen.proofs.FormedAround.{Agrees, CanLeave, IsNamed, MayHold, cell_there, leave_behind, leaves_formed}
 use Rattle.ctl_gen.proofs.FormedLines.{loop_formed, test_formed, turns_formed}
-use Rattle.ctl_gen.proofs.FormedParts.{IsBegun, IsFound, located_formed, part_formed}
-use Rattle.ctl_gen.proofs.Walked.{part_begun, start_of, steps_before}
+use Rattle.ctl_gen.proofs.FormedParts.{Follows, FollowsAt, IsBegun, IsFoundAt, located_formed, part_formed}
+use Rattle.ctl_gen.proofs.Walked.{part_begun, start_of}
 use Rattle.ctl_gen.proofs.FormedValues.{Usable, found, taken_slot}
 
 module _ (code : Code) where
@@ -68,8 +68,8 @@ module _ (code : Code) where
   declaration_formed records slot Handle s runs there may = absurd (cc)
   declaration_formed records slot (Access a) s runs there may = scalar_formed slot (Access a) s there tt
 
-  -- one with the value of a part of its record type
-  pub copy_formed : (env : W.Frames) (records : List RecordType) (slot t : ℕ) (o : Option Reached) (s : List Kind) → Agrees code env s → HasSlot code.homes s 0 slot → IsFound code env records o → (copy slot t o).runs records ≡ true → MayHold code s t → Formed code ((copy slot t o).code s) s (Some s)
+  -- one with the value of a part of its record type, or of a function
+  pub copy_formed : (env : W.Frames) (records : List RecordType) (slot t : ℕ) (o : Option Reached) (s : List Kind) → Agrees code env s → HasSlot code.homes s 0 slot → IsFoundAt code env records t o → (copy slot t o).runs records ≡ true → MayHold code s t → Formed code ((copy slot t o).code s) s (Some s)
   copy_formed env records slot t None s agrees there found_so runs may = absurd (cc)
   copy_formed env records slot t (Some o) s agrees there found_so runs may =
       let over = Operand (Record t) ∷ s in
@@ -120,7 +120,7 @@ module _ (code : Code) where
       (one code store h.after (Some s) (λ p next. (usable.scalar, (s, f.taken, next), taken_slot code.homes h.cell (value_type x) h.after s (out_to s v) v.slot f.taken (agrees.1 v named.0 named.1))))
 
   -- a value goes into a component of a part
-  pub assign_part_formed : (env : W.Frames) (b : Start) (steps : List Step) (t position : ℕ) (x : ValueCode) (s : List Kind) → Agrees code env s → are_followed b steps ≡ true → IsBegun code env b → Usable code env x (value_type x) → Formed code (assign_part_code b steps t position x s) s (Some s)
+  pub assign_part_formed : (env : W.Frames) (b : Start) (steps : List Step) (t position : ℕ) (x : ValueCode) (s : List Kind) → Agrees code env s → Follows b steps t → IsBegun code env b → Usable code env x (value_type x) → Formed code (assign_part_code b steps t position x s) s (Some s)
   assign_part_formed env b steps t position x s agrees followed begun usable =
       let over = Operand (Record t) ∷ s in
       let h = held x (value_type x) over in
@@ -138,7 +138,7 @@ module _ (code : Code) where
   pub free_formed : (access out slot : ℕ) (s : List Kind) → IsException code program_error → HasCollection code s access → HasSlot code.homes s out slot → Formed code ((InstrOf.Free access out slot, s) ∷ failed_code s) s (Some s)
   free_formed access out slot s known seen there = freed_formed (InstrOf.Free access out slot) s s known (λ p next behind_it. (seen, next, behind_it, there))
 
-  pub free_part_formed : (env : W.Frames) (access : ℕ) (b : Start) (steps : List Step) (t position : ℕ) (s : List Kind) → Agrees code env s → IsException code program_error → are_followed b steps ≡ true → IsBegun code env b → HasCollection code s access → Formed code (free_part_code access b steps t position s) s (Some s)
+  pub free_part_formed : (env : W.Frames) (access : ℕ) (b : Start) (steps : List Step) (t position : ℕ) (s : List Kind) → Agrees code env s → IsException code program_error → Follows b steps t → IsBegun code env b → HasCollection code s access → Formed code (free_part_code access b steps t position s) s (Some s)
   free_part_formed env access b steps t position s agrees known followed begun seen =
       let over = Operand (Record t) ∷ s in
       let free = InstrOf.FreePart access t position in
@@ -146,7 +146,7 @@ module _ (code : Code) where
       (freed_formed free over s known (λ p next behind_it. (seen, (s, refl, (next, behind_it)))))
 
   -- what a name denotes is found and dropped (7.6)
-  pub dropped_formed : (env : W.Frames) (o : Reached) (s : List Kind) → Agrees code env s → are_followed (start_of o) (steps_before o) ≡ true → IsBegun code env (start_of o) → Formed code (dropped_code o s) s (Some s)
+  pub dropped_formed : (env : W.Frames) (o : Reached) (s : List Kind) → Agrees code env s → FollowsAt o any_type → IsBegun code env (start_of o) → Formed code (dropped_code o s) s (Some s)
   dropped_formed env o s agrees followed begun =
       let over = Operand (Record any_type) ∷ s in
       let drops = InstrOf.DropPart any_type in
@@ -175,19 +175,19 @@ module _ (code : Code) where
   on_pool_formed : (env : W.Frames) (p : Var) (xs : List (ValueCode × Ty)) (i : Instr) (s : List Kind) → Agrees code env s → IsNamed env p → AreUsable env xs → ((place : ℕ) → Leads code (place + 1) s → IsFine code place i (with_types xs (with_pool s))) → Formed code (on_pool p xs i s) s (Some s)
   on_pool_formed env p xs i s agrees named usable fine =
       let pool = with_pool s in
-      both code (pool_operand p s) (values_then xs i pool) s pool (Some s) (part_formed code env (Variable p) pool_type s agrees refl named) (values_then_formed env xs i pool s agrees usable fine)
+      both code (pool_operand p s) (values_then xs i pool) s pool (Some s) (part_formed code env (Variable p) pool_type s agrees (refl, tt) named) (values_then_formed env xs i pool s agrees usable fine)
 
   pub allocate_formed : (env : W.Frames) (p : Var) (out slot : ℕ) (size alignment : ValueCode) (s : List Kind) → Agrees code env s → IsNamed env p → HasSlot code.homes s out slot → Usable code env size Count → Usable code env alignment Count → Formed code (on_pool p (request size alignment) (InstrOf.TakeBlock pool_type out slot) s) s (Some s)
   allocate_formed env p out slot size alignment s agrees named there first second =
       on_pool_formed env p (request size alignment) (InstrOf.TakeBlock pool_type out slot) s agrees named (first, (second, tt)) (λ place next. ((with_pool s, refl, (s, refl, next)), there))
 
-  pub allocate_into_formed : (env : W.Frames) (p : Var) (b : Start) (steps : List Step) (t position : ℕ) (size alignment : ValueCode) (s : List Kind) → Agrees code env s → IsNamed env p → are_followed b steps ≡ true → IsBegun code env b → Usable code env size Count → Usable code env alignment Count → Formed code (on_pool_and_part p b steps t (request size alignment) (InstrOf.TakeBlockInto pool_type t position) s) s (Some s)
+  pub allocate_into_formed : (env : W.Frames) (p : Var) (b : Start) (steps : List Step) (t position : ℕ) (size alignment : ValueCode) (s : List Kind) → Agrees code env s → IsNamed env p → Follows b steps t → IsBegun code env b → Usable code env size Count → Usable code env alignment Count → Formed code (on_pool_and_part p b steps t (request size alignment) (InstrOf.TakeBlockInto pool_type t position) s) s (Some s)
   allocate_into_formed env p b steps t position size alignment s agrees named followed begun first second =
       let pool = with_pool s in
       let over = with_pool_and_part t s in
       let xs = request size alignment in
       let i = InstrOf.TakeBlockInto pool_type t position in
-      both code (pool_operand p s) (located_code b steps t pool ++ values_then xs i over) s pool (Some s) (part_formed code env (Variable p) pool_type s agrees refl named)
+      both code (pool_operand p s) (located_code b steps t pool ++ values_then xs i over) s pool (Some s) (part_formed code env (Variable p) pool_type s agrees (refl, tt) named)
       (both code (located_code b steps t pool) (values_then xs i over) pool over (Some s) (located_formed code env b steps t pool agrees followed begun)
       (values_then_formed env xs i over s agrees (first, (second, tt)) (λ place next. (pool, refl, (s, refl, next)))))
 
@@ -203,6 +203,14 @@ module _ (code : Code) where
       let return = InstrOf.Return h.cell (value_type x) in
       both code h.code ((return, h.after) ∷ []) s h.after (Some s) f.formed
       (one code return h.after (Some s) (λ p next. (usable.scalar, (s, f.taken, tt))))
+
+  -- one with the value of a record, that of a part or of a function
+  pub record_returned : (env : W.Frames) (records : List RecordType) (t : ℕ) (o : Reached) (s : List Kind) → Agrees code env s → IsFoundAt code env records t (Some o) → part_runs o records ≡ true → Formed code (part_code o t s ++ (InstrOf.ReturnRecord t, Operand (Record t) ∷ s) ∷ []) s (Some s)
+  record_returned env records t o s agrees found_so runs =
+      let over = Operand (Record t) ∷ s in
+      let return = InstrOf.ReturnRecord t in
+      both code (part_code o t s) ((return, over) ∷ []) s over (Some s) (part_formed code env o t s agrees found_so.0 (found_so.1 (part_begun records o runs)))
+      (one code return over (Some s) (λ p next. (s, refl, tt)))
 
   -- Conditions -------------------------------------------------------------------------------------
 

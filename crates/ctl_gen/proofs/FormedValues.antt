@@ -30,13 +30,13 @@ use Rattle.ctl_layout.specs.declared.right.Right.TheVariants as RightOf
 use Rattle.ctl_layout.specs.Around.{Line, local_at, new_operand, out_to, read_from}
 use Rattle.ctl_layout.specs.Records.{is_plain, is_run_type}
 use Rattle.ctl_layout.specs.Defaults.{is_declared}
-use Rattle.ctl_layout.specs.Parts.{Start, OfVariable, OfValue, Reached, Variable, Part, Object, any_type, are_followed, component_code, first_position, located_code, part_code, part_runs, parts_run, taken_code}
+use Rattle.ctl_layout.specs.Parts.{Start, OfVariable, OfValue, OfRecord, Reached, Variable, Part, Object, Result, any_type, component_code, first_position, located_code, part_code, part_runs, parts_run, taken_code}
 use Rattle.ctl_layout.specs.Values.{Held, OperatorCode, ValueCode, address_numbers, allocator_code, applied, binary_code, chain, common_type, constant, designating, evaluated, first_type, given_code, held, held_by, in_cell, last_type, left_held, moved_to, new, new_copy, new_given, next_target, operand_type, operator_by, operator_code, operator_for, operators_code, other_code, others_code, read, short, value_type, block_pool, discriminant, discriminant_at}
 use Rattle.ctl_layout.proofs.Extensions.{both_true}
 use Rattle.ctl_gen.proofs.Formed.{Formed, both, has_end, leads_at, none, one}
 use Rattle.ctl_gen.proofs.FormedAround.{Agrees, IsCreatable, IsHoused, IsNamed, granted_home, granted_home_of}
-use Rattle.ctl_gen.proofs.FormedParts.{IsBegun, IsFound, located_formed, part_formed, read_fine}
-use Rattle.ctl_gen.proofs.Walked.{start_of, steps_before, part_begun}
+use Rattle.ctl_gen.proofs.FormedParts.{Follows, FollowsAt, IsBegun, IsFound, located_formed, part_formed, read_fine}
+use Rattle.ctl_gen.proofs.Walked.{start_of, part_begun}
 use Rattle.ctl_gen.proofs.FormedTypes.{IsAccessType, IsLike, arithmetic_of, boolean_plain, cell_like, cell_of, equality_relates, is_relation, like_access, like_back, like_scalar, like_then, logical_of, number_of, number_plain, number_scalar, of_arithmetic, of_logical, of_relation, ordering_relates, relation_of, run_scalar, same_unless, unary_plain}
 
 -- Cells -------------------------------------------------------------------------------------------
@@ -79,7 +79,7 @@ taken_slot counts cell ty s below out slot = by cell.named cell.at
 abbrev made_by : ℕ → (List RecordType → Bool) → (Ty → List Kind → List Line) → ValueCode
 made_by access runs lines = record { runs = runs; own = Some (TyOf.Access access); right = RightOf.Evaluated; reached = None; code = λ to ty s. (InstrOf.Skip 0, s) ∷ lines ty s ++ moved_to to ty s }
 
--- what stands behind that instruction, where the object takes the value of a part
+-- what stands behind that instruction, where the object takes the value of a part, or of a function
 abbrev behind_skip : ℕ → ℕ → Reached → Ty → List Kind → List Line
 behind_skip access t x ty s = part_code x t s ++ (InstrOf.NewCopy access t ty (height s), KindOf.Operand (TyOf.Record t) ∷ s) ∷ (InstrOf.NewCopyIn t ty (height s), over_numbers address_numbers (KindOf.RecordValue ∷ s)) ∷ []
 
@@ -364,7 +364,7 @@ module _ (code : Code) (env : W.Frames) where
         ((scalar, may, refl, h.1.0, last, housed s agrees, granted_home_of code env s of agrees known.1), ((scalar, known.0, have_over address_numbers s, refl, last), tt)),
       )
 
-  -- with the value of a part: behind the call of an Allocate they stand over that value (13.11)
+  -- with the value of a part, or of a function: behind the call of an Allocate they stand over that value (13.11)
   behind_part_formed : (access t : ℕ) (ty : Ty) (s : List Kind) → Valid.IsScalar ty → Agrees code env s → IsMade access (TyOf.Record t) → Formed code ((InstrOf.NewCopy access t ty (height s), KindOf.Operand (TyOf.Record t) ∷ s) ∷ (InstrOf.NewCopyIn t ty (height s), over_numbers address_numbers (KindOf.RecordValue ∷ s)) ∷ []) (KindOf.Operand (TyOf.Record t) ∷ s) (Some (KindOf.Operand ty ∷ s))
   behind_part_formed access t ty s scalar agrees (allocable, housed, known) p h =
       let may = subst (λ n. IsAllocable code n access (TyOf.Record t)) (sym agrees.0) allocable in
@@ -374,7 +374,7 @@ module _ (code : Code) (env : W.Frames) where
       )
 
   -- and the part itself is found before
-  copy_formed : (access t : ℕ) (x : Reached) (ty : Ty) (s : List Kind) → Valid.IsScalar ty → Agrees code env s → are_followed (start_of x) (steps_before x) ≡ true → IsBegun code env (start_of x) → IsMade access (TyOf.Record t) → Formed code (behind_skip access t x ty s) s (Some (KindOf.Operand ty ∷ s))
+  copy_formed : (access t : ℕ) (x : Reached) (ty : Ty) (s : List Kind) → Valid.IsScalar ty → Agrees code env s → FollowsAt x t → IsBegun code env (start_of x) → IsMade access (TyOf.Record t) → Formed code (behind_skip access t x ty s) s (Some (KindOf.Operand ty ∷ s))
   copy_formed access t x ty s scalar agrees followed begun made =
       let part = KindOf.Operand (TyOf.Record t) ∷ s in
       let last : List Line = (InstrOf.NewCopy access t ty (height s), part) ∷ (InstrOf.NewCopyIn t ty (height s), over_numbers address_numbers (KindOf.RecordValue ∷ s)) ∷ [] in
@@ -414,7 +414,7 @@ module _ (code : Code) (env : W.Frames) where
   pub new_own : (access : ℕ) (of : Ty) → IsMade access of → Own (new access of None None) (TyOf.Access access)
   new_own access of made = made_own access (λ records. is_declared records of) (allocator_code access of) (λ ty s scalar agrees. allocator_formed access of ty s scalar agrees made)
 
-  pub copied_own : (access t : ℕ) (x : Reached) → are_followed (start_of x) (steps_before x) ≡ true → IsBegun code env (start_of x) → IsMade access (TyOf.Record t) → Own (new_copy access t (Some x)) (TyOf.Access access)
+  pub copied_own : (access t : ℕ) (x : Reached) → FollowsAt x t → IsBegun code env (start_of x) → IsMade access (TyOf.Record t) → Own (new_copy access t (Some x)) (TyOf.Access access)
   copied_own access t x followed begun made = made_own access (λ records. is_plain records t && part_runs x records) (behind_skip access t x) (λ ty s scalar agrees. copy_formed access t x ty s scalar agrees followed begun made)
 
   pub given_own : (access : ℕ) (of : Ty) (x : ValueCode) → IsMade access of → Usable x of → Own (new_given access of x) (TyOf.Access access)
@@ -422,7 +422,7 @@ module _ (code : Code) (env : W.Frames) where
 
   module _ (records : List RecordType) where
     -- the value of a component goes where it is wanted
-    taken_formed : (b : Start) (steps : List Step) (t position : ℕ) (ty : Ty) (to : Cell) (s : List Kind) → Valid.IsScalar ty → Agrees code env s → are_followed b steps ≡ true → IsBegun code env b → Placed to s → Formed code (taken_code b steps t position ty to s) s (Some (with_put to.named ty s))
+    taken_formed : (b : Start) (steps : List Step) (t position : ℕ) (ty : Ty) (to : Cell) (s : List Kind) → Valid.IsScalar ty → Agrees code env s → Follows b steps t → IsBegun code env b → Placed to s → Formed code (taken_code b steps t position ty to s) s (Some (with_put to.named ty s))
     taken_formed b steps t position ty to s scalar agrees followed begun at =
         let part = KindOf.Operand (TyOf.Record t) ∷ s in
         let after = Some (with_put to.named ty s) in
@@ -430,10 +430,11 @@ module _ (code : Code) (env : W.Frames) where
         (located_formed code env b steps t s agrees followed begun)
         (one code (InstrOf.TakePart t position ty to) part after (λ p next. (scalar, (s, refl, puts code p to ty s at next))))
 
-    component_formed : (b : Start) (steps : List Step) (t position : ℕ) (ty : Ty) (to : Cell) (s : List Kind) → Valid.IsScalar ty → Agrees code env s → are_followed b steps ≡ true → IsBegun code env b → Placed to s → Formed code (component_code b steps t position ty to s) s (Some (with_put to.named ty s))
+    component_formed : (b : Start) (steps : List Step) (t position : ℕ) (ty : Ty) (to : Cell) (s : List Kind) → Valid.IsScalar ty → Agrees code env s → Follows b steps t → IsBegun code env b → Placed to s → Formed code (component_code b steps t position ty to s) s (Some (with_put to.named ty s))
     component_formed (OfVariable v) [] t position ty to s scalar agrees followed begun at = one code (InstrOf.FetchPart (out_to s v) v.slot t position ty to) s (Some (with_put to.named ty s)) (λ p next. (scalar, puts code p to ty s at next, agrees.1 v begun.0 begun.1))
     component_formed (OfVariable v) (step ∷ steps) t position ty to s scalar agrees followed begun at = taken_formed (OfVariable v) (step ∷ steps) t position ty to s scalar agrees followed begun at
     component_formed (OfValue runs lines) steps t position ty to s scalar agrees followed begun at = taken_formed (OfValue runs lines) steps t position ty to s scalar agrees followed begun at
+    component_formed (OfRecord u runs lines) steps t position ty to s scalar agrees followed begun at = taken_formed (OfRecord u runs lines) steps t position ty to s scalar agrees followed begun at
 
     -- a discriminant of the pool that is found first is one of Storage_Count
     pub discriminant_own : (o : Option Reached) (position : ℕ) → IsFound code env records o → (discriminant o position).runs records ≡ true → Own (discriminant o position) TyOf.Count
@@ -447,7 +448,7 @@ module _ (code : Code) (env : W.Frames) where
               let pool = KindOf.Operand (TyOf.Record block_pool) ∷ s in
               let after = Some (with_put to.named TyOf.Count s) in
               both code (part_code x block_pool s) ((InstrOf.TakeDiscriminant block_pool which to, pool) ∷ []) s pool after
-              (part_formed code env x block_pool s agrees found_so.0 (found_so.1 (part_begun records x runs)))
+              (part_formed code env x block_pool s agrees (found_so.0 block_pool) (found_so.1 (part_begun records x runs)))
               (one code (InstrOf.TakeDiscriminant block_pool which to) pool after (λ p next. (s, refl, puts code p to TyOf.Count s at next)));
           constant = λ n is. absurd (cc);
         })
@@ -460,7 +461,7 @@ module _ (code : Code) (env : W.Frames) where
         own_as (read (Some (Object b steps)) ty) ty refl (run_scalar ty e.0)
         (λ u scalar. record {
           scalar = scalar;
-          formed = λ to s agrees at. component_formed b steps any_type first_position u to s scalar agrees found_so.0 begun at;
+          formed = λ to s agrees at. component_formed b steps any_type first_position u to s scalar agrees (found_so.0 any_type) begun at;
           constant = λ n is. absurd (cc);
         })
     read_own (Some (Part b steps t position)) ty found_so runs =
@@ -469,9 +470,10 @@ module _ (code : Code) (env : W.Frames) where
         own_as (read (Some (Part b steps t position)) ty) ty refl (run_scalar ty e.0)
         (λ u scalar. record {
           scalar = scalar;
-          formed = λ to s agrees at. component_formed b steps t position u to s scalar agrees found_so.0 begun at;
+          formed = λ to s agrees at. component_formed b steps t position u to s scalar agrees (found_so.0 t) begun at;
           constant = λ n is. absurd (cc);
         })
+    read_own (Some (Result b)) ty found_so runs = absurd (cc)
     read_own (Some (Variable v)) ty found_so runs =
         own_as (read (Some (Variable v)) ty) ty refl (run_scalar ty runs)
         (λ u scalar. record {

@@ -24,7 +24,7 @@ use Rattle.ctl_meaning.specs.Choice.{Ask, picked}
 use Rattle.ctl_meaning.specs.Members.{member_of, is_due}
 use Rattle.ctl_meaning.specs.Outcome.{program_error, ByRaise, Result, Goes, Leaves, Out, Gives, Stops, Act, Done, add, bind, on_goes, ◌>>=◌, ◌>>◌, done, nothing, stop, counted, ticked, look, change, show, tell, either, on_some, opened_outcome}
 use Rattle.ctl_meaning.specs.Types.{Tables, has_controlled, of_record, operation, operation_for, size_of}
-use Rattle.ctl_meaning.specs.Names.{Found, Call, Default, Tools, existing, gone, read_found, read_part, scalar_of, write_found, write_part, OfSubprogram, opened_names}
+use Rattle.ctl_meaning.specs.Names.{Found, Call, Default, Tools, existing, gone, on_variable, read_found, read_part, scalar_of, write_found, write_part, OfSubprogram, opened_names}
 use Rattle.ctl_meaning.specs.Names as Names
 use Rattle.ctl_meaning.specs.Finalization.{Spot, finalize_object, with_home}
 use Rattle.ctl_meaning.specs.Storage.{give_back, library_deallocate, program_error_if, storage_actuals, with_block_pool}
@@ -33,7 +33,7 @@ use Rattle.ctl_code.specs.declared.code.Code.{Code}
 use Rattle.ctl_code.specs.declared.code.Instr.TheVariants as InstrOf
 use Rattle.ctl_code.specs.declared.code.Way.TheVariants as WayOf
 use Rattle.ctl_code.specs.declared.kinds.Kind.TheVariants.{Operand}
-use Rattle.ctl_code.specs.States.{AfterProcedure, Word, Located, Point, Nulled, NullVariable, NullPart, Frame, Freeing, State}
+use Rattle.ctl_code.specs.States.{AfterProcedure, Word, Located, Cells, Point, Nulled, NullVariable, NullPart, Frame, Freeing, State}
 use Rattle.ctl_code.specs.Table as Table
 use Rattle.ctl_code.specs.Table.{GivenBack, Returned, NotReturned, behind_free, by_free, by_free_part, component_of, enter_body, finalize_freed, finalize_typed, free_member, freed_by, freed_in, freed_part, has_part_in, object_return, out_of, own_return, pool_return, return_to, storage_of, units_for}
 use Rattle.ctl_code.specs.Steps.{moved, step}
@@ -49,8 +49,8 @@ use Rattle.ctl_gen.proofs.Parted.{GivesDefaults}
 use Rattle.ctl_gen.proofs.Setting.{Setting, Calls, Sure, Told, enter_shows, returned_to, seen, tools_with}
 use Rattle.ctl_gen.proofs.Place.{laid_front, laid_back}
 use Rattle.ctl_gen.proofs.Cells.{by_code, cell_is, here, out_is, value_of}
-use Rattle.ctl_gen.proofs.Parts.{Agree, find_by, found_at}
-use Rattle.ctl_gen.proofs.LastSteps.{Ends, Last}
+use Rattle.ctl_gen.proofs.Parts.{Agree, OfCells, OfObject, RecordOperand, find_by, found_at, word}
+use Rattle.ctl_gen.proofs.LastSteps.{Ends, Last, last_found}
 use Rattle.ctl_gen.proofs.Begun.{Starts, located_then}
 use Rattle.ctl_gen.proofs.Expressions.{Uses}
 use Rattle.ctl_gen.proofs.FinalizedParts.{heard, tells}
@@ -64,7 +64,7 @@ use Rattle.ctl_gen.proofs.Follow.{Runs, Target, added, arrives, at, bind_add, bi
 -- what becomes null, as the meaning names it where a display is seen
 abbrev place_of : List ℕ → Nulled → Found
 place_of d (NullVariable out slot) = Names.InVariable (out_of d out) slot
-place_of d (NullPart s) = found_at s
+place_of d (NullPart s) = found_at (OfObject s)
 
 -- the library's Deallocate: the pool takes the block back, or the program is erroneous (13.11)
 pub data TakesBack (n a c : ℕ) (l : Log) (w : World) : Type 0 where
@@ -124,7 +124,7 @@ abbrev part_vanishes : Tools → Spot → Object → Bool → Option Object → 
 part_vanishes K s o failed None c l w = Stops UseAfterFree 0 l
 part_vanishes K s o failed (Some x) c l w = vanishes K o failed c l (write_cells s.object s.offset (0 ∷ []) w)
 
-part_freed : (K : Tools) (s : Spot) (o : Object) (failed : Bool) (c : ℕ) (l : Log) (w : World) → freed K (found_at s) o failed c l w ≡ part_vanishes K s o failed (object_at s.object w) c l w
+part_freed : (K : Tools) (s : Spot) (o : Object) (failed : Bool) (c : ℕ) (l : Log) (w : World) → freed K (found_at (OfObject s)) o failed c l w ≡ part_vanishes K s o failed (object_at s.object w) c l w
 unfolding freed write_found write_part existing gone opened_outcome
 part_freed K s o failed c l w = by (object_at s.object w)
   where
@@ -191,7 +191,7 @@ module _ (ask : Ask) (k : Tables) (code : Code) (setting : Setting k code) (call
     unfolding with_home existing opened_outcome
     deallocates_is n a size f c l w o there = ap (λ x. bind (add 0 (on_some x gone (λ y. look (λ v. call (OfSubprogram f (storage_actuals n a size)) (home_of y.origin v))) c (tell (Deallocate n size) l) w)) (on_goes (λ _. nothing))) there
 
-    -- what it takes holds no copy and no collection
+    -- what it takes holds no collection
     storage_plain : (n a size : ℕ) → Each IsPlainSlot (storage_actuals n a size)
     unfolding storage_actuals
     storage_plain n a size = (tt, (tt, (tt, (tt, tt))))
@@ -392,11 +392,11 @@ module _ (ask : Ask) (k : Tables) (code : Code) (setting : Setting k code) (call
             (frees_member nulled set (suc n) o e (record { display = d; place = place + 1; operands = ops }) ks s0 c l w le fits there raises (known (Some o) (Some a) there found go))
 
     -- what the value of a component designates, from the step that frees it
-    component_frees : (q : Spot) (access : ℕ) (e : Target) (d : List ℕ) (place : ℕ) (ks : List Frame) (ops : List Word) (s0 : State) (c : ℕ) (l : Log) (w : World) → c ≤ bound → Since k code w0 w → Raises code (place + 1) → step ask code s0 ≡ moved l (by_free_part code q (slice_get code.accesses.items access) (object_at q.object w) ops (here d place ks w)) → Runs ask code (Kept k code w0) 4 4 s0 c (arrives e d (place + 1 + 1) ks ops) (free K d access (found_at q) c l w)
-    unfolding free read_found read_part existing gone opened_outcome
+    component_frees : (q : Spot) (access : ℕ) (e : Target) (d : List ℕ) (place : ℕ) (ks : List Frame) (ops : List Word) (s0 : State) (c : ℕ) (l : Log) (w : World) → c ≤ bound → Since k code w0 w → Raises code (place + 1) → step ask code s0 ≡ moved l (by_free_part code q (slice_get code.accesses.items access) (object_at q.object w) ops (here d place ks w)) → Runs ask code (Kept k code w0) 4 4 s0 c (arrives e d (place + 1 + 1) ks ops) (free K d access (found_at (OfObject q)) c l w)
+    unfolding free on_variable read_found read_part existing gone opened_outcome
     component_frees q access e d place ks ops s0 c l w le fits raises first = by (object_at q.object w) first
       where
-        by : (x : Option Object) → step ask code s0 ≡ moved l (by_free_part code q (slice_get code.accesses.items access) x ops (here d place ks w)) → Runs ask code (Kept k code w0) 4 4 s0 c (arrives e d (place + 1 + 1) ks ops) (bind (on_some x gone (λ o. done (cells_at q.offset 1 o)) c l w) (on_goes (λ v. free_value K d access (found_at q) (scalar_of v))))
+        by : (x : Option Object) → step ask code s0 ≡ moved l (by_free_part code q (slice_get code.accesses.items access) x ops (here d place ks w)) → Runs ask code (Kept k code w0) 4 4 s0 c (arrives e d (place + 1 + 1) ks ops) (bind (on_some x gone (λ o. done (cells_at q.offset 1 o)) c l w) (on_goes (λ v. free_value K d access (found_at (OfObject q)) (scalar_of v))))
         by None go = stop_step ask code (Kept k code w0) 4 4 s0 _ c 0 (arrives e d (place + 1 + 1) ks ops) UseAfterFree l (omega arith) go refl refl
         by (Some o) go =
             added ask code (Kept k code w0) 0 4 4 4 4 s0 c (arrives e d (place + 1 + 1) ks ops) _ (omega arith) (omega arith)
@@ -406,7 +406,7 @@ module _ (ask : Ask) (k : Tables) (code : Code) (setting : Setting k code) (call
 
   -- one whose access value is in a variable
   pub variable_freed_does : (access : ℕ) (v : Var) (find : List ℕ → Act Found) → Uses v find → Does ask k code bound (λ a. (InstrOf.Free access (out_to a.stack v) v.slot, a.stack) ∷ failed_code a.stack) (λ d caught. ticked (find d >>= free K d access))
-  unfolding free read_found first_cells scalar_of opened_lists opened_outcome
+  unfolding free on_variable read_found first_cells scalar_of opened_lists opened_outcome
   variable_freed_does access v find uses a w0 d place ks ops c l w le fits sees has =
       let out = out_to a.stack v in
       let s0 = at d place ks ops l w in
@@ -424,8 +424,21 @@ module _ (ask : Ask) (k : Tables) (code : Code) (setting : Setting k code) (call
 
   -- where the place is that holds an access value says nothing of its path
   same_place : (access n offset : ℕ) (path other : List ℕ) (d : List ℕ) (c : ℕ) (l : Log) (w : World) → free K d access (Names.InObject n offset path) c l w ≡ free K d access (Names.InObject n offset other) c l w
-  unfolding free free_value free_object freed read_found write_found opened_outcome
+  unfolding free on_variable free_value free_object freed read_found write_found opened_outcome
   same_place access n offset path other d c l w = refl
+
+  -- over the part that has it: a value alone is no variable
+  frees_over : (access t position : ℕ) (last : Last code t position) (p : RecordOperand) (e : Target) (w0 : World) (d : List ℕ) (place : ℕ) (ks : List Frame) (ops : List Word) (c : ℕ) (l : Log) (w : World) → c ≤ bound → Since k code w0 w → Raises code (place + 1) → slice_get code.instructions.items place ≡ Some (InstrOf.FreePart access t position) → Runs ask code (Kept k code w0) 4 4 (at d place ks (word p ∷ ops) l w) c (arrives e d (place + 1 + 1) ks ops) (free K d access (last_found last.offset last.path p) c l w)
+  unfolding free on_variable gone opened_outcome
+  frees_over access t position last (OfCells v) e w0 d place ks ops c l w le fits raises has =
+      stop_step ask code (Kept k code w0) 4 4 _ _ c 0 (arrives e d (place + 1 + 1) ks ops) UseAfterFree l (omega arith) (by_code ask code d place ks (Cells v ∷ ops) l w (InstrOf.FreePart access t position) has) refl refl
+  frees_over access t position last (OfObject p) e w0 d place ks ops c l w le fits raises has =
+      let q = component_of p last.offset position in
+      let s1 = at d place ks (Located p ∷ ops) l w in
+      subst (λ o. Runs ask code (Kept k code w0) 4 4 s1 c (arrives e d (place + 1 + 1) ks ops) o) (same_place access p.object (p.offset + last.offset) q.path (last.path p) d c l w)
+      (component_frees w0 q access e d place ks ops s1 c l w le fits raises
+      (by_code ask code d place ks (Located p ∷ ops) l w (InstrOf.FreePart access t position) has
+      ∙ ap (λ j. let x = component_of p j position in moved l (by_free_part code x (slice_get code.accesses.items access) (object_at x.object w) ops (here d place ks w))) last.there))
 
   -- and one whose access value is in a component, or in an object of an access type: what has it is found first
   pub part_freed_does : (access : ℕ) (first : Start) (given : List ℕ → Act (List ℕ)) → ((w0 : World) → Starts ask k code bound w0 first given) → (steps : List Step) (t position : ℕ) → Agree k code steps → (last : Last code t position) → are_followed first steps ≡ true → (find : List ℕ → Act Found) → Ends K last given steps first find → Does ask k code bound (λ a. free_part_code access first steps t position a.stack) (λ d caught. ticked (find d >>= free K d access))
@@ -444,13 +457,10 @@ module _ (ask : Ask) (k : Tables) (code : Code) (setting : Setting k code) (call
       (added ask code (Kept k code w0) 1 4 4 0 0 s0 c next _ (omega arith) (omega arith)
       (located_then ask k code bound w0 call default (λ r. Since k code w0) next selected d ks ops 4 4 first given (begun w0) steps t s place c l w followed agree le fits (seen sees) (laid_front code place front back has)
       (λ c1 l1 w1 lo fits1 p.
-      let q = component_of p last.offset position in
-      let s1 = at d (place + length front) ks (Located p ∷ ops) l1 w1 in
+      let s1 = at d (place + length front) ks (word p ∷ ops) l1 w1 in
+      let g = last_found last.offset last.path p in
       subst (λ o. Runs ask code (Kept k code w0) 4 4 s1 c1 next (bind o frees)) (sym (last.is p c1 l1 w1))
-      (added ask code (Kept k code w0) last.ticks 4 4 4 4 s1 c1 next (free K d access (Names.InObject p.object (p.offset + last.offset) (last.path p)) c1 l1 w1) (omega arith) (omega arith)
-      (subst (λ o. Runs ask code (Kept k code w0) 4 4 s1 c1 next o) (same_place access p.object (p.offset + last.offset) q.path (last.path p) d c1 l1 w1)
-      (subst (λ z. Runs ask code (Kept k code w0) 4 4 s1 c1 (arrives (lands a place) d z ks ops) (free K d access (found_at q) c1 l1 w1)) end
-      (component_frees w0 q access (lands a place) d (place + length front) ks ops s1 c1 l1 w1 (omega (arith, lo, le)) fits1 (laid_back code place front back has).2.0
-      (by_code ask code d (place + length front) ks (Located p ∷ ops) l1 w1 (InstrOf.FreePart access t position) (laid_back code place front back has).0
-      ∙ ap (λ j. let x = component_of p j position in moved l1 (by_free_part code x (slice_get code.accesses.items access) (object_at x.object w1) ops (here d (place + length front) ks w1))) last.there))))))
+      (added ask code (Kept k code w0) last.ticks 4 4 4 4 s1 c1 next (free K d access g c1 l1 w1) (omega arith) (omega arith)
+      (subst (λ z. Runs ask code (Kept k code w0) 4 4 s1 c1 (arrives (lands a place) d z ks ops) (free K d access g c1 l1 w1)) end
+      (frees_over access t position last p (lands a place) w0 d (place + length front) ks ops c1 l1 w1 (omega (arith, lo, le)) fits1 (laid_back code place front back has).2.0 (laid_back code place front back has).0))))
       (λ y c1 l1 w1 lo fits1. no_step ask code (Kept k code w0) 4 4 _ c1 0 next (Leaves (ByRaise y)) l1 w1 fits1 refl)))

@@ -42,7 +42,7 @@ leaves after ks (Leaves y) l w = moved l (behind after (Leaves y) [] ks w)
 raised_behind : (after : After) (e : ℕ) (slots : List Slot) (ks : List Frame) (w : World) → behind after (Leaves (ByRaise e)) slots ks w ≡ behind after (Leaves (ByRaise e)) [] ks w
 raised_behind (AfterBlock p) e slots ks w = refl
 raised_behind (AfterProcedure copies p) e slots ks w = refl
-raised_behind (AfterFunction p) e slots ks w = refl
+raised_behind (AfterFunction cells p) e slots ks w = refl
 raised_behind AfterBody e slots ks w = refl
 
 -- The step that leaves a master ---------------------------------------------------------------------

@@ -16,7 +16,7 @@ use Rattle.ctl_meaning.specs.Changes.{home_of as origin_home}
 use Rattle.ctl_meaning.specs.Choice.{Ask}
 use Rattle.ctl_meaning.specs.Outcome.{raised_by, Way, Result, Goes, Leaves, Tried, Fine, tell}
 use Rattle.ctl_meaning.specs.Types.{Tables, cells_of, offset_in, operation, placed, size_of as storage_size}
-use Rattle.ctl_meaning.specs.Names.{Execution, OfSubprogram, OfAllocator, Returned, Call, Default, Tools, scalar_of}
+use Rattle.ctl_meaning.specs.Names.{Execution, OfSubprogram, OfAllocator, Returned, Call, Default, Tools}
 use Rattle.ctl_meaning.specs.Finalization.{finalize_begun}
 use Rattle.ctl_meaning.proofs.Cuts.{UpTo}
 use Rattle.ctl_code.specs.declared.code.Entry.{Entry}
@@ -24,7 +24,7 @@ use Rattle.ctl_code.specs.declared.code.Instr.TheVariants as InstrOf
 use Rattle.ctl_code.specs.declared.code.Code.{Code}
 use Rattle.ctl_code.specs.declared.kinds.Kind.{Kind}
 use Rattle.ctl_code.specs.States.{Move, Word, Scalar, Handed, Complete, After, AfterBlock, AfterProcedure, AfterFunction, AfterBody, Frame, State}
-use Rattle.ctl_code.specs.Table.{Here, by_new, called_among, enter_body, new_with, offset_of, operation_of, or_complete, pool_in, set_seen, size_of, units_of, with_values}
+use Rattle.ctl_code.specs.Table.{Here, by_new, called_among, enter_body, given, new_with, offset_of, operation_of, or_complete, pool_in, set_seen, size_of, units_of, with_values}
 use Rattle.ctl_code.specs.Steps.{moved, step}
 use Rattle.ctl_code.specs.Valid.{IsValid, MayLie, kinds_at}
 use Rattle.ctl_code.specs.Windows.{depth}
@@ -122,7 +122,7 @@ returns ks r l w = gives ks (told r) l w
 abbrev pub EndsIn : SubprogramKind → After → Type 0
 EndsIn Procedure (AfterProcedure copies p) = Unit {0}
 EndsIn Procedure AfterBody = Unit {0}
-EndsIn Function (AfterFunction p) = Unit {0}
+EndsIn Function (AfterFunction cells p) = Unit {0}
 EndsIn _ _ = ⊥
 
 -- what a body returns, there: what its formals held and the value of a function are operands behind the call, and an exception is under way;
@@ -132,8 +132,8 @@ returned_to AfterBody ks r l w = returns ks r l w
 returned_to (AfterBlock p) ks r l w = returns ks r l w
 returned_to (AfterProcedure copies p) ks (Goes r) l w = at p.display p.place ks (with_values copies r.slots p.operands) l w
 returned_to (AfterProcedure copies p) ks (Leaves y) l w = transferred y ks l w
-returned_to (AfterFunction p) ks (Goes r) l w = at p.display p.place ks (Scalar (scalar_of r.cells) ∷ p.operands) l w
-returned_to (AfterFunction p) ks (Leaves y) l w = transferred y ks l w
+returned_to (AfterFunction cells p) ks (Goes r) l w = at p.display p.place ks (given cells r.cells ∷ p.operands) l w
+returned_to (AfterFunction cells p) ks (Leaves y) l w = transferred y ks l w
 
 -- nothing but an exception leaves a body
 abbrev pub IsTold : Option Way → Type 0
@@ -202,8 +202,8 @@ Allocates k code w0 (Leaves y) w = IsRaise y × Since k code w0 w
 -- member, with all that its operations do, leaves no more on the clock and members to be finalized together than there were
 pub record Calls (ask : Ask) (k : Tables) (code : Code) (setting : Setting k code) (bound : ℕ) (call : Call) : Type 0 where
   pub runs : (f : ℕ) (s : Subprogram) → slice_get setting.subprograms f ≡ Some s → (w0 : World) (v : List ℕ) (actuals : List Slot) (after : After) (ks : List Frame) (c : ℕ) (l : Log) (w : World) (s0 : State) (kind : SubprogramKind) (count : ℕ) → EndsIn kind after → c ≤ bound → Since k code w0 w → IsCallable code kind (length v) f count → IsNested w v → Each IsPlainSlot actuals → step ask code s0 ≡ moved l (enter_body (slice_get code.entries.items f) [] v actuals after ks w) → Runs ask code (Told k code w0) 0 3 s0 c (returned_to after ks) (call (OfSubprogram f actuals) v c l w)
-  pub allocates : (access : ℕ) (m : Made) → IsPlainType k (made_type m) → (w0 : World) (d : List ℕ) (place : ℕ) (ks : List Frame) (ops : List Word) (c : ℕ) (l : Log) (w : World) (s0 : State) → c + 1 ≤ bound → Since k code w0 w → MayAllocate code access (made_type m) d w → IsServed code m place → step ask code s0 ≡ moved l (by_allocator code m (pool_in (slice_get code.accesses.items access)) (set_seen (slice_get code.accesses.items access) d w) ops (record { display = d; place = place; control = ks; world = w })) → RunsTo ask code (Allocates k code w0) 6 (allocator_steps m) s0 c (returned_to (AfterFunction (record { display = d; place = behind_allocator place; operands = ops })) ks) (call (OfAllocator access (made_type m) None (made_value m)) d c l w)
-  pub gives_value : (access : ℕ) (of : Ty) → IsScalar of → (x : ℕ) (w0 : World) (d : List ℕ) (place : ℕ) (ks : List Frame) (ops : List Word) (c : ℕ) (l : Log) (w : World) (s0 : State) → c + 1 ≤ bound → Since k code w0 w → MayAllocate code access of d w → IsGiven code of place → step ask code s0 ≡ moved l (by_new code of (pool_in (slice_get code.accesses.items access)) (set_seen (slice_get code.accesses.items access) d w) (Scalar x ∷ ops) (record { display = d; place = place; control = ks; world = w })) → RunsTo ask code (Allocates k code w0) 7 9 s0 c (returned_to (AfterFunction (record { display = d; place = behind_allocator place + 1; operands = ops })) ks) (call (OfAllocator access of None (Some (x ∷ []))) d c l w)
+  pub allocates : (access : ℕ) (m : Made) → IsPlainType k (made_type m) → (w0 : World) (d : List ℕ) (place : ℕ) (ks : List Frame) (ops : List Word) (c : ℕ) (l : Log) (w : World) (s0 : State) → c + 1 ≤ bound → Since k code w0 w → MayAllocate code access (made_type m) d w → IsServed code m place → step ask code s0 ≡ moved l (by_allocator code m (pool_in (slice_get code.accesses.items access)) (set_seen (slice_get code.accesses.items access) d w) ops (record { display = d; place = place; control = ks; world = w })) → RunsTo ask code (Allocates k code w0) 6 (allocator_steps m) s0 c (returned_to (AfterFunction None (record { display = d; place = behind_allocator place; operands = ops })) ks) (call (OfAllocator access (made_type m) None (made_value m)) d c l w)
+  pub gives_value : (access : ℕ) (of : Ty) → IsScalar of → (x : ℕ) (w0 : World) (d : List ℕ) (place : ℕ) (ks : List Frame) (ops : List Word) (c : ℕ) (l : Log) (w : World) (s0 : State) → c + 1 ≤ bound → Since k code w0 w → MayAllocate code access of d w → IsGiven code of place → step ask code s0 ≡ moved l (by_new code of (pool_in (slice_get code.accesses.items access)) (set_seen (slice_get code.accesses.items access) d w) (Scalar x ∷ ops) (record { display = d; place = place; control = ks; world = w })) → RunsTo ask code (Allocates k code w0) 7 9 s0 c (returned_to (AfterFunction None (record { display = d; place = behind_allocator place + 1; operands = ops })) ks) (call (OfAllocator access of None (Some (x ∷ []))) d c l w)
   pub counts : (default : Default) (m : Member) → UpTo k ask bound (finalize_begun (tools_with ask k call default) CauseOf.Collection m)
 
 -- what is shown when a body is entered is shown before

@@ -21,14 +21,15 @@ use Rattle.ctl_meaning.specs.Choice.{Ask}
 use Rattle.ctl_meaning.specs.Outcome.{constraint_error, storage_error, ByRaise, Goes, Leaves, Gives, Stops, Act, add, bind, on_goes, ◌>>=◌, ◌>>◌, done, raise, change, show, stop, tell, look, either, on_some, opened_outcome}
 use Rattle.ctl_meaning.specs.Types.{Tables, of_record, operation, operation_for, root_for, size_of}
 use Rattle.ctl_meaning.specs.Names.{OfSubprogram, Returned, Call, Default, Tools, existing, find_var, found_in, gone, object_of, opened_names}
-use Rattle.ctl_meaning.specs.Finalization.{Spot, with_home}
+use Rattle.ctl_meaning.specs.Finalization.{with_home}
 use Rattle.ctl_meaning.specs.Storage.{address_in, block_storage, library_allocate, storage, storage_actuals, storage_in, tested, user_allocate, with_block_pool}
 use Rattle.ctl_code.specs.declared.code.Code.{Code}
+use Rattle.ctl_code.specs.States.{Word, object_of as object_of_word}
 use Rattle.ctl_code.specs.Table as Table
 use Rattle.ctl_code.specs.Table.{AllocateOf, Exhausted, Grant, Granted, NotPassed, Passed, Test, UnknownPool, address_test, first_value, grant, operation_of, own_grant, units_for}
 use Rattle.ctl_gen.proofs.Known.{IsPlainType, no_mark_pool}
 use Rattle.ctl_gen.proofs.Each.{Each, IfFound, found_passes}
-use Rattle.ctl_gen.proofs.Worlds.{Fits, IsNoCopy, IsPlainSlot, Settled, no_copy_at, object_fits}
+use Rattle.ctl_gen.proofs.Worlds.{Fits, IsPlainSlot, Settled, object_fits}
 use Rattle.ctl_gen.proofs.Setting.{Setting, tools_with}
 use Rattle.ctl_gen.proofs.Follow.{add_none}
 
@@ -142,19 +143,19 @@ module _ (ask : Ask) (k : Tables) (code : Code) (setting : Setting k code) (call
           ∙ ap (λ g. gives_place K size (own_grant g size o w) c l w) (sym (named_is o.ty))
 
   -- a slot names the pool, unless its declaration was not elaborated
-  found_is : (m i : ℕ) (x : Content) (size c : ℕ) (l : Log) (w : World) → IsNoCopy x → Fits k code w → bind (found_in m i x c l w) (on_goes (λ f. existing (object_of f) (λ o. storage_in K (object_of f) None size (root_for k o.ty)))) ≡ gives_place K size (Table.holder_grant code (Table.spot_of x) size w) c l w
+  found_is : (m i : ℕ) (x : Content) (size c : ℕ) (l : Log) (w : World) → Fits k code w → bind (found_in m i x c l w) (on_goes (λ f. existing (object_of f) (λ o. storage_in K (object_of f) None size (root_for k o.ty)))) ≡ gives_place K size (Table.holder_grant code (Table.word_of x) size w) c l w
   unfolding found_in object_of gone opened_outcome
-  found_is m i (Holds n) size c l w no_copy fits = add_none (existing n (λ o. storage_in K n None size (root_for k o.ty)) c l w) ∙ object_is n size c l w fits
-  found_is m i (Binds n offset path) size c l w no_copy fits = add_none (existing n (λ o. storage_in K n None size (root_for k o.ty)) c l w) ∙ object_is n size c l w fits
-  found_is m i (Copies v) size c l w no_copy fits = absurd no_copy
-  found_is m i Nothing size c l w no_copy fits = refl
-  found_is m i (Gathers n) size c l w no_copy fits = refl
+  found_is m i (Holds n) size c l w fits = add_none (existing n (λ o. storage_in K n None size (root_for k o.ty)) c l w) ∙ object_is n size c l w fits
+  found_is m i (Binds n offset path) size c l w fits = add_none (existing n (λ o. storage_in K n None size (root_for k o.ty)) c l w) ∙ object_is n size c l w fits
+  found_is m i (Copies v) size c l w fits = add_none (existing 0 (λ o. storage_in K 0 None size (root_for k o.ty)) c l w) ∙ object_is 0 size c l w fits
+  found_is m i Nothing size c l w fits = refl
+  found_is m i (Gathers n) size c l w fits = refl
 
   -- what storage means is what comes of its request
   pub storage_is : (pool : Option Var) (d : List ℕ) (size c : ℕ) (l : Log) (w : World) → Fits k code w → storage K d pool None size c l w ≡ gives_place K size (grant code pool d size w) c l w
   unfolding storage find_var opened_outcome
   storage_is None d size c l w fits = refl
-  storage_is (Some v) d size c l w fits = found_is (master_of d v) v.slot (slot_at (master_of d v) v.slot w).content size c l w (no_copy_at k code (master_of d v) v.slot w fits) fits
+  storage_is (Some v) d size c l w fits = found_is (master_of d v) v.slot (slot_at (master_of d v) v.slot w).content size c l w fits
 
 -- where a user's Allocate is called, the pool object is there, and it is the Allocate of its type
 abbrev pub IsOwn : Tables → World → Grant → Type 0
@@ -193,15 +194,15 @@ module _ (k : Tables) (code : Code) (setting : Setting k code) where
   own_object n size None w there = tt
   own_object n size (Some o) w there = own_for o.ty size o w (ap (λ i. object_at i w) (found_object n w o there) ∙ there) refl
 
-  own_holder : (s : Option Spot) (size : ℕ) (w : World) → IsOwn k w (Table.holder_grant code s size w)
+  own_holder : (x : Option Word) (size : ℕ) (w : World) → IsOwn k w (Table.holder_grant code x size w)
   own_holder None size w = tt
-  own_holder (Some s) size w = own_object s.object size (object_at s.object w) w refl
+  own_holder (Some x) size w = own_object (object_of_word x) size (object_at (object_of_word x) w) w refl
 
   pub own_granted : (pool : Option Var) (d : List ℕ) (size : ℕ) (w : World) → IsOwn k w (grant code pool d size w)
   own_granted None d size w = tt
-  own_granted (Some v) d size w = own_holder (Table.spot_of (slot_at (master_of d v) v.slot w).content) size w
+  own_granted (Some v) d size w = own_holder (Table.word_of (slot_at (master_of d v) v.slot w).content) size w
 
--- the slots of its call hold no copy and no collection
+-- the slots of its call hold no collection
 pub plain_actuals : (n size : ℕ) → Each IsPlainSlot (storage_actuals n 0 size)
 unfolding storage_actuals
 plain_actuals n size = (tt, (tt, (tt, (tt, tt))))

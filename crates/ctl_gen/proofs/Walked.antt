@@ -7,7 +7,7 @@ use Rattle.ctl_program.specs.declared.expression.Step.TheVariants.{Component, De
 use Rattle.ctl_program.specs.declared.operators.CopyStart.{CopyStart}
 use Rattle.ctl_code.specs.declared.kinds.Kind.{Kind}
 use Rattle.ctl_layout.specs.Around.{Line}
-use Rattle.ctl_layout.specs.Parts.{Start, OfVariable, OfValue, Reached, Variable, Part, Object, are_followed, behind_last, behind_further, behind_steps, is_begun, is_dereferenced, object_if, part_if, part_runs}
+use Rattle.ctl_layout.specs.Parts.{Start, OfVariable, OfValue, OfRecord, Reached, Variable, Part, Object, Result, are_followed, behind_last, behind_further, behind_steps, is_begun, is_dereferenced, object_if, part_if, part_runs}
 use Rattle.ctl_layout.specs.Values.{by_copy}
 use Rattle.ctl_layout.proofs.Extensions.{both_true}
 
@@ -18,25 +18,29 @@ abbrev pub start_of : Reached → Start
 start_of (Variable v) = OfVariable v
 start_of (Part b steps t position) = b
 start_of (Object b steps) = b
+start_of (Result b) = b
 
 abbrev pub steps_of : Reached → List Step
 steps_of (Variable v) = []
 steps_of (Part b steps t position) = steps ++ Component t position ∷ []
 steps_of (Object b steps) = steps
+steps_of (Result b) = []
 
 -- its code finds what these lead to: for a component, the part that has it
 abbrev pub steps_before : Reached → List Step
 steps_before (Variable v) = []
 steps_before (Part b steps t position) = steps
 steps_before (Object b steps) = steps
+steps_before (Result b) = []
 
--- to a whole object lead steps
+-- to a whole object lead steps, and to a value alone no name
 abbrev pub AreSome : List Step → Type 0
 AreSome [] = ⊥
 AreSome (step ∷ steps) = Unit {0}
 
 abbrev pub IsLed : Reached → Type 0
 IsLed (Object b steps) = AreSome steps
+IsLed (Result b) = ⊥
 IsLed _ = Unit {0}
 
 some_last : (steps : List Step) (step : Step) → AreSome (steps ++ step ∷ [])
@@ -74,6 +78,7 @@ further_is b before s (next ∷ more) x is = subst (λ ss. Denoted b ss x) (appe
 pub behind_is : (b : Start) (ss : List Step) (x : Reached) → behind_steps b ss ≡ Some x → Denoted b ss x
 behind_is (OfVariable v) [] x is = let same : Variable v ≡ x = cc is in subst (Denoted (OfVariable v) []) same (record { start = refl; steps = refl; walked = refl; led = tt })
 behind_is (OfValue runs code) [] x is = absurd (cc is)
+behind_is (OfRecord t runs code) [] x is = absurd (cc is)
 behind_is b (s ∷ ss) x is = further_is b [] s ss x is
 
 -- what a name begins with is run where the part is that it denotes
@@ -81,11 +86,13 @@ pub part_begun : (records : List RecordType) (x : Reached) → part_runs x recor
 part_begun records (Variable v) h = refl
 part_begun records (Part b steps t position) h = (both_true _ _ h).0
 part_begun records (Object b steps) h = (both_true _ _ h).0
+part_begun records (Result b) h = h
 
 -- a value is dereferenced first
 dereferenced_first : (x : Reached) → is_dereferenced (steps_before x) ≡ true → is_dereferenced (steps_of x) ≡ true
 dereferenced_first (Variable v) h = absurd (cc h)
 dereferenced_first (Object b steps) h = h
+dereferenced_first (Result b) h = absurd (cc h)
 dereferenced_first (Part b [] t position) h = absurd (cc h)
 dereferenced_first (Part b (Component u i ∷ steps) t position) h = absurd (cc h)
 dereferenced_first (Part b (Dereference ∷ steps) t position) h = refl
@@ -103,3 +110,4 @@ copy_reaches None ty begins = refl
 copy_reaches (Some (Variable v)) ty begins = refl
 copy_reaches (Some (Part v steps u position)) ty begins = refl
 copy_reaches (Some (Object v steps)) ty begins = refl
+copy_reaches (Some (Result b)) ty begins = refl

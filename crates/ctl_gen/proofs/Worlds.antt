@@ -27,17 +27,8 @@ use Rattle.ctl_gen.proofs.Collections.{home, home_slot, home_kept, home_gone, Ha
 
 -- Slots -----------------------------------------------------------------------------------------------
 
--- no record is copied
-abbrev pub IsNoCopy : Content → Type 0
-IsNoCopy (Copies v) = ⊥
-IsNoCopy _ = Unit {0}
-
-abbrev pub HoldsNoCopy : Slot → Type 0
-HoldsNoCopy s = IsNoCopy s.content
-
--- what a slot may hold when its master is entered: no copy of a record, and no collection
+-- what a slot may hold when its master is entered: no collection
 abbrev pub IsPlainContent : Content → Type 0
-IsPlainContent (Copies v) = ⊥
 IsPlainContent (Gathers c) = ⊥
 IsPlainContent _ = Unit {0}
 
@@ -52,15 +43,8 @@ plain_held : (next : ℕ) (cs : List Collection) (m : ℕ) (x : Content) → IsP
 plain_held next cs m Nothing h = tt
 plain_held next cs m (Holds n) h = tt
 plain_held next cs m (Binds n offset path) h = tt
-plain_held next cs m (Copies v) h = h
+plain_held next cs m (Copies v) h = tt
 plain_held next cs m (Gathers c) h = absurd h
-
-held_no_copy : (next : ℕ) (cs : List Collection) (m : ℕ) (x : Content) → IsHeldBy next cs m x → IsNoCopy x
-held_no_copy next cs m Nothing h = tt
-held_no_copy next cs m (Holds n) h = tt
-held_no_copy next cs m (Binds n offset path) h = tt
-held_no_copy next cs m (Copies v) h = h
-held_no_copy next cs m (Gathers c) h = tt
 
 -- each slot of a master holds what it may
 abbrev pub HoldsOwn : ℕ → List Collection → Activation → Type 0
@@ -243,10 +227,6 @@ module _ (k : Tables) (code : Code) where
   pub held_at : (n i : ℕ) (w : World) → Fits w → IsHeldBy w.ledger.next_collection w.ledger.collections n (slot_at n i w).content
   unfolding slot_at
   held_at n i w h = own_at w.ledger.next_collection w.ledger.collections n i w.activations h.slots
-
-  -- that is no copy
-  pub no_copy_at : (n i : ℕ) (w : World) → Fits w → HoldsNoCopy (slot_at n i w)
-  no_copy_at n i w h = held_no_copy w.ledger.next_collection w.ledger.collections n (slot_at n i w).content (held_at n i w h)
 
   -- the masters that a master sees are nested, and so are those that the operations of an object are called with
   pub home_nested : (n : ℕ) (w : World) → Fits w → IsNested w (home n w.activations)

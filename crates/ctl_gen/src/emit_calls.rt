@@ -1,6 +1,7 @@
 //! The instructions of calls, and of their actuals (RM 6.4).
 
 ghost use Rattle.std.specs.Prelude.{◌≡◌, ◌+◌, ◌<◌, ◌^◌, ◌∷◌, [], drop, length, map, OnOk, None};
+ghost use Rattle.ctl_program.specs.declared.types.Ty.TheVariants.{Record};
 ghost use Rattle.ctl_code.specs.Valid.{over_numbers};
 ghost use Rattle.ctl_gen.specs.Emitted.{lined, passed, reserving, standing, stated, taking_actuals};
 ghost use Rattle.ctl_layout.specs.Values as values;
@@ -13,7 +14,8 @@ use ctl_layout::copies::{
     ANY_TYPE, Back, FIRST_POSITION, back_of, count_numbers, goes_back, numbers_of,
 };
 use ctl_layout::right::{Reached, reached_by};
-use ctl_program::expression::{Actual, Name};
+use ctl_layout::typing::is_called_of;
+use ctl_program::expression::{Actual, Expr, Name};
 use ctl_program::operators::CopyStart;
 use ctl_program::types::{Ty, Var};
 use std::alloc::AllocError;
@@ -83,6 +85,28 @@ impl Emitter {
         self.moved_to(to, ty)
     }
 
+    /// Emits a call of a function that gives a record of this type, whose value is a new operand (RM 6.4).
+    #[cycle(expressions)]
+    pub fn record_call(
+        &mut self,
+        function: usize,
+        actuals: &[Actual],
+        record: usize,
+    ) -> Result<(), AllocError>
+        ensures { OnOk result (self.new ≡ lined (values.record_call_code function (map values.actual_code actuals.now) «record») self.old) }
+    {
+        let (count, at) = (actuals.len(), self.height());
+        self.over_actuals(
+            actuals,
+            Instr::EvaluateRecord {
+                function,
+                actuals: count,
+                record,
+                at,
+            },
+        )
+    }
+
     /// Emits actuals, from left to right, and an instruction that takes them all.
     #[cycle(expressions)]
     fn over_actuals(&mut self, actuals: &[Actual], instr: Instr) -> Result<(), AllocError>
@@ -116,8 +140,8 @@ impl Emitter {
     {
         match actual {
             Actual::ByValue(value, ty) => {
-                let _value = self.evaluated(*ty, value)?;
-                Ok(())
+                self.value_actual(value, *ty)?;
+                self.enter(Kind::Operand(*ty))
             }
             Actual::Part(name, ty) => {
                 self.reference(name, *ty)?;
@@ -127,6 +151,31 @@ impl Emitter {
                 self.copied_actual(name, *ty, *begins, over)?;
                 self.enter(Kind::Operand(*ty))
             }
+        }
+    }
+
+    /// Emits a value: of a scalar type, or that of a record, which a function gives (RM 6.4.1).
+    #[cycle(expressions)]
+    fn value_actual(&mut self, value: &Expr, ty: Ty) -> Result<(), AllocError>
+        ensures { OnOk result (self.new ≡ lined ((values.by_value (values.value_code value.now) ty).code 0) self.old) }
+    {
+        match ty {
+            Ty::Record(record) => self.record_actual(value, record),
+            Ty::Integer | Ty::Count | Ty::Boolean | Ty::Address | Ty::Handle | Ty::Access(_) => {
+                self.expression(self.new_operand(), ty, value)
+            }
+        }
+    }
+
+    /// Emits the value of a record of this type, which a function gives (RM 6.4).
+    #[cycle(expressions)]
+    pub fn record_actual(&mut self, value: &Expr, record: usize) -> Result<(), AllocError>
+        ensures { OnOk result (self.new ≡ lined ((values.by_reference (values.result_of (values.copied «record» (values.value_code value.now))) (Record «record»)).code 0) self.old) }
+    {
+        if is_called_of(record, value) {
+            self.start(value)
+        } else {
+            self.put(Instr::Missing)
         }
     }
 

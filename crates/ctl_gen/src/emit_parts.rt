@@ -1,19 +1,19 @@
 //! The instructions that find parts of objects, by the selectors and dereferences of their names (RM 4.1, 4.1.3).
 
-ghost use Rattle.std.specs.Prelude.{◌≡◌, ◌∷◌, [], OnOk, Some};
+ghost use Rattle.std.specs.Prelude.{◌≡◌, ◌∷◌, [], map, OnOk, Some};
 ghost use Rattle.ctl_program.specs.declared.types.Ty.TheVariants.{Record};
 ghost use Rattle.ctl_code.specs.declared.code.Instr.TheVariants.{Dereference};
 ghost use Rattle.ctl_code.specs.Windows.{height};
 ghost use Rattle.ctl_layout.specs.Parts as spec;
 ghost use Rattle.ctl_layout.specs.Parts.{OfVariable, seen};
-ghost use Rattle.ctl_layout.specs.Values.{begun_by, by_reference};
+ghost use Rattle.ctl_layout.specs.Values.{actual_code, begun_by, by_reference, denoted, function_call, given, value_code};
 ghost use Rattle.ctl_gen.specs.Emitted.{lined};
 
 use crate::emit::Emitter;
 use ctl_code::code::{Cell, Instr};
 use ctl_layout::copies::{ANY_TYPE, FIRST_POSITION};
-use ctl_layout::right::{Reached, is_dereferenced};
-use ctl_program::expression::{Name, Step};
+use ctl_layout::right::{Denoted, Reached, is_dereferenced};
+use ctl_program::expression::{Actual, Expr, Name, Step};
 use ctl_program::types::{Ty, Var};
 use std::alloc::AllocError;
 
@@ -21,15 +21,37 @@ use std::alloc::AllocError;
 const ACCESS_VALUE: Ty = Ty::Integer;
 
 impl Emitter {
-    /// Emits the access value that a name begins with, if it begins with one, as a new operand (RM 4.1).
+    /// Emits the value that a name begins with, if it begins with one, as a new operand (RM 4.1).
     #[cycle(expressions)]
     pub fn begin(&mut self, name: &Name) -> Result<(), AllocError>
         ensures { OnOk result (self.new ≡ lined (spec.begun_code (begun_by name.now)) self.old) }
     {
         match name {
             Name::Variable(..) => Ok(()),
-            Name::Given(given, _) => {
-                self.expression(self.new_operand(), ACCESS_VALUE, given.get())
+            Name::Given(value, _) => self.start(value.get()),
+        }
+    }
+
+    /// Emits a value that a name begins with, as a new operand: that of a record, which a function gives, or an access value (RM 4.1, 6.4).
+    #[cycle(expressions)]
+    pub fn start(&mut self, value: &Expr) -> Result<(), AllocError>
+        ensures { OnOk result (self.new ≡ lined (spec.begun_code (given (value_code value.now))) self.old) }
+    {
+        match value {
+            Expr::Call(function, actuals, ty) => { self.called(*function, actuals.as_slice(), *ty) }
+            _ => self.expression(self.new_operand(), ACCESS_VALUE, value),
+        }
+    }
+
+    /// Emits the call of a function of this type that a name begins with, as a new operand (RM 6.4).
+    #[cycle(expressions)]
+    fn called(&mut self, function: usize, actuals: &[Actual], ty: Ty) -> Result<(), AllocError>
+        ensures { OnOk result (self.new ≡ lined (spec.begun_code (given (function_call function (map actual_code actuals.now) ty))) self.old) }
+    {
+        match ty {
+            Ty::Record(record) => self.record_call(function, actuals, record),
+            Ty::Integer | Ty::Count | Ty::Boolean | Ty::Address | Ty::Handle | Ty::Access(_) => {
+                self.function_call(function, actuals, self.new_operand(), ACCESS_VALUE)
             }
         }
     }
@@ -107,8 +129,8 @@ impl Emitter {
         )
     }
 
-    /// Emits what leads from the part on top, or the access value, which stands over what stands there, to the part behind these steps,
-    /// of this record type.
+    /// Emits what leads from the part or the value on top, which stands over what stands there, to the part behind these steps, of this record
+    /// type.
     fn selects(&mut self, steps: &[Step], record: usize) -> Result<(), AllocError>
         ensures { OnOk result (self.new ≡ lined (spec.selects_code steps.now «record») self.old) }
     {
@@ -143,8 +165,8 @@ impl Emitter {
         }
     }
 
-    /// Emits what finds the part behind these steps from what a name begins with, of this record type; an access value that it begins with
-    /// stands there.
+    /// Emits what finds the part behind these steps from what a name begins with, of this record type; a value that it begins with stands
+    /// there.
     fn behind_start(&mut self, of: &Name, steps: &[Step], record: usize) -> Result<(), AllocError>
         ensures { OnOk result (self.new ≡ lined (spec.behind_code (begun_by of.now) steps.now «record») self.old) }
     {
@@ -161,8 +183,8 @@ impl Emitter {
         self.behind_start(of, steps, record)
     }
 
-    /// Emits what finds a component at a position of the part behind these steps, of this record type; an access value that the name begins
-    /// with stands there.
+    /// Emits what finds a component at a position of the part behind these steps, of this record type; a value that the name begins with
+    /// stands there.
     fn select(
         &mut self,
         of: &Name,
@@ -206,6 +228,16 @@ impl Emitter {
         }
     }
 
+    /// Emits what finds the part of this record type that a name denotes, or the value of a call (RM 6.4).
+    pub fn source(&mut self, part: Denoted<'_>, record: usize) -> Result<(), AllocError>
+        ensures { OnOk result (self.new ≡ lined ((by_reference (denoted (Some part.entry)) (Record «record»)).code 0) self.old) }
+    {
+        match part {
+            Denoted::Named { name, reached } => self.part(name, reached, record),
+            Denoted::Called(call) => self.start(call),
+        }
+    }
+
     /// Emits the value of a component of the part that these steps lead to, which goes into a cell.
     fn taken(
         &mut self,
@@ -230,8 +262,8 @@ impl Emitter {
         )
     }
 
-    /// Emits the value of a component, which goes into a cell: of the object in a variable, or of another part; an access value that the name
-    /// begins with stands there.
+    /// Emits the value of a component, which goes into a cell: of the object in a variable, or of another part; a value that the name begins
+    /// with stands there.
     pub fn component(
         &mut self,
         of: &Name,

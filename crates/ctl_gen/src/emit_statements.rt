@@ -120,14 +120,14 @@ impl Emitter {
         }
     }
 
-    /// Emits the declaration of an object of a record type with the value of a part, which is found first (RM 3.3.1).
+    /// Emits the declaration of an object of a record type with the value of a part, which is found first, or of a call (RM 3.3.1).
     fn copy(&mut self, slot: usize, record: usize, value: &Expr) -> Result<(), AllocError>
         ensures { OnOk result (self.new ≡ lined (spec.copy slot «record» (values.copied «record» (values.value_code value.now))).code self.old) }
     {
         let Some(part) = copied(record, value) else {
             return self.put(Instr::Missing);
         };
-        self.part(part.name, part.reached, record)?;
+        self.source(part, record)?;
         self.over_operand(Ty::Record(record), Instr::DeclareCopy { slot, record })
     }
 
@@ -426,9 +426,9 @@ impl Emitter {
     ) -> Result<(), AllocError>
         ensures { OnOk result (self.new ≡ stated (spec.assign_record (denoted (Some target.entry)) «record» (denoted (Some source.entry))) None self.old) }
     {
-        self.part(target.name, target.reached, record)?;
+        self.source(target, record)?;
         self.enter(Kind::Operand(Ty::Record(record)))?;
-        self.part(source.name, source.reached, record)?;
+        self.source(source, record)?;
         self.over_operand(Ty::Record(record), Instr::Assign { record })?;
         self.leave();
         Ok(())
@@ -448,7 +448,7 @@ impl Emitter {
     fn drop_part(&mut self, part: Denoted<'_>) -> Result<(), AllocError>
         ensures { OnOk result (self.new ≡ stated (spec.call_nothing (denoted (Some part.entry))) None self.old) }
     {
-        self.part(part.name, part.reached, ANY_TYPE)?;
+        self.source(part, ANY_TYPE)?;
         self.over_operand(Ty::Record(ANY_TYPE), Instr::DropPart { record: ANY_TYPE })
     }
 
@@ -486,12 +486,39 @@ impl Emitter {
     {
         match value {
             None => self.put(Instr::Transfer(Way::Return)),
-            Some(value) => {
-                let ty = value_type(value);
-                let from = self.held(ty, value)?;
-                self.take(Instr::Return { from, ty }, from)
+            Some(value) => self.leave_with(value_type(value), value),
+        }
+    }
+
+    /// Emits a return statement with a value of this type: of a record type, or of an elementary one.
+    fn leave_with(&mut self, ty: Ty, value: &Expr) -> Result<(), AllocError>
+        ensures { OnOk result (self.new ≡ stated (spec.return_of ty (values.value_code value.now)) None self.old) }
+    {
+        match ty {
+            Ty::Record(record) => self.return_record(record, value),
+            Ty::Integer | Ty::Count | Ty::Boolean | Ty::Address | Ty::Handle | Ty::Access(_) => {
+                self.return_value(ty, value)
             }
         }
+    }
+
+    /// Emits a return statement with a value of this elementary type.
+    fn return_value(&mut self, ty: Ty, value: &Expr) -> Result<(), AllocError>
+        ensures { OnOk result (self.new ≡ lined (λ s. spec.return_held ty (values.held (values.value_code value.now) ty s)) self.old) }
+    {
+        let from = self.held(ty, value)?;
+        self.take(Instr::Return { from, ty }, from)
+    }
+
+    /// Emits a return statement with the value of a part of a record type, which is found first, or of a call.
+    fn return_record(&mut self, record: usize, value: &Expr) -> Result<(), AllocError>
+        ensures { OnOk result (self.new ≡ stated (spec.return_record «record» (values.copied «record» (values.value_code value.now))) None self.old) }
+    {
+        let Some(part) = copied(record, value) else {
+            return self.put(Instr::Missing);
+        };
+        self.source(part, record)?;
+        self.over_operand(Ty::Record(record), Instr::ReturnRecord { record })
     }
 
     /// Emits the arms of an `if`. Gives where the end of the first one stands, which does not skip the rest yet.

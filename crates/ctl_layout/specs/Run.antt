@@ -1,13 +1,14 @@
 -- The programs that this version runs: blocks; objects of types that extend Controlled, Limited_Controlled or Block_Pool and of records that
 -- are not tagged, whose components are scalar, access values, addresses or of such types again, with their Initialize, Adjust, Finalize,
 -- Allocate and Deallocate; access types whose objects, of any of these types, lie in the standard pool or in a block pool, their collections,
--- allocators, without a value or with one, which for a record is that of a part, access attributes, and instances of
--- Unchecked_Deallocation; calls of the library's Initialize, Adjust, Finalize, Allocate and Deallocate; expressions over constants, variables, components, discriminants of
--- block pools, conversions of numbers and calls of functions, of scalar and access types; assignments to variables and components, also of
--- what access values designate, and calls give these too; calls of procedures, whose actuals are values, copies of variables and parts of
--- objects; return statements, texts with images, handlers of exceptions, and control.
--- Also objects that take the value of a part of their type, which may be any whose objects are declared, and assignments of records of such
--- types to one another, in whichever declarative part the type stands.
+-- allocators, without a value or with one, which for a record is that of a part or of a function, access attributes, and instances of
+-- Unchecked_Deallocation; calls of the library's Initialize, Adjust, Finalize, Allocate and Deallocate; expressions over constants,
+-- variables, components, discriminants of block pools, conversions of numbers and calls of functions, of scalar, access and record types;
+-- assignments to variables and components, also of what access values designate, and calls give these too; calls of procedures, whose
+-- actuals are values, also of records, copies of variables and components, and parts of objects; return statements, texts with images,
+-- handlers of exceptions, and control.
+-- Also objects that take the value of a part of their type, which may be any whose objects are declared, or that of a function, and
+-- assignments of such values to records, in whichever declarative part the type stands.
 use Rattle.std.specs.Prelude.{◌≡◌, ℕ, List, slice_get, Option, Some, None, Bool, IsTrue}
 use Rattle.ctl_program.specs.declared.program.Subprogram.{Subprogram}
 use Rattle.ctl_program.specs.declared.program.Checked.{Checked}

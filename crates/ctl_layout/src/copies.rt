@@ -23,7 +23,7 @@ pub enum Back {
 }
 
 /// Gives where the copy of an actual goes back to, if it does and this version runs it.
-#[tactic(auto, using(crate::proofs::Layers::actual_value, crate::proofs::Layers::part_stays, crate::proofs::Layers::actual_copied))]
+#[tactic(auto, using(crate::proofs::Layers::value_stays, crate::proofs::Layers::part_stays, crate::proofs::Layers::actual_copied))]
 pub fn back_of(actual: &Actual) -> Option<Back>
     ensures { result ≡ (spec.actual_code actual.now).back }
 {

@@ -16,8 +16,8 @@ ghost use Rattle.ctl_layout.specs.Values.{denoted};
 
 use crate::copies::goes_back;
 use crate::forms::{Table, is_number, is_run_type};
-use crate::right::{Denoted, Reached, reached_by, sourced};
-use crate::typing::{copied_from, value_type};
+use crate::right::{Denoted, Reached, gives_record, reached_by, sourced};
+use crate::typing::{copied_from, is_of, type_of, value_type};
 use ctl_program::expression::{Actual, Expr, Name, Operand, Step};
 use ctl_program::program::{Checked, Subprogram};
 use ctl_program::statement::{Arm, Association, Choices, Handler, Item, Master, Piece, Stmt};
@@ -58,7 +58,7 @@ fn do_selectors_run(table: &Table, steps: &[Step]) -> bool
     true
 }
 
-/// Tells whether what a name begins with is run: a variable, or an access value (RM 4.1).
+/// Tells whether what a name begins with is run: a variable, or a value (RM 4.1).
 #[cycle(values)]
 #[tactic(auto, using(crate::proofs::Layers::begun_variable, crate::proofs::Layers::begun_given))]
 fn is_begun(name: &Name, table: &Table) -> bool
@@ -66,7 +66,39 @@ fn is_begun(name: &Name, table: &Table) -> bool
 {
     match name {
         Name::Variable(..) => true,
-        Name::Given(given, _) => value(given.get(), table),
+        Name::Given(given, _) => is_start(given.get(), table),
+    }
+}
+
+/// Tells whether a value that a name begins with is run: that of a call of a record type, or an access value (RM 4.1).
+#[cycle(values)]
+#[tactic(auto, using(crate::proofs::Layers::start_runs))]
+fn is_start(expression: &Expr, table: &Table) -> bool
+    ensures { result ≡ parts.is_begun (values.given (values.value_code expression.now)) table.now.records.now }
+{
+    if gives_record(expression) {
+        is_result(expression, table)
+    } else {
+        value(expression, table)
+    }
+}
+
+/// Tells whether the call of a function that gives a record of this type is run, with these actuals (RM 6.4).
+#[cycle(values)]
+fn is_record_given(actuals: &[Actual], number: usize, table: &Table) -> bool
+    ensures { result ≡ values.record_runs (map values.actual_code actuals.now) number table.now.records.now }
+{
+    table.is_plain(number) && (!goes_back(actuals) && are_actuals(actuals, table))
+}
+
+/// Tells whether the call of a function gives a record and is run, with these actuals and of this type (RM 6.4).
+#[cycle(values)]
+fn is_record_call(actuals: &[Actual], ty: Ty, table: &Table) -> bool
+    ensures { (function : ℕ) → result ≡ parts.may_be_part (values.call_reached function (map values.actual_code actuals.now) ty) table.now.records.now }
+{
+    match ty {
+        Ty::Record(number) => is_record_given(actuals, number, table),
+        _ => false,
     }
 }
 
@@ -116,36 +148,52 @@ fn is_part(name: &Name, reached: Option<Reached<'_>>, table: &Table) -> bool
     }
 }
 
-/// Tells the same of a name with what it denotes.
+/// Tells the same of a name with what it denotes, or of a call.
 fn may_be_part(part: Option<Denoted<'_>>, table: &Table) -> bool
     ensures { result ≡ parts.may_be_part (denoted part.entry) table.now.records.now }
 {
     match part {
-        Some(found) => is_part(found.name, Some(found.reached), table),
+        Some(Denoted::Named { name, reached }) => is_part(name, Some(reached), table),
+        Some(Denoted::Called(call)) => is_start(call, table),
         None => false,
     }
 }
 
-/// Tells whether a value is that of a part of a record type, which is run (RM 3.3.1).
+/// Tells whether the value of a record that a function gives is run (RM 6.4).
 #[cycle(values)]
-#[tactic(auto, using(crate::proofs::Layers::copied_is))]
+#[tactic(auto, using(crate::proofs::Layers::result_runs, crate::proofs::Layers::call_result_runs))]
+fn is_result(expression: &Expr, table: &Table) -> bool
+    ensures { result ≡ parts.may_be_part (values.result_of (values.value_code expression.now).reached) table.now.records.now }
+{
+    match expression {
+        Expr::Call(_, actuals, ty) => is_record_call(actuals.as_slice(), *ty, table),
+        _ => false,
+    }
+}
+
+/// Tells whether a value is that of a part of a record type, or of a call that gives a record of it, which is run (RM 3.3.1).
+#[cycle(values)]
+#[tactic(auto, using(crate::proofs::Layers::copied_runs, crate::proofs::Layers::call_copied_runs))]
 fn is_part_value(expression: &Expr, number: usize, table: &Table) -> bool
     ensures { result ≡ parts.may_be_part (values.copied number (values.value_code expression.now)) table.now.records.now }
 {
     match expression {
         Expr::Read(name, ty) => is_part(name, copied_from(number, name, *ty), table),
+        Expr::Call(_, actuals, ty) => {
+            is_of(number, Some(*ty)) && is_record_call(actuals.as_slice(), *ty, table)
+        }
         _ => false,
     }
 }
 
-/// Tells whether an object of a record type that is declared may take this value: that of a part of the type (RM 3.3.1).
+/// Tells whether an object of a record type that is declared may take this value: that of a part of the type, or of a call (RM 3.3.1).
 fn is_copied(table: &Table, number: usize, expression: &Expr) -> bool
     ensures { (slot : ℕ) → result ≡ (spec.copy slot number (values.copied number (values.value_code expression.now))).runs table.now.records.now }
 {
     table.is_plain(number) && is_part_value(expression, number, table)
 }
 
-/// Tells whether one that is allocated may take this value: that of a part of the type (RM 4.8).
+/// Tells whether one that is allocated may take this value: that of a part of the type, or of a call (RM 4.8).
 #[cycle(values)]
 fn is_copied_anew(expression: &Expr, number: usize, table: &Table) -> bool
     ensures { (access : ℕ) → result ≡ (values.new_copy access number (values.copied number (values.value_code expression.now))).runs table.now.records.now }
@@ -153,7 +201,8 @@ fn is_copied_anew(expression: &Expr, number: usize, table: &Table) -> bool
     table.is_plain(number) && is_part_value(expression, number, table)
 }
 
-/// Tells whether an allocator of an object with this value is run: with that of a part, where the object is of a record type (RM 4.8).
+/// Tells whether an allocator of an object with this value is run: with that of a part or of a call, where the object is of a record type
+/// (RM 4.8).
 #[cycle(values)]
 fn is_given_anew(ty: Ty, expression: &Expr, table: &Table) -> bool
     ensures { (access : ℕ) → result ≡ (values.new access ty None (Some (values.value_code expression.now))).runs table.now.records.now }
@@ -213,13 +262,17 @@ fn value(expression: &Expr, table: &Table) -> bool
     }
 }
 
-/// Tells whether an actual is run: a scalar value, a part that a name denotes, or a copy of a scalar value that may be read (RM 6.4.1).
+/// Tells whether an actual is run: a scalar value or that of a record, a part that a name denotes, or a copy of a scalar value that may be
+/// read (RM 6.4.1).
 #[cycle(values)]
 #[tactic(auto, using(crate::proofs::Layers::actual_value, crate::proofs::Layers::actual_part, crate::proofs::Layers::actual_copied))]
 fn is_actual(actual: &Actual, table: &Table) -> bool
     ensures { result ≡ (values.actual_code actual.now).runs table.now.records.now }
 {
     match actual {
+        Actual::ByValue(expression, Ty::Record(number)) => {
+            is_of(*number, type_of(expression)) && is_result(expression, table)
+        }
         Actual::ByValue(expression, ty) => is_run_type(*ty) && value(expression, table),
         Actual::Part(name, Ty::Record(_)) => is_part(name, reached_by(name), table),
         Actual::Part(..) => false,
@@ -468,12 +521,22 @@ fn is_exit(condition: &Option<Expr>, table: &Table) -> bool
     }
 }
 
-/// Tells whether a return statement is run: without a value, or with one of a scalar type (RM 6.5).
+/// Tells whether a return statement with this value is run: of a scalar type, or of a record type (RM 6.5).
+fn is_returned(expression: &Expr, table: &Table) -> bool
+    ensures { (masters : ℕ) → result ≡ (spec.return (Some (values.value_code expression.now))).runs (among table.now.records.now masters) }
+{
+    match value_type(expression) {
+        Ty::Record(number) => table.is_plain(number) && is_part_value(expression, number, table),
+        ty => is_run_type(ty) && value(expression, table),
+    }
+}
+
+/// Tells whether a return statement is run: without a value, or with one (RM 6.5).
 fn is_return(given: &Option<Expr>, table: &Table) -> bool
     ensures { (masters : ℕ) → result ≡ (spec.return (option_map values.value_code given.now)).runs (among table.now.records.now masters) }
 {
     match given {
-        Some(expression) => is_run_type(value_type(expression)) && value(expression, table),
+        Some(expression) => is_returned(expression, table),
         None => true,
     }
 }

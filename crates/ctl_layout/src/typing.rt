@@ -5,7 +5,7 @@ ghost use Rattle.ctl_layout.specs.Parts.{seen};
 ghost use Rattle.ctl_layout.specs.Values as spec;
 ghost use Rattle.ctl_layout.specs.Values.{denoted};
 
-use crate::right::{Denoted, Reached, reached_by, reached_of};
+use crate::right::{Denoted, Reached, gives_record, reached_by, reached_of};
 use ctl_program::expression::{Expr, Name, Operand};
 use ctl_program::operators::BinaryOp;
 use ctl_program::types::Ty;
@@ -45,7 +45,7 @@ pub fn value_type(expression: &Expr) -> Ty
 }
 
 /// Tells whether a value of this type is of the record type of this number.
-fn is_of(record: usize, ty: Option<Ty>) -> bool
+pub fn is_of(record: usize, ty: Option<Ty>) -> bool
     ensures { result ≡ spec.is_of «record» ty }
 {
     match ty {
@@ -54,7 +54,8 @@ fn is_of(record: usize, ty: Option<Ty>) -> bool
     }
 }
 
-/// Gives the part of a record type that a value is read from, with its name, if it is read from one (RM 3.3.1).
+/// Gives the part of a record type that a value is read from, with its name, if it is read from one (RM 3.3.1), or the call that gives a
+/// record of the type.
 pub fn copied(record: usize, value: &Expr) -> Option<Denoted<'_>>
     ensures { denoted result ≡ spec.copied «record» (spec.value_code value.now) }
 {
@@ -65,14 +66,40 @@ pub fn copied(record: usize, value: &Expr) -> Option<Denoted<'_>>
     }
 }
 
-/// Gives the part of a record type that a name denotes, from which a value of this type is read, if it is of that type (RM 3.3.1).
-pub fn copied_from(record: usize, name: &Name, ty: Ty) -> Option<Reached<'_>>
-    ensures { seen (spec.begun_by name.now) result ≡ spec.reached_if (spec.reached_by name.now) (spec.is_of «record» (Some ty)) }
+/// Tells whether a value is that of a record of this type, which a function gives (RM 6.4).
+#[tactic(auto, using(crate::proofs::Layers::called_is))]
+pub fn is_called_of(record: usize, value: &Expr) -> bool
+    ensures { result ≡ spec.is_result (spec.copied «record» (spec.value_code value.now)) }
 {
-    if is_of(record, Some(ty)) {
-        reached_by(name)
+    is_of(record, type_of(value)) && gives_record(value)
+}
+
+/// Gives the call of a function that gives a record of this type, if a value is one (RM 6.4).
+#[tactic(auto, using(crate::proofs::Layers::called_whole))]
+pub fn called_of(record: usize, value: &Expr) -> Option<Denoted<'_>>
+    ensures { denoted result ≡ spec.result_of (spec.copied «record» (spec.value_code value.now)) }
+{
+    if is_called_of(record, value) {
+        Some(Denoted::Called(value))
     } else {
         None
+    }
+}
+
+/// Gives the part of a record type that a name denotes, from which a value of this type is read, if it is of that type (RM 3.3.1).
+#[tactic(auto, using(crate::proofs::Layers::part_copied, crate::proofs::Layers::other_copied, crate::proofs::Layers::nothing_copied))]
+pub fn copied_from(record: usize, name: &Name, ty: Ty) -> Option<Reached<'_>>
+    ensures { seen (spec.begun_by name.now) result ≡ spec.copied «record» (spec.read (spec.reached_by name.now) ty) }
+{
+    match reached_by(name) {
+        None => None,
+        Some(reached) => {
+            if is_of(record, Some(ty)) {
+                Some(reached)
+            } else {
+                None
+            }
+        }
     }
 }
 

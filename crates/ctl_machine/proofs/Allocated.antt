@@ -220,7 +220,7 @@ pub allocator_raises : (code : Code) (old new : Engine) (object place : ℕ) (s 
 allocator_raises code old new object place s exception m mode kept_is shown events picks =
     let still = subst (λ (e : Kept). KeepsShown old.stock (stock_of e)) kept_is shown in
     let i = forgets code (kept old) object new.stock.blocks m.stack s.control s.operands s.world m.foreign still m.inside in
-    leaves_makes code old new (with_forgotten object new.stock.blocks (kept old)) (WayOf.Raise exception) m.stack s.control s.operands (forget object s.world) i
+    leaves_makes code old new (with_forgotten object new.stock.blocks (kept old)) (WayOf.Raise exception) tt m.stack s.control s.operands (forget object s.world) i
     (record { mode = mode; kept = kept_is; events = events; picks = picks })
 
 -- It may not join --------------------------------------------------------------------------------------

@@ -57,6 +57,8 @@ is_asked code e place under at t stack s ops n drops is =
       upper = n.upper;
       value = n.lower;
       pool = first_spot n.rest;
+      word = p.top;
+      object = p.object;
       rest = drop 1 n.rest;
       below = drops.0;
       are = n.are ∙ ap (λ (l : List Word). Scalar n.upper ∷ Scalar n.lower ∷ l) p.are;
@@ -150,6 +152,7 @@ give_move : (code : Code) (e : Engine) (place : ℕ) (s : State) → (g : IsRetu
 give_move code e place s g =
     let a = g.asked in
     ap (λ (l : List Word). by_give_block l (here_of place s)) (g.are ∙ ap (λ (l : List Word). Scalar g.alignment ∷ l) a.are)
+    ∙ ap (λ n. block_given (pool_return n a.value (block_pool_at n s.world.pools) s.world) a.rest (here_of place s)) a.object
 
 -- what comes of it, of the pool and the address that stand there
 abbrev pub OnReturn : (code : Code) (e : Engine) (place : ℕ) (s : State) → IsReturned code e place s → Stock → Option Stop → Type 0
@@ -223,8 +226,9 @@ served_so code e place n size s t r r' a pool value same served =
     let w = s.world in
     subst (λ y. OnRequest e s t y) same
     (subst (λ (l : List Word). IsServed next w t (grant_in l w) r) (sym a.are)
+    (subst (λ n. IsServed next w t (pool_grant n a.value (block_pool_at n w.pools) w) r) (sym a.object)
     (subst (λ x. IsServed next w t (pool_grant a.pool.object x (block_pool_at a.pool.object w.pools) w) r) value
-    (subst (λ x. IsServed next w t (pool_grant x size (block_pool_at x w.pools) w) r) pool served)))
+    (subst (λ x. IsServed next w t (pool_grant x size (block_pool_at x w.pools) w) r) pool served))))
 
 -- no block is free, or each is smaller, whatever takes an address
 pub exhausted_by : (code : Code) (old new : Engine) (s : State) (stack : List Kind) (t : Stock) (f : Grant → Move) (r : Grant) → f Exhausted ≡ transfers (ByRaise storage_error) s.control s.world → Inside code (kept old) stack s.control s.operands s.world
@@ -235,7 +239,7 @@ exhausted_by code old new s stack t f (Granted (InBlock n b) v) leaves inside x 
 exhausted_by code old new s stack t f (Granted (InSubpool n) v) leaves inside x objects needs becomes = absurd x
 exhausted_by code old new s stack t f Exhausted leaves inside x objects needs becomes =
     subst (λ (m : Move). Makes code old new m) (sym leaves)
-    (leaves_makes code old new (with_stock t (kept old)) (WayOf.Raise 2) stack s.control s.operands s.world (with_shown code (kept old) t s.world.pools stack s.control s.operands s.world inside objects needs x.1) becomes)
+    (leaves_makes code old new (with_stock t (kept old)) (WayOf.Raise 2) tt stack s.control s.operands s.world (with_shown code (kept old) t s.world.pools stack s.control s.operands s.world inside objects needs x.1) becomes)
 exhausted_by code old new s stack t f UnknownPool leaves inside x objects needs becomes = absurd (cc)
 exhausted_by code old new s stack t f (AllocateOf o p) leaves inside x objects needs becomes = absurd x
 

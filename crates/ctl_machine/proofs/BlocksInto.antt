@@ -16,7 +16,8 @@ use Rattle.ctl_code.specs.declared.code.Code.{Code}
 use Rattle.ctl_code.specs.declared.code.Instr.TheVariants.{TakeBlockInto}
 use Rattle.ctl_code.specs.declared.code.Way.TheVariants as WayOf
 use Rattle.ctl_code.specs.Kinds.{stack_at}
-use Rattle.ctl_code.specs.States.{Located, Move, Scalar, State, Word}
+use Rattle.ctl_code.specs.States as T
+use Rattle.ctl_code.specs.States.{Located, Move, Scalar, State, Word, Cells, object_of}
 use Rattle.ctl_code.specs.Table.{AllocateOf, Exhausted, Grant, Granted, UnknownPool, block_taken_into, by_take_block_into, pool_grant, store_into, stored}
 use Rattle.ctl_code.specs.Windows.{height}
 use Rattle.ctl_machine.specs.declared.engine.Engine.{Engine}
@@ -26,12 +27,12 @@ use Rattle.ctl_machine.specs.declared.pool_blocks.Request.TheVariants as Request
 use Rattle.ctl_machine.specs.Masters.{first_display, first_window, heads_of}
 use Rattle.ctl_machine.specs.Moves.{Before, Inside, Makes, here_of}
 use Rattle.ctl_machine.specs.PoolBlocks.{IsAskedInto, IsServed, StandsOnPool, grant_into, world_of}
-use Rattle.ctl_machine.specs.Shows.{Kept, kept, with_spots}
-use Rattle.ctl_machine.specs.Spots.{first_spot, standing}
+use Rattle.ctl_machine.specs.Shows.{Kept, kept, with_spots, Holds}
+use Rattle.ctl_machine.specs.Spots.{first_spot, located, standing, value_spot}
 use Rattle.ctl_machine.proofs.BlockCalls.{exhausted_by, out_inside, stops_makes, unknown_by}
 use Rattle.ctl_machine.proofs.Blocks.{stack_is}
 use Rattle.ctl_machine.proofs.Following.{makes_later}
-use Rattle.ctl_machine.proofs.Operands.{are_newest, has_part}
+use Rattle.ctl_machine.proofs.Operands.{are_newest, has_part, value_gone}
 use Rattle.ctl_machine.proofs.Owned.{object_shown}
 use Rattle.ctl_machine.proofs.PartStored.{stored_in, stored_makes}
 use Rattle.ctl_machine.proofs.Plain.{Becomes}
@@ -58,9 +59,13 @@ into_asked code e place t of position s b =
       size = n.lower;
       part = first_spot n.rest;
       pool = first_spot more;
+      over = p.top;
+      word = q.top;
+      stands = p.stands;
+      object = q.object;
       rest = drop 1 more;
       below = drops.0;
-      are = n.are ∙ ap (λ (l : List Word). Scalar n.upper ∷ Scalar n.lower ∷ l) (p.are ∙ ap (λ (l : List Word). Located (first_spot n.rest) ∷ l) q.are);
+      are = n.are ∙ ap (λ (l : List Word). Scalar n.upper ∷ Scalar n.lower ∷ l) (p.are ∙ ap (λ (l : List Word). p.top ∷ l) q.are);
       read = subst (λ c. slice_get e.cells.items (first_window (reverse e.masters.items) + c) ≡ Some n.lower) at n.lower_read;
       spots = p.spots ∙ ap (λ (l : List Spot). l ++ first_spot n.rest ∷ []) q.spots;
       leads = drops.2;
@@ -81,30 +86,52 @@ both_dropped xs ys below x y pool part whole is =
     let upper = same_front xs (below ++ pool ∷ []) x part whole in
     (upper.1, (same_front ys below y pool (sym is ∙ upper.0)).0)
 
+only_part : (x y : Spot) → x ∷ [] ≡ y ∷ [] → x ≡ y
+only_part x y e = ap (λ (l : List Spot). part_or l) e
+  where
+    part_or : List Spot → Spot
+    part_or [] = x
+    part_or (z ∷ l) = z
+
+-- the object of the value of a record is not there
+no_value : (code : Code) (e : Kept) (k : List T.Frame) (ops : List Word) (v : List ℕ) (w : World) (o : W.Object) → Holds code e k ops w → object_in 0 e.objects ≡ Some o → ⊥
+no_value code e k ops v w o h there = let f : None ≡ Some o = sym (value_gone code e k (Cells v ∷ []) ops w h tt) ∙ there in cc
+
 -- The component takes the address ----------------------------------------------------------------------
 
 -- its object is gone
-pub address_gone : (code : Code) (old new : Engine) (place offset address : ℕ) (part : Spot) (s : State) → StandsOnPool code old place part s → object_in part.object old.stock.objects ≡ None → Becomes old new (ModeOf.Stopped UseAfterFree) (with_spots (kept old) (standing s.control s.operands))
-    → Makes code old new (store_into offset address part s.operands (here_of place s))
-address_gone code old new place offset address part s a none becomes =
+pub address_gone : (code : Code) (old new : Engine) (place offset address : ℕ) (over : Word) (s : State) → (a : StandsOnPool code old place over s) → object_in a.part.object old.stock.objects ≡ None → Becomes old new (ModeOf.Stopped UseAfterFree) (with_spots (kept old) (standing s.control s.operands))
+    → Makes code old new (store_into offset address over s.operands (here_of place s))
+address_gone code old new place offset address (Located part) s a none becomes =
     let e = with_spots (kept old) (standing s.control s.operands) in
-    let missing = object_shown code e s.control s.operands s.world part.object a.left.holds ∙ none in
+    let same : part ≡ a.part = only_part part a.part a.stands in
+    let missing = object_shown code e s.control s.operands s.world part.object a.left.holds ∙ (ap (λ (x : Spot). object_in x.object old.stock.objects) same ∙ none) in
     subst (λ z. Makes code old new (stored part.object (part.offset + offset) address z s.operands (here_of place s))) (sym missing)
     (stops_makes code old new e UseAfterFree s.control s.operands s.world a.left.holds becomes.mode becomes.kept becomes.events becomes.picks)
+address_gone code old new place offset address (Cells v) s a none becomes =
+    stops_makes code old new (with_spots (kept old) (standing s.control s.operands)) UseAfterFree s.control s.operands s.world a.left.holds becomes.mode becomes.kept becomes.events becomes.picks
+address_gone code old new place offset address (Scalar n) s a none becomes = absurd (let f : [] ≡ a.part ∷ [] = a.stands in cc)
 
 -- or is there
-pub address_stored : (code : Code) (old new : Engine) (place offset address : ℕ) (part : Spot) (s : State) (o : W.Object) → StandsOnPool code old place part s → object_in part.object old.stock.objects ≡ Some o
-    → Becomes old new (ModeOf.At (place + 1)) (with_spots (stored_in part.object (part.offset + offset) address (kept old)) (standing s.control s.operands)) → Makes code old new (store_into offset address part s.operands (here_of place s))
-address_stored code old new place offset address part s o a there becomes =
-    stored_makes code old new place a.below s.control s.operands s.world part.object (part.offset + offset) address o a.leads a.left there becomes.mode becomes.kept becomes.events becomes.picks
+pub address_stored : (code : Code) (old new : Engine) (place offset address : ℕ) (over : Word) (s : State) (o : W.Object) → (a : StandsOnPool code old place over s) → object_in a.part.object old.stock.objects ≡ Some o
+    → Becomes old new (ModeOf.At (place + 1)) (with_spots (stored_in a.part.object (a.part.offset + offset) address (kept old)) (standing s.control s.operands)) → Makes code old new (store_into offset address over s.operands (here_of place s))
+address_stored code old new place offset address (Located part) s o a there becomes =
+    let same : a.part ≡ part = sym (only_part part a.part a.stands) in
+    stored_makes code old new place a.below s.control s.operands s.world part.object (part.offset + offset) address o a.leads a.left (ap (λ (x : Spot). object_in x.object old.stock.objects) (sym same) ∙ there) becomes.mode
+    (becomes.kept ∙ ap (λ (x : Spot). with_spots (stored_in x.object (x.offset + offset) address (kept old)) (standing s.control s.operands)) same) becomes.events becomes.picks
+address_stored code old new place offset address (Cells v) s o a there becomes =
+    let same : value_spot v ≡ a.part = only_part (value_spot v) a.part a.stands in
+    let e = with_spots (kept old) (standing s.control s.operands) in
+    absurd (no_value code e s.control s.operands v s.world o a.left.holds (ap (λ (x : Spot). object_in x.object old.stock.objects) same ∙ there))
+address_stored code old new place offset address (Scalar n) s o a there becomes = absurd (let f : [] ≡ a.part ∷ [] = a.stands in cc)
 
 -- A block goes out -------------------------------------------------------------------------------------
 
 -- the table's move, by what comes of the request
-into_move : (code : Code) (e : Engine) (place offset : ℕ) (s : State) → (a : IsAskedInto code e place s) → by_take_block_into offset s.operands (here_of place s) ≡ block_taken_into offset a.part (grant_into s.operands s.world) a.rest (here_of place s)
+into_move : (code : Code) (e : Engine) (place offset : ℕ) (s : State) → (a : IsAskedInto code e place s) → by_take_block_into offset s.operands (here_of place s) ≡ block_taken_into offset a.over (grant_into s.operands s.world) a.rest (here_of place s)
 into_move code e place offset s a =
     ap (λ (l : List Word). by_take_block_into offset l (here_of place s)) a.are
-    ∙ ap (λ (l : List Word). block_taken_into offset a.part (grant_into l s.world) a.rest (here_of place s)) (sym a.are)
+    ∙ ap (λ (l : List Word). block_taken_into offset a.over (grant_into l s.world) a.rest (here_of place s)) (sym a.are)
 
 -- what comes of it, of the pool and the size that stand there
 abbrev pub OnRequestInto : Engine → State → Stock → Request → Type 0
@@ -117,66 +144,73 @@ served_into code e place n size s t r r' a pool value same served =
     let w = s.world in
     subst (λ y. OnRequestInto e s t y) same
     (subst (λ (l : List Word). IsServed next w t (grant_into l w) r) (sym a.are)
+    (subst (λ n. IsServed next w t (pool_grant n a.size (block_pool_at n w.pools) w) r) (sym a.object)
     (subst (λ x. IsServed next w t (pool_grant a.pool.object x (block_pool_at a.pool.object w.pools) w) r) value
-    (subst (λ x. IsServed next w t (pool_grant x size (block_pool_at x w.pools) w) r) pool served)))
+    (subst (λ x. IsServed next w t (pool_grant x size (block_pool_at x w.pools) w) r) pool served))))
 
 -- no block is free, or each is smaller
 pub exhausted_into : (code : Code) (old new : Engine) (place offset : ℕ) (s : State) (stack : List Kind) (t : Stock) → IsAskedInto code old place s → Inside code (kept old) stack s.control s.operands s.world → OnRequestInto old s t RequestOf.Exhausted
     → t.objects ≡ old.stock.objects → t.needs ≡ old.stock.needs → Becomes old new (ModeOf.Transfers (WayOf.Raise 2)) (with_stock t (kept old)) → Makes code old new (by_take_block_into offset s.operands (here_of place s))
 exhausted_into code old new place offset s stack t a inside served objects needs becomes =
     subst (λ (m : Move). Makes code old new m) (sym (into_move code old place offset s a))
-    (exhausted_by code old new s stack t (λ g. block_taken_into offset a.part g a.rest (here_of place s)) (grant_into s.operands s.world) refl inside served objects needs becomes)
+    (exhausted_by code old new s stack t (λ g. block_taken_into offset a.over g a.rest (here_of place s)) (grant_into s.operands s.world) refl inside served objects needs becomes)
 
 -- there is no such pool, or it has closed
 pub unknown_into : (code : Code) (old new : Engine) (place offset : ℕ) (s : State) (stack : List Kind) (t : Stock) → IsAskedInto code old place s → Inside code (kept old) stack s.control s.operands s.world → OnRequestInto old s t RequestOf.Unknown
     → t.objects ≡ old.stock.objects → t.needs ≡ old.stock.needs → Becomes old new (ModeOf.Stopped UseAfterFree) (with_stock t (kept old)) → Makes code old new (by_take_block_into offset s.operands (here_of place s))
 unknown_into code old new place offset s stack t a inside served objects needs becomes =
     subst (λ (m : Move). Makes code old new m) (sym (into_move code old place offset s a))
-    (unknown_by code old new s stack t (λ g. block_taken_into offset a.part g a.rest (here_of place s)) (grant_into s.operands s.world) refl inside served objects needs becomes)
+    (unknown_by code old new s stack t (λ g. block_taken_into offset a.over g a.rest (here_of place s)) (grant_into s.operands s.world) refl inside served objects needs becomes)
 
--- the part that has the component, and what is left of the operands below it and the pool, in the table's world
-abbrev pub part_into : State → Spot
-part_into s = first_spot (drop 2 s.operands)
+-- what has the component, and what is left of the operands below it and the pool, in the table's world
+abbrev pub first_word : List Word → Word
+first_word [] = Scalar 0
+first_word (x ∷ ops) = x
+
+abbrev pub over_into : State → Word
+over_into s = first_word (drop 2 s.operands)
 
 abbrev pub left_into : State → State
 left_into s = record s { operands = drop 4 s.operands; world = world_of (grant_into s.operands s.world) s.world }
 
 -- the block is out: the part stands over the pool
 pub stands_out : (code : Code) (old mid : Engine) (place address : ℕ) (s : State) (t : Stock) → IsAskedInto code old place s → OnRequestInto old s t (RequestOf.Taken address) → t.objects ≡ old.stock.objects → t.needs ≡ old.stock.needs → kept mid ≡ with_stock t (kept old)
-    → StandsOnPool code mid place (part_into s) (left_into s)
+    → StandsOnPool code mid place (over_into s) (left_into s)
 stands_out code old mid place address s t a served objects needs mid_is =
     let k = s.control in
     let v = world_of (grant_into s.operands s.world) s.world in
     let rest : a.rest ≡ drop 4 s.operands = ap (λ (l : List Word). drop 4 l) (sym a.are) in
-    let part : a.part ≡ part_into s = ap (λ (l : List Word). first_spot (drop 2 l)) (sym a.are) in
+    let over : a.over ≡ over_into s = ap (λ (l : List Word). first_word (drop 2 l)) (sym a.are) in
     let out = out_inside code (with_spots (kept old) (standing k a.rest)) a.below k a.rest s.world t (grant_into s.operands s.world) address a.left served objects needs in
     let spots : mid.spots.items ≡ (standing k a.rest ++ a.pool ∷ []) ++ a.part ∷ [] = ap (λ (e : Kept). e.spots) mid_is ∙ a.spots in
     record {
+      part = a.part;
+      stands = subst (λ (x : Word). located (x ∷ []) ≡ a.part ∷ []) over a.stands;
       pool = a.pool;
       below = a.below;
-      spots = spots ∙ ap (λ (l : List Word). (standing k l ++ a.pool ∷ []) ++ a.part ∷ []) rest ∙ ap (λ (x : Spot). (standing k (drop 4 s.operands) ++ a.pool ∷ []) ++ x ∷ []) part;
+      spots = spots ∙ ap (λ (l : List Word). (standing k l ++ a.pool ∷ []) ++ a.part ∷ []) rest;
       leads = a.leads;
       left = subst (λ (l : List Word). Inside code (with_spots (kept mid) (standing k l)) a.below k l v) rest (subst (λ (e : Kept). Inside code (with_spots e (standing k a.rest)) a.below k a.rest v) (sym mid_is) out);
     }
 
 -- and a component of it takes the address
 pub taken_into : (code : Code) (old mid new : Engine) (place offset address : ℕ) (s : State) (t : Stock) → IsAskedInto code old place s → OnRequestInto old s t (RequestOf.Taken address) → mid.events.items ≡ old.events.items → mid.picks.items ≡ old.picks.items
-    → Makes code mid new (store_into offset address (part_into s) (left_into s).operands (here_of place (left_into s))) → Makes code old new (by_take_block_into offset s.operands (here_of place s))
+    → Makes code mid new (store_into offset address (over_into s) (left_into s).operands (here_of place (left_into s))) → Makes code old new (by_take_block_into offset s.operands (here_of place s))
 taken_into code old mid new place offset address s t a served events picks made =
     subst (λ (m : Move). Makes code old new m) (sym (into_move code old place offset s a))
     (by (grant_into s.operands s.world) served
-    (subst (λ (l : List Word). Makes code old new (moved (first_spot (drop 2 l)) (drop 4 l) (first_display (heads_of (world_of (grant_into s.operands s.world) s.world).activations)) address (world_of (grant_into s.operands s.world) s.world))) a.are
+    (subst (λ (l : List Word). Makes code old new (moved (first_word (drop 2 l)) (drop 4 l) (first_display (heads_of (world_of (grant_into s.operands s.world) s.world).activations)) address (world_of (grant_into s.operands s.world) s.world))) a.are
     (makes_later code old mid new _ events picks made)))
   where
-    moved : Spot → List Word → List ℕ → ℕ → World → Move
-    moved part rest d x v = store_into offset x part rest (record { display = d; place = place; control = s.control; world = v })
+    moved : Word → List Word → List ℕ → ℕ → World → Move
+    moved over rest d x v = store_into offset x over rest (record { display = d; place = place; control = s.control; world = v })
 
-    by : (r : Grant) → IsServed (kept old).next_object s.world t r (RequestOf.Taken address) → Makes code old new (moved a.part a.rest (first_display (heads_of (world_of r s.world).activations)) address (world_of r s.world)) → Makes code old new (block_taken_into offset a.part r a.rest (here_of place s))
+    by : (r : Grant) → IsServed (kept old).next_object s.world t r (RequestOf.Taken address) → Makes code old new (moved a.over a.rest (first_display (heads_of (world_of r s.world).activations)) address (world_of r s.world)) → Makes code old new (block_taken_into offset a.over r a.rest (here_of place s))
     by (Granted Standard v) x made = absurd x
     by (Granted (InBlock n b) v) x made =
         let same : address ≡ b = cc in
         let seen : first_display (heads_of v.activations) ≡ first_display (heads_of s.world.activations) = ap (λ (w : World). first_display (heads_of w.activations)) x.2 in
-        subst (λ d. Makes code old new (moved a.part a.rest d b v)) seen (subst (λ c. Makes code old new (moved a.part a.rest (first_display (heads_of v.activations)) c v)) same made)
+        subst (λ d. Makes code old new (moved a.over a.rest d b v)) seen (subst (λ c. Makes code old new (moved a.over a.rest (first_display (heads_of v.activations)) c v)) same made)
     by (Granted (InSubpool n) v) x made = absurd x
     by Exhausted x made = absurd (cc)
     by UnknownPool x made = absurd (cc)

@@ -9,7 +9,7 @@ use Rattle.ctl_program.specs.declared.types.Ty.TheVariants.{Record}
 use Rattle.ctl_program.specs.declared.types.Var.{Var}
 use Rattle.ctl_meaning.specs.World as W
 use Rattle.ctl_meaning.specs.World.{Allocated, Collection, InBlock, Place, Standard, World}
-use Rattle.ctl_meaning.specs.Objects.{cells_at, change_in, object_in, with_cells}
+use Rattle.ctl_meaning.specs.Objects.{cells_at, change_in, object_in, with_cells, first_cells}
 use Rattle.ctl_meaning.specs.Changes.{new_object, object_at, write_cells, opened_changes}
 use Rattle.ctl_meaning.specs.Finalization.{Spot}
 use Rattle.ctl_meaning.specs.Outcome.{Fine}
@@ -37,12 +37,12 @@ use Rattle.ctl_machine.specs.Granting.{IsNewMember, number_at, storage_seen}
 use Rattle.ctl_machine.specs.Masters.{Head, heads_of, first_display}
 use Rattle.ctl_machine.specs.Moves.{Before, GoesOn, Inside, Makes, here_of}
 use Rattle.ctl_machine.specs.Shows.{Holds, Kept, Sized, kept, with_spots}
-use Rattle.ctl_machine.specs.Spots.{first_cells, first_spot, standing}
+use Rattle.ctl_machine.specs.Spots.{value_on_top, first_spot, standing}
 use Rattle.ctl_machine.proofs.CopyBegun.{noted_from}
 use Rattle.ctl_machine.proofs.CopyDeclared.{value_taken}
 use Rattle.ctl_machine.proofs.Following.{makes_later}
 use Rattle.ctl_machine.proofs.Foreign.{owns_no_next}
-use Rattle.ctl_machine.proofs.Located.{located_move, part_on_top}
+use Rattle.ctl_machine.proofs.Located.{on_part, on_value, part_on_top}
 use Rattle.ctl_machine.proofs.Granted.{IsBeside}
 use Rattle.ctl_machine.proofs.NewMember.{member_added, member_heads, member_next, member_number, not_allocated, refused_makes}
 use Rattle.ctl_machine.proofs.Operands.{HasPart}
@@ -50,6 +50,7 @@ use Rattle.ctl_machine.proofs.Owned.{cells_keep, holds_changed, new_found, objec
 use Rattle.ctl_machine.proofs.Stages.{Copies, allocator_begins}
 use Rattle.ctl_machine.proofs.Touched.{gone_makes}
 use Rattle.ctl_machine.proofs.Words.{newest_read}
+use Rattle.ctl_machine.specs.RecordValues.{IsPart, IsValue}
 
 -- It is to be adjusted -----------------------------------------------------------------------------------
 
@@ -92,6 +93,13 @@ taken_kept code old made objects set t source start offset size number place v o
     let more : made.objects ≡ old.objects ++ x ∷ [] = ap (λ (e : Kept). e.objects) added.kept in
     value_taken old.objects made.objects objects x source start offset size (size_of code t) number old.next_object o more next there from all copied
     ∙ ap (λ (l : List W.Object). change_in old.next_object (with_cells 0 (cells_at offset (size_of code t) o)) l) (sym more)
+
+-- or takes this value
+pub given_taken : (code : Code) (old made : Kept) (objects : List W.Object) (number : ℕ) (v value : List ℕ) → number ≡ old.next_object → v ≡ value → objects ≡ change_in number (with_cells 0 v) made.objects → objects ≡ change_in old.next_object (with_cells 0 value) made.objects
+given_taken code old made objects number v value next is written =
+    written
+    ∙ (ap (λ n. change_in n (with_cells 0 v) made.objects) next
+    ∙ ap (λ (l : List ℕ). change_in old.next_object (with_cells 0 l) made.objects) is)
 
 -- other parts may stand beside the window
 spots_apart : (code : Code) (old made : Kept) (set t : ℕ) (place : Place) (v : World) (spots : List Spot) → IsNewMember code old made set (Record t) place v → IsNewMember code (with_spots old spots) (with_spots made spots) set (Record t) place v
@@ -179,35 +187,38 @@ value_makes code old made mid new at set t place v value rest s h beside i event
 
 -- the state where it takes the value of a record, at the address that an Allocate gave
 abbrev pub kept_state : Code → ℕ → ℕ → State → State
-kept_state code set t s = taken_by code set t (InBlock (number_at s.operands 2) (number_at s.operands 0)) s.world (first_cells (drop 4 s.operands)) (drop 1 (drop 4 s.operands)) s
+kept_state code set t s = taken_by code set t (InBlock (number_at s.operands 2) (number_at s.operands 0)) s.world (value_on_top (drop 4 s.operands)) (drop 1 (drop 4 s.operands)) s
 
 -- Where storage was granted ------------------------------------------------------------------------------
 
--- the state then, with the value of the part that was the newest operand
-abbrev pub taken_state : Code → ℕ → ℕ → Place → World → W.Object → State → State
-taken_state code set t place v o s = taken_by code set t place v (cells_at (first_spot s.operands).offset (size_of code t) o) (drop 1 s.operands) s
+-- the value of the part that was the newest operand
+abbrev pub value_of : Code → ℕ → W.Object → State → List ℕ
+value_of code t o s = cells_at (first_spot s.operands).offset (size_of code t) o
+
+-- the state then, with a value
+abbrev pub taken_state : Code → ℕ → ℕ → Place → World → List ℕ → State → State
+taken_state code set t place v value s = taken_by code set t place v value (drop 1 s.operands) s
 
 -- the move of the table, where it was or not
-abbrev pub member_copied : Code → ℕ → ℕ → ℕ → W.Object → State → Grant → T.Move
-member_copied code at set t o s g = copy_at code t (cells_at (first_spot s.operands).offset (size_of code t) o) set g (drop 1 s.operands) (here_of at s)
+abbrev pub member_copied : Code → ℕ → ℕ → ℕ → List ℕ → State → Grant → T.Move
+member_copied code at set t value s g = copy_at code t value set g (drop 1 s.operands) (here_of at s)
 
 -- the part whose value is taken
 pub source_part : (code : Code) (e : Engine) (access place t at : ℕ) (ty : Ty) (s : State) → (b : Before code e place (NewCopy access t ty at) s) → HasPart code (kept e) b.fine.2.0 s.control s.operands s.world
 source_part code e access place t at ty s b = part_on_top code e t b.stack b.fine.2.0 s b.inside b.fine.2.1
 
-pub taken_is : (code : Code) (old made new : Engine) (access at set t cell : ℕ) (ty : Ty) (place : Place) (v : World) (o : W.Object) (s : State) → Before code old at (NewCopy access t ty cell) s → IsBeside s.world v → IsNewMember code (kept old) (kept made) set (Record t) place v
-    → kept new ≡ with_taken (cells_at (first_spot s.operands).offset (size_of code t) o) (old.numbered.objects + 1) (standing s.control (drop 1 s.operands)) (kept made)
-    → IsMember code new made.numbered.objects (at + 2) (taken_state code set t place v o s)
-taken_is code old made new access at set t cell ty place v o s b beside i are =
+pub taken_is : (code : Code) (old made new : Engine) (access at set t cell : ℕ) (ty : Ty) (place : Place) (v : World) (value : List ℕ) (s : State) → Before code old at (NewCopy access t ty cell) s → IsBeside s.world v → IsNewMember code (kept old) (kept made) set (Record t) place v
+    → kept new ≡ with_taken value (old.numbered.objects + 1) (standing s.control (drop 1 s.operands)) (kept made)
+    → IsMember code new made.numbered.objects (at + 2) (taken_state code set t place v value s)
+taken_is code old made new access at set t cell ty place v value s b beside i are =
     let p = source_part code old access at t cell ty s b in
     let behind : at + 1 + 1 ≡ at + 2 = omega arith in
-    value_is code old made new (at + 2) set t ty b.fine.2.0 place v (cells_at (first_spot s.operands).offset (size_of code t) o) (drop 1 s.operands) s b.fine.0 (subst (λ n. Leads code n (Operand ty ∷ b.fine.2.0)) behind b.fine.2.2.2) p.left beside i are
+    value_is code old made new (at + 2) set t ty b.fine.2.0 place v value (drop 1 s.operands) s b.fine.0 (subst (λ n. Leads code n (Operand ty ∷ b.fine.2.0)) behind b.fine.2.2.2) p.left beside i are
 
-pub taken_makes : (code : Code) (old made mid new : Engine) (access at set t cell : ℕ) (ty : Ty) (place : Place) (v : World) (o : W.Object) (s : State) → Before code old at (NewCopy access t ty cell) s → IsBeside s.world v → IsNewMember code (kept old) (kept made) set (Record t) place v
+pub taken_makes : (code : Code) (old made mid new : Engine) (access at set t cell : ℕ) (ty : Ty) (place : Place) (v : World) (value : List ℕ) (s : State) → Before code old at (NewCopy access t ty cell) s → IsBeside s.world v → IsNewMember code (kept old) (kept made) set (Record t) place v
     → mid.events.items ≡ old.events.items → mid.picks.items ≡ old.picks.items
-    → (let x = taken_state code set t place v o s in Makes code mid new (adjust_new code (parts_of code t) T.ByAllocator (newborn made.numbered.objects t (OwnerOf.Collection set)) (point_at (at + 2) x) x.control x.world)) → Makes code old new (member_copied code at set t o s (Granted place v))
-taken_makes code old made mid new access at set t cell ty place v o s b beside i events picks makes =
-    let value = cells_at (first_spot s.operands).offset (size_of code t) o in
+    → (let x = taken_state code set t place v value s in Makes code mid new (adjust_new code (parts_of code t) T.ByAllocator (newborn made.numbered.objects t (OwnerOf.Collection set)) (point_at (at + 2) x) x.control x.world)) → Makes code old new (member_copied code at set t value s (Granted place v))
+taken_makes code old made mid new access at set t cell ty place v value s b beside i events picks makes =
     let behind : at + 2 ≡ at + 1 + 1 = omega arith in
     subst (λ n. Makes code old new (copy_move code n set t place v value (drop 1 s.operands) s)) behind (value_makes code old made mid new (at + 2) set t place v value (drop 1 s.operands) s b.inside.holds beside i events picks makes)
 
@@ -221,10 +232,18 @@ seen_in code access s = set_seen (slice_get code.accesses.items access) (first_d
 abbrev pub pool_of : Code → ℕ → Option Var
 pool_of code access = pool_in (slice_get code.accesses.items access)
 
-copied_move : (code : Code) (e : Engine) (access place t at : ℕ) (ty : Ty) (s : State) → Before code e place (NewCopy access t ty at) s
+copied_move : (code : Code) (place access t at : ℕ) (ty : Ty) (s : State) → IsPart s.operands
     → by_instr code (Some (NewCopy access t ty at)) s.operands (here_of place s) ≡ new_from code t (first_spot s.operands).offset (object_at (first_spot s.operands).object s.world) (pool_of code access) (seen_in code access s) (drop 1 s.operands) (here_of place s)
-copied_move code e access place t at ty s b =
-    located_move code e b.fine.2.0 s (λ y rest. new_from code t y.offset (object_at y.object s.world) (pool_of code access) (seen_in code access s) rest (here_of place s)) (here_of place s) (source_part code e access place t at ty s b)
+copied_move code place access t at ty s top =
+    let h = here_of place s in
+    on_part (λ y rest. new_from code t y.offset (object_at y.object s.world) (pool_of code access) (seen_in code access s) rest h) (λ v rest. new_with code t (first_cells (size_of code t) v) (pool_of code access) (seen_in code access s) rest h) s.operands h top
+
+-- with the value of a record
+given_move : (code : Code) (place access t at : ℕ) (ty : Ty) (s : State) → IsValue s.operands
+    → by_instr code (Some (NewCopy access t ty at)) s.operands (here_of place s) ≡ new_with code t (first_cells (size_of code t) (value_on_top s.operands)) (pool_of code access) (seen_in code access s) (drop 1 s.operands) (here_of place s)
+given_move code place access t at ty s top =
+    let h = here_of place s in
+    on_value (λ y rest. new_from code t y.offset (object_at y.object s.world) (pool_of code access) (seen_in code access s) rest h) (λ v rest. new_with code t (first_cells (size_of code t) v) (pool_of code access) (seen_in code access s) rest h) s.operands h top
 
 -- an object that is there
 abbrev pub object_or : Option W.Object → W.Object
@@ -243,41 +262,48 @@ source_found code e access place t at ty s b count number x all read is there =
     shown ∙ ap (λ (z : Option W.Object). Some (object_or z)) (sym shown)
 
 -- the object of the part is gone
-pub source_gone : (code : Code) (old new : Engine) (access place t at : ℕ) (ty : Ty) (s : State) → Before code old place (NewCopy access t ty at) s → object_in (first_spot s.operands).object old.stock.objects ≡ None
+pub source_gone : (code : Code) (old new : Engine) (access place t at : ℕ) (ty : Ty) (s : State) → Before code old place (NewCopy access t ty at) s → IsPart s.operands → object_in (first_spot s.operands).object old.stock.objects ≡ None
     → GoesOn old new (ModeOf.Stopped UseAfterFree) old.cells.items → Makes code old new (by_instr code (Some (NewCopy access t ty at)) s.operands (here_of place s))
-source_gone code old new access place t at ty s b none goes =
+source_gone code old new access place t at ty s b top none goes =
     let y = first_spot s.operands in
     let rest = drop 1 s.operands in
     let object : object_at y.object s.world ≡ None = object_shown code (kept old) s.control s.operands s.world y.object b.inside.holds ∙ none in
-    subst (λ (m : T.Move). Makes code old new m) (sym (copied_move code old access place t at ty s b ∙ ap (λ (z : Option W.Object). new_from code t y.offset z (pool_of code access) (seen_in code access s) rest (here_of place s)) object))
+    subst (λ (m : T.Move). Makes code old new m) (sym (copied_move code place access t at ty s top ∙ ap (λ (z : Option W.Object). new_from code t y.offset z (pool_of code access) (seen_in code access s) rest (here_of place s)) object))
     (gone_makes code old new s.control s.operands s.world b.inside.holds goes)
 
 -- it is there
-source_there : (code : Code) (old : Engine) (access place t at : ℕ) (ty : Ty) (o : W.Object) (s : State) → Before code old place (NewCopy access t ty at) s → object_at (first_spot s.operands).object s.world ≡ Some o
+pub source_there : (code : Code) (access place t at : ℕ) (ty : Ty) (o : W.Object) (s : State) → IsPart s.operands → object_at (first_spot s.operands).object s.world ≡ Some o
     → by_instr code (Some (NewCopy access t ty at)) s.operands (here_of place s) ≡ new_with code t (cells_at (first_spot s.operands).offset (size_of code t) o) (pool_of code access) (seen_in code access s) (drop 1 s.operands) (here_of place s)
-source_there code old access place t at ty o s b there =
-    copied_move code old access place t at ty s b ∙ ap (λ (z : Option W.Object). new_from code t (first_spot s.operands).offset z (pool_of code access) (seen_in code access s) (drop 1 s.operands) (here_of place s)) there
+source_there code access place t at ty o s top there =
+    copied_move code place access t at ty s top ∙ ap (λ (z : Option W.Object). new_from code t (first_spot s.operands).offset z (pool_of code access) (seen_in code access s) (drop 1 s.operands) (here_of place s)) there
 
 -- no collection takes the new object
 refused_with : (code : Code) (t : ℕ) (mode : Mode) (v : List ℕ) (pool : Option Var) (ops : List Word) (h : Here) (c : Option Collection) → Refuses code (Record t) c mode → new_with code t v pool c ops h ≡ not_allocated code (Record t) c h
 refused_with code t mode v pool ops h None refuses = refl
 refused_with code t mode v pool ops h (Some c) refuses = rw (refuses.0) refl
 
-pub copy_refused : (code : Code) (old new : Engine) (access place t at : ℕ) (ty : Ty) (mode : Mode) (o : W.Object) (s : State) → Before code old place (NewCopy access t ty at) s → object_at (first_spot s.operands).object s.world ≡ Some o
+-- by the instruction, whose value is this
+abbrev pub HasValueTo : Code → ℕ → ℕ → ℕ → ℕ → Ty → List ℕ → State → Type 0
+HasValueTo code access place t at ty value s = by_instr code (Some (NewCopy access t ty at)) s.operands (here_of place s) ≡ new_with code t value (pool_of code access) (seen_in code access s) (drop 1 s.operands) (here_of place s)
+
+pub has_given : (code : Code) (access place t at : ℕ) (ty : Ty) (s : State) → IsValue s.operands → HasValueTo code access place t at ty (first_cells (size_of code t) (value_on_top s.operands)) s
+has_given code access place t at ty s top = given_move code place access t at ty s top
+
+pub copy_refused : (code : Code) (old new : Engine) (access place t at : ℕ) (ty : Ty) (mode : Mode) (value : List ℕ) (s : State) → Before code old place (NewCopy access t ty at) s → HasValueTo code access place t at ty value s
     → Refuses code (Record t) (seen_in code access s) mode → GoesOn old new mode old.cells.items → Makes code old new (by_instr code (Some (NewCopy access t ty at)) s.operands (here_of place s))
-copy_refused code old new access place t at ty mode o s b there refuses goes =
+copy_refused code old new access place t at ty mode value s b move refuses goes =
     subst (λ (m : T.Move). Makes code old new m)
-    (sym (source_there code old access place t at ty o s b there ∙ refused_with code t mode (cells_at (first_spot s.operands).offset (size_of code t) o) (pool_of code access) (drop 1 s.operands) (here_of place s) (seen_in code access s) refuses))
+    (sym (move ∙ refused_with code t mode value (pool_of code access) (drop 1 s.operands) (here_of place s) (seen_in code access s) refuses))
     (refused_makes code old new (Record t) mode b.stack s.operands (here_of place s) b.inside (seen_in code access s) refuses goes)
 
 -- it takes it, where there is storage
-takes_with : (code : Code) (access place t set : ℕ) (o : W.Object) (s : State) (c : Option Collection) → Takes code (Record t) c set
-    → new_with code t (cells_at (first_spot s.operands).offset (size_of code t) o) (pool_of code access) c (drop 1 s.operands) (here_of place s) ≡ member_copied code place set t o s (storage_seen code access s (units_of code t))
-takes_with code access place t set o s c u =
-    ap (λ (z : Option Collection). new_with code t (cells_at (first_spot s.operands).offset (size_of code t) o) (pool_of code access) z (drop 1 s.operands) (here_of place s)) u.is
-    ∙ rw (u.takes) (ap (λ n. member_copied code place n t o s (storage_seen code access s (units_of code t))) u.number)
+takes_with : (code : Code) (access place t set : ℕ) (value : List ℕ) (s : State) (c : Option Collection) → Takes code (Record t) c set
+    → new_with code t value (pool_of code access) c (drop 1 s.operands) (here_of place s) ≡ member_copied code place set t value s (storage_seen code access s (units_of code t))
+takes_with code access place t set value s c u =
+    ap (λ (z : Option Collection). new_with code t value (pool_of code access) z (drop 1 s.operands) (here_of place s)) u.is
+    ∙ rw (u.takes) (ap (λ n. member_copied code place n t value s (storage_seen code access s (units_of code t))) u.number)
 
-pub copy_takes : (code : Code) (old new : Engine) (access place set t at : ℕ) (ty : Ty) (o : W.Object) (s : State) → Before code old place (NewCopy access t ty at) s → object_at (first_spot s.operands).object s.world ≡ Some o
-    → Takes code (Record t) (seen_in code access s) set → Makes code old new (member_copied code place set t o s (storage_seen code access s (units_of code t))) → Makes code old new (by_instr code (Some (NewCopy access t ty at)) s.operands (here_of place s))
-copy_takes code old new access place set t at ty o s b there u makes =
-    subst (λ (m : T.Move). Makes code old new m) (sym (source_there code old access place t at ty o s b there ∙ takes_with code access place t set o s (seen_in code access s) u)) makes
+pub copy_takes : (code : Code) (old new : Engine) (access place set t at : ℕ) (ty : Ty) (value : List ℕ) (s : State) → HasValueTo code access place t at ty value s
+    → Takes code (Record t) (seen_in code access s) set → Makes code old new (member_copied code place set t value s (storage_seen code access s (units_of code t))) → Makes code old new (by_instr code (Some (NewCopy access t ty at)) s.operands (here_of place s))
+copy_takes code old new access place set t at ty value s move u makes =
+    subst (λ (m : T.Move). Makes code old new m) (sym (move ∙ takes_with code access place t set value s (seen_in code access s) u)) makes

@@ -55,7 +55,7 @@ pub null_makes : (code : Code) (old new : Engine) (place t at : ℕ) (s : State)
 unfolding constraint_error
 null_makes code old new place t at s b read g t' =
     let n = access_on_top code old place t at s b in
-    subst (λ (m : Move). Makes code old new m) (sym (dereference_move code old place t at 0 s b read t')) (transfers_makes code old new (WayOf.Raise 0) b.fine.0 s.control n.rest s.world n.left g)
+    subst (λ (m : Move). Makes code old new m) (sym (dereference_move code old place t at 0 s b read t')) (transfers_makes code old new (WayOf.Raise 0) tt b.fine.0 s.control n.rest s.world n.left g)
 
 -- any other value designates the object of its number
 number_designates : (x : ℕ) (ops : List Word) (h : Here) → x ≢ 0 → by_dereference x ops h ≡ designated x (object_at x h.world) ops h

@@ -1,5 +1,5 @@
 -- An object is freed by a component, which becomes null.
-use Rattle.std.proofs.Common.{◌≡◌, ℕ, zero, suc, ◌+◌, List, [], ◌∷◌, ◌++◌, Option, Some, None, Bool, true, false, cond, drop, refl, sym, ap, ◌∙◌, subst, reverse, arith}
+use Rattle.std.proofs.Common.{◌≡◌, ℕ, zero, suc, ◌+◌, List, [], ◌∷◌, ◌++◌, Option, Some, None, Bool, true, false, cond, drop, refl, sym, ap, ◌∙◌, subst, reverse, arith, ◌⊎◌, inl, inr}
 use Rattle.std.specs.Prelude.{nat_eq, slice_get}
 use Rattle.std.specs.Option.{option_map}
 use Rattle.ctl_tree.specs.declared.ending.Stop.TheVariants.{UseAfterFree}
@@ -41,13 +41,14 @@ use Rattle.ctl_machine.proofs.Assignments.{stops_makes}
 use Rattle.ctl_machine.proofs.Bodies.{more_cells}
 use Rattle.ctl_machine.proofs.Foreign.{forgotten}
 use Rattle.ctl_machine.proofs.Freed.{IsFreeingIn, behind_frame, goes_forgotten, more_inside}
-use Rattle.ctl_machine.proofs.Located.{goes_keeping, part_on_top, read_is}
-use Rattle.ctl_machine.proofs.Operands.{other_spots}
+use Rattle.ctl_machine.proofs.Located.{goes_keeping, part_on_top, read_is, locating_is, taking_none}
+use Rattle.ctl_machine.proofs.Operands.{other_spots, value_gone}
 use Rattle.ctl_machine.proofs.Owned.{cells_keep, holds_changed, object_shown}
 use Rattle.ctl_machine.proofs.Plain.{goes_makes}
 use Rattle.ctl_machine.proofs.Touched.{gone_makes}
 use Rattle.ctl_machine.proofs.Words.{same_front}
 use Rattle.ctl_machine.proofs.Stocked.{with_stock}
+use Rattle.ctl_machine.specs.RecordValues.{IsPart, IsValue}
 
 -- The frame goes ---------------------------------------------------------------------------------------
 
@@ -311,12 +312,23 @@ component_read code t position s r start number offset x read first object same 
 part_move : (code : Code) (old : Engine) (access place t position : ℕ) (s : State) (r : Option ℕ) → Before code old place (FreePart access t position) s → (let x = component code t position s in r ≡ part_in x.offset (object_at x.object s.world)
     → by_instr code (Some (FreePart access t position)) s.operands (here_of place s) ≡ part_read code x (slice_get code.accesses.items access) r (drop 1 s.operands) (here_of place s))
 part_move code old access place t position s r b read =
-    let h = here_of place s in
     let p = part_on_top code old t b.stack b.fine.1.0 s b.inside b.fine.1.1 in
-    let x = component code t position s in
-    let v = slice_get code.accesses.items access in
-    ap (λ (l : List Word). by_instr code (Some (FreePart access t position)) l h) p.are
-    ∙ (read_part code x v (object_at x.object s.world) (drop 1 s.operands) h ∙ ap (λ z. part_read code x v z (drop 1 s.operands) h) (sym read))
+    by p.either
+  where
+    by : IsPart s.operands ⊎ IsValue s.operands → by_instr code (Some (FreePart access t position)) s.operands (here_of place s) ≡ part_read code (component code t position s) (slice_get code.accesses.items access) r (drop 1 s.operands) (here_of place s)
+    by (inl is) =
+        let h = here_of place s in
+        let x = component code t position s in
+        let v = slice_get code.accesses.items access in
+        locating_is (λ y rest. let z = component_of y (offset_of code t position) position in by_free_part code z v (object_at z.object s.world) rest h) s.operands h is
+        ∙ (read_part code x v (object_at x.object s.world) (drop 1 s.operands) h ∙ ap (λ z. part_read code x v z (drop 1 s.operands) h) (sym read))
+    by (inr is) =
+        let h = here_of place s in
+        let x = component code t position s in
+        let v = slice_get code.accesses.items access in
+        let none : object_at x.object s.world ≡ None = object_shown code (kept old) s.control s.operands s.world x.object b.inside.holds ∙ value_gone code (kept old) s.control s.operands s.operands s.world b.inside.holds is in
+        taking_none (λ y rest. let z = component_of y (offset_of code t position) position in by_free_part code z v (object_at z.object s.world) rest h) s.operands h is
+        ∙ ap (λ z. part_read code x v z (drop 1 s.operands) h) (sym (read ∙ ap (λ o. part_in x.offset o) none))
 
 pub component_gone : (code : Code) (old new : Engine) (access place t position : ℕ) (s : State) → Before code old place (FreePart access t position) s → (let x = component code t position s in None ≡ part_in x.offset (object_at x.object s.world))
     → GoesOn old new (ModeOf.Stopped UseAfterFree) old.cells.items → Makes code old new (by_instr code (Some (FreePart access t position)) s.operands (here_of place s))

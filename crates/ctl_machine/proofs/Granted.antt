@@ -9,7 +9,6 @@ use Rattle.ctl_meaning.specs.World as W
 use Rattle.ctl_meaning.specs.World.{World, Allocated, BlockPool, InBlock, Object, Place, Slot, Standard}
 use Rattle.ctl_meaning.specs.Activations.{master_of, slot_in}
 use Rattle.ctl_meaning.specs.Changes.{in_pools, new_object, object_at, opened_changes, slot_at}
-use Rattle.ctl_meaning.specs.Finalization.{Spot}
 use Rattle.ctl_meaning.specs.Lists.{item_or}
 use Rattle.ctl_meaning.specs.Objects.{object_in}
 use Rattle.ctl_meaning.specs.Pools.{block_pool_at, hold_block, take_block}
@@ -23,8 +22,8 @@ use Rattle.ctl_code.specs.declared.code.Code.{Code}
 use Rattle.ctl_code.specs.declared.code.Layout.{Layout}
 use Rattle.ctl_code.specs.declared.code.Way.TheVariants as WayOf
 use Rattle.ctl_code.specs.States as T
-use Rattle.ctl_code.specs.States.{State, Word}
-use Rattle.ctl_code.specs.Table.{Grant, Granted, Exhausted, UnknownPool, AllocateOf, cells_for, grant, holder_grant, object_grant, operation_for, own_grant, pool_grant, pool_in, size_in, spot_of, units_for, units_in, with_member}
+use Rattle.ctl_code.specs.States.{State, Word, object_of}
+use Rattle.ctl_code.specs.Table.{Grant, Granted, Exhausted, UnknownPool, AllocateOf, cells_for, grant, holder_grant, object_grant, operation_for, own_grant, pool_grant, pool_in, size_in, word_of, units_for, units_in, with_member}
 use Rattle.ctl_code.specs.Valid.{IsValid}
 use Rattle.ctl_machine.specs.declared.engine.Engine.{Engine}
 use Rattle.ctl_machine.specs.declared.frame.Formal.{Formal}
@@ -34,7 +33,7 @@ use Rattle.ctl_machine.specs.declared.frame.Mode.{Mode}
 use Rattle.ctl_machine.specs.declared.frame.Mode.TheVariants as ModeOf
 use Rattle.ctl_machine.specs.declared.frame.Owned.{Owned}
 use Rattle.ctl_machine.specs.Gathering.{with_new_member}
-use Rattle.ctl_machine.specs.Granting.{Adds, AsksNoUser, Grants, IsNewMember, Lacks, Serves, block_unless, pool_grants, storage_seen}
+use Rattle.ctl_machine.specs.Granting.{Adds, AsksNoUser, Grants, IsNewMember, IsUsers, Lacks, Serves, block_unless, pool_grants, storage_seen}
 use Rattle.ctl_machine.specs.PoolBlocks.{is_open_at}
 use Rattle.ctl_machine.specs.declared.granting.Grantor.{Grantor}
 use Rattle.ctl_machine.specs.declared.granting.Grantor.TheVariants as GrantorOf
@@ -45,6 +44,7 @@ use Rattle.ctl_machine.specs.Shows.{Holds, Kept, kept, stock_of}
 use Rattle.ctl_machine.proofs.HeldThere.{content_is}
 use Rattle.ctl_machine.proofs.Links.{got}
 use Rattle.ctl_machine.proofs.Lists.{same_at}
+use Rattle.ctl_machine.proofs.MasterOf.{object_or, object_or_is}
 use Rattle.ctl_machine.proofs.MayJoin.{known_there, none_known}
 use Rattle.ctl_machine.proofs.Owned.{object_shown}
 use Rattle.ctl_machine.proofs.Reached.{linked_in}
@@ -54,8 +54,8 @@ use Rattle.ctl_machine.proofs.Stocked.{with_stock}
 -- What a variable holds ----------------------------------------------------------------------------------
 
 -- the number of the object of a part, if there is one
-abbrev pub number_in : Option Spot → Option ℕ
-number_in y = option_map (λ (z : Spot). z.object) y
+abbrev pub number_in : Option Word → Option ℕ
+number_in y = option_map object_of y
 
 -- levels count from 1
 level_seen : (d : List ℕ) (v : Var) (level : ℕ) → level - 1 ≡ v.level - 1 → master_of d (record v { level = level }) ≡ master_of d v
@@ -77,21 +77,21 @@ master_seen code e k ops w v level count m h some same bound display shallow lon
     (found, sym (level_seen d v level same) ∙ level_is d (record v { level = level }) count e.masters.items hs m some (linked_in code e k ops w h) found (omega (arith, shallow, long, some)) display long)
 
 -- a slot that is not there holds none
-pub no_object_held : (n slot : ℕ) (w : World) → slot_in n slot w.activations ≡ W.unset → None ≡ number_in (spot_of (slot_at n slot w).content)
+pub no_object_held : (n slot : ℕ) (w : World) → slot_in n slot w.activations ≡ W.unset → None ≡ number_in (word_of (slot_at n slot w).content)
 unfolding opened_changes
-no_object_held n slot w is = ap (λ (y : Slot). number_in (spot_of y.content)) (sym is)
+no_object_held n slot w is = ap (λ (y : Slot). number_in (word_of y.content)) (sym is)
 
 -- what was found in a slot is what it holds
 pub part_held : (code : Code) (e : Engine) (k : List T.Frame) (ops : List Word) (w : World) (n slot i end : ℕ) (x : Master) (owned : List Owned) (formals : List Formal) (r : Option Holder) → Holds code (kept e) k ops w → slice_get e.masters.items i ≡ Some x → n ≡ x.number → slot < x.slots
-    → owned ≡ e.owned.items → formals ≡ e.formals.items → end ≡ own_end (slice_get e.masters.items (i + 1)) (length e.owned.items) → found_in formals r ≡ spot_of (holder_in (drop x.owned (take end owned)) slot (formal_in (own_formals x formals) slot))
-    → spot_of (slot_at n slot w).content ≡ found_in e.formals.items r
+    → owned ≡ e.owned.items → formals ≡ e.formals.items → end ≡ own_end (slice_get e.masters.items (i + 1)) (length e.owned.items) → found_in formals r ≡ word_of (holder_in (drop x.owned (take end owned)) slot (formal_in (own_formals x formals) slot))
+    → word_of (slot_at n slot w).content ≡ found_in e.formals.items r
 part_held code e k ops w n slot i end x owned formals r h found number less all bound ends part =
     let formal = formal_in (own_formals x e.formals.items) slot in
-    ap (λ c. spot_of c) (content_is code e k ops w n slot i x h found number less)
+    ap (λ c. word_of c) (content_is code e k ops w n slot i x h found number less)
     ∙ sym (sym (ap (λ (l : List Formal). found_in l r) bound)
     ∙ (part
-    ∙ (ap (λ (l : List Formal). spot_of (holder_in (drop x.owned (take end owned)) slot (formal_in (own_formals x l) slot))) bound
-    ∙ (ap (λ (l : List Owned). spot_of (holder_in (drop x.owned (take end l)) slot formal)) all ∙ ap (λ j. spot_of (holder_in (drop x.owned (take j e.owned.items)) slot formal)) ends))))
+    ∙ (ap (λ (l : List Formal). word_of (holder_in (drop x.owned (take end owned)) slot (formal_in (own_formals x l) slot))) bound
+    ∙ (ap (λ (l : List Owned). word_of (holder_in (drop x.owned (take end l)) slot formal)) all ∙ ap (λ j. word_of (holder_in (drop x.owned (take j e.owned.items)) slot formal)) ends))))
 
 -- The pool -------------------------------------------------------------------------------------------------
 
@@ -162,11 +162,11 @@ library_gone code e k ops w n x h knows is shut =
     λ size. here_grants code (kept e) n size x.ty w None is i ∙ (own_pool n size i.object w i.number ∙ shut_grants n size w (block_pool_at n w.pools) (sym shut))
 
 -- the object of the part that a variable holds is the pool
-pub held_grants : (code : Code) (e : Engine) (w : World) (y : Option Spot) (n : ℕ) (r : Grantor) → Some n ≡ number_in y → Grants code e w (λ size. object_grant code size (object_at n w) w) r → Grants code e w (λ size. holder_grant code y size w) r
+pub held_grants : (code : Code) (e : Engine) (w : World) (y : Option Word) (n : ℕ) (r : Grantor) → Some n ≡ number_in y → Grants code e w (λ size. object_grant code size (object_at n w) w) r → Grants code e w (λ size. holder_grant code y size w) r
 held_grants code e w None n r held g = absurd (cc)
-held_grants code e w (Some s) n r held g = subst (λ i. Grants code e w (λ size. object_grant code size (object_at i w) w) r) (same_at n s.object (Some n) refl held) g
+held_grants code e w (Some x) n r held g = subst (λ i. Grants code e w (λ size. object_grant code size (object_at i w) w) r) (same_at n (object_of x) (Some n) refl held) g
 
-pub none_grants : (code : Code) (e : Engine) (w : World) (y : Option Spot) → None ≡ number_in y → Grants code e w (λ size. holder_grant code y size w) GrantorOf.Gone
+pub none_grants : (code : Code) (e : Engine) (w : World) (y : Option Word) → None ≡ number_in y → Grants code e w (λ size. holder_grant code y size w) GrantorOf.Gone
 none_grants code e w None held = λ size. refl
 none_grants code e w (Some s) held = absurd (cc)
 
@@ -209,6 +209,13 @@ asks_none code e w g GrantorOf.Standard size o f grants none is = let both = sym
 asks_none code e w g (GrantorOf.Library n) size o f grants none is = unless_asks (is_exhausted_at n size w.pools) n w o f (sym (grants.2 size) ∙ is)
 asks_none code e w g (GrantorOf.User n h) size o f grants none is = absurd none
 asks_none code e w g GrantorOf.Gone size o f grants none is = let both = sym (grants size) ∙ is in cc
+
+-- or it is, for the object of this number
+pub asked_pool : (code : Code) (e : Engine) (n f : ℕ) (g : ℕ → Grant) → IsUsers code e n f g
+    → (object_in n e.stock.objects ≡ Some (object_or n e.stock.objects)) × (operation_for (λ x. x.allocate) code (object_or n e.stock.objects).ty ≡ Some f)
+asked_pool code e n f g u =
+    let same : u.object ≡ object_or n e.stock.objects = sym (object_or_is n e.stock.objects u.object u.found) in
+    (u.found ∙ ap (λ (o : Object). Some o) same, subst (λ (o : Object). operation_for (λ x. x.allocate) code o.ty ≡ Some f) same u.operation)
 
 -- An object is put there -------------------------------------------------------------------------------------
 

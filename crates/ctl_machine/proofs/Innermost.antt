@@ -25,7 +25,7 @@ inside_master code (Operand ty ∷ stack) k (x ∷ ops) stands = inside_master c
 inside_master code (RecordValue ∷ stack) k (T.Cells v ∷ ops) stands = inside_master code stack k ops stands
 inside_master code (Block slots ∷ stack) (InMaster n g (AfterBlock p) ∷ k) [] stands = (n, g, AfterBlock p, k, refl)
 inside_master code (Body level slots number ∷ []) (InMaster n g (AfterProcedure copies p) ∷ k) [] stands = (n, g, (AfterProcedure copies p), k, refl)
-inside_master code (Body level slots number ∷ []) (InMaster n g (AfterFunction p) ∷ k) [] stands = (n, g, (AfterFunction p), k, refl)
+inside_master code (Body level slots number ∷ []) (InMaster n g (AfterFunction given p) ∷ k) [] stands = (n, g, (AfterFunction given p), k, refl)
 inside_master code (Body level slots number ∷ []) (InMaster n g AfterBody ∷ k) [] stands = (n, g, AfterBody, k, refl)
 inside_master code _ _ _ stands = elim stands [ ]
 

@@ -33,14 +33,14 @@ use Rattle.ctl_machine.specs.Spots.{first_spot, located, spots_in, standing, val
 use Rattle.ctl_machine.specs.Under.{tall, under}
 use Rattle.ctl_machine.proofs.Following.{makes_later}
 use Rattle.ctl_machine.proofs.Lists.{length_set, set_left, set_right}
-use Rattle.ctl_machine.proofs.Located.{located_move, part_on_top}
-use Rattle.ctl_machine.proofs.Operands.{HasPart}
+use Rattle.ctl_machine.proofs.Located.{locating_is, part_on_top, taking_none}
 use Rattle.ctl_machine.proofs.Places.{place_is}
 use Rattle.ctl_machine.proofs.Plain.{put_makes, put_within}
 use Rattle.ctl_machine.proofs.Slots.{tall_is}
 use Rattle.ctl_machine.proofs.Touched.{fetched_is, gone_makes, part_move}
 use Rattle.ctl_machine.proofs.Values.{room_for, window_in}
 use Rattle.ctl_machine.proofs.Words.{length_cells}
+use Rattle.ctl_machine.specs.RecordValues.{IsPart, IsValue}
 
 -- Rows of cells ----------------------------------------------------------------------------------------
 
@@ -212,30 +212,29 @@ begins_is : (begins : CopyStart) (offset : ℕ) (y : Spot) (ops : List Word) (h 
 begins_is CopyStartOf.Actual offset y ops h = fetched_is (y.offset + offset) (object_at y.object h.world) NamedOf.Operand ops h
 begins_is CopyStartOf.Beginning offset y ops h = refl
 
-keep_move : (code : Code) (e : Engine) (place : ℕ) (s : State) (below : List Kind) (t position offset : ℕ) (begins : CopyStart) (ty : Ty) (depth base at : ℕ) (x : Option ℕ) → HasPart code (kept e) below s.control s.operands s.world → offset ≡ offset_of code t position
+keep_move : (code : Code) (e : Engine) (place : ℕ) (s : State) (below : List Kind) (t position offset : ℕ) (begins : CopyStart) (ty : Ty) (depth base at : ℕ) (x : Option ℕ) → IsPart s.operands → offset ≡ offset_of code t position
     → x ≡ begun_with begins (part_in ((first_spot s.operands).offset + offset) (object_at (first_spot s.operands).object s.world))
     → by_instr code (Some (KeepPart t position begins ty depth base at)) s.operands (here_of place s) ≡ part_move x NamedOf.Operand (keeping (depth - 3) (first_spot s.operands) (drop 1 s.operands)) (here_of place s)
-keep_move code e place s below t position offset begins ty depth base at x p same is =
+keep_move code e place s below t position offset begins ty depth base at x top same is =
     let h = here_of place s in
     let y = first_spot s.operands in
     let rest = keeping (depth - 3) y (drop 1 s.operands) in
-    located_move code e below s (λ z others. by_begin_copy begins (offset_of code t position) z (keeping (depth - 3) z others) h) h p
+    locating_is (λ z others. by_begin_copy begins (offset_of code t position) z (keeping (depth - 3) z others) h) s.operands h top
     ∙ (ap (λ n. by_begin_copy begins n y rest h) (sym same)
     ∙ (begins_is begins offset y rest h
     ∙ ap (λ z. part_move z NamedOf.Operand rest h) (sym is)))
 
-pub keep_makes : (code : Code) (old mid new : Engine) (place : ℕ) (s : State) (t position offset : ℕ) (begins : CopyStart) (ty : Ty) (depth base at x : ℕ) → IsValid code → Before code old place (KeepPart t position begins ty depth base at) s
+pub keep_makes : (code : Code) (old mid new : Engine) (place : ℕ) (s : State) (t position offset : ℕ) (begins : CopyStart) (ty : Ty) (depth base at x : ℕ) → IsValid code → Before code old place (KeepPart t position begins ty depth base at) s → IsPart s.operands
     → Some x ≡ begun_with begins (part_in ((first_spot s.operands).offset + offset) (object_at (first_spot s.operands).object s.world))
     → kept mid ≡ with_part_in (first_window (reverse old.masters.items) + base) (first_spot s.operands) (with_spots (kept old) (standing s.control (drop 1 s.operands))) → mid.events.items ≡ old.events.items → mid.picks.items ≡ old.picks.items
     → GoesOn mid new (ModeOf.At (place + 1)) (slice_set mid.cells.items (first_window (reverse mid.masters.items) + at) x)
     → (t' position' : ℕ) (ty' : Ty) → offset ≡ offset_of code t' position' → Makes code old new (by_instr code (Some (KeepPart t' position' begins ty' depth base at)) s.operands (here_of place s))
-keep_makes code old mid new place s t position offset begins ty depth base at x valid b is mid_is events picks g t' position' ty' same =
+keep_makes code old mid new place s t position offset begins ty depth base at x valid b top is mid_is events picks g t' position' ty' same =
     let below = b.fine.2.0 in
     let rest = keeping (depth - 3) (first_spot s.operands) (drop 1 s.operands) in
-    let p = part_on_top code old t b.stack below s b.inside b.fine.2.1 in
     let i = subst (λ (e : Kept). Inside code e below s.control rest s.world) (sym mid_is) (keep_inside code old place t position begins ty depth base at s b) in
     let made = put_makes code mid new place (record { at = at; named = NamedOf.Operand }) ty below s.control rest s.world x b.fine.0 valid i b.fine.2.2 g in
-    subst (λ (m : Move). Makes code old new m) (sym (keep_move code old place s below t' position' offset begins ty' depth base at (Some x) p same is))
+    subst (λ (m : Move). Makes code old new m) (sym (keep_move code old place s below t' position' offset begins ty' depth base at (Some x) top same is))
     (makes_later code old mid new _ events picks made)
 
 -- and there is a cell for it
@@ -247,11 +246,18 @@ copy_within code old mid place s t position begins ty depth base at valid b mid_
     let i = subst (λ (e : Kept). Inside code e below s.control rest s.world) (sym mid_is) (keep_inside code old place t position begins ty depth base at s b) in
     put_within code mid place (record { at = at; named = NamedOf.Operand }) ty below s.control rest s.world b.fine.0 valid i b.fine.2.2
 
-pub keep_gone : (code : Code) (old new : Engine) (place : ℕ) (s : State) (t position offset : ℕ) (begins : CopyStart) (ty : Ty) (depth base at : ℕ) → Before code old place (KeepPart t position begins ty depth base at) s
+pub keep_gone : (code : Code) (old new : Engine) (place : ℕ) (s : State) (t position offset : ℕ) (begins : CopyStart) (ty : Ty) (depth base at : ℕ) → Before code old place (KeepPart t position begins ty depth base at) s → IsPart s.operands
     → None ≡ begun_with begins (part_in ((first_spot s.operands).offset + offset) (object_at (first_spot s.operands).object s.world)) → GoesOn old new (ModeOf.Stopped UseAfterFree) old.cells.items
     → (t' position' : ℕ) (ty' : Ty) → offset ≡ offset_of code t' position' → Makes code old new (by_instr code (Some (KeepPart t' position' begins ty' depth base at)) s.operands (here_of place s))
-keep_gone code old new place s t position offset begins ty depth base at b is g t' position' ty' same =
+keep_gone code old new place s t position offset begins ty depth base at b top is g t' position' ty' same =
     let below = b.fine.2.0 in
-    let p = part_on_top code old t b.stack below s b.inside b.fine.2.1 in
-    subst (λ (m : Move). Makes code old new m) (sym (keep_move code old place s below t' position' offset begins ty' depth base at None p same is))
+    subst (λ (m : Move). Makes code old new m) (sym (keep_move code old place s below t' position' offset begins ty' depth base at None top same is))
+    (gone_makes code old new s.control s.operands s.world b.inside.holds g)
+
+-- the value of a record is kept nowhere: what goes back is given to a variable, which it is not (3.3)
+pub keep_none : (code : Code) (old new : Engine) (place : ℕ) (s : State) (t position : ℕ) (begins : CopyStart) (ty : Ty) (depth base at : ℕ) → Before code old place (KeepPart t position begins ty depth base at) s → IsValue s.operands → GoesOn old new (ModeOf.Stopped UseAfterFree) old.cells.items
+    → (t' position' : ℕ) (ty' : Ty) → Makes code old new (by_instr code (Some (KeepPart t' position' begins ty' depth base at)) s.operands (here_of place s))
+keep_none code old new place s t position begins ty depth base at b top g t' position' ty' =
+    let h = here_of place s in
+    subst (λ (m : Move). Makes code old new m) (sym (taking_none (λ z others. by_begin_copy begins (offset_of code t' position') z (keeping (depth - 3) z others) h) s.operands h top))
     (gone_makes code old new s.control s.operands s.world b.inside.holds g)

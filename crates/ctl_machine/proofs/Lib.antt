@@ -1,5 +1,7 @@
 pub mod Lists
 pub mod Words
+pub mod FormalWords
+pub mod FirstCells
 pub mod Scalars
 pub mod Transferred
 pub mod Located
@@ -41,7 +43,11 @@ pub mod NextWindow
 pub mod NextPart
 pub mod Chosen
 pub mod Passed
+pub mod Ways
 pub mod Behind
+pub mod Returned
+pub mod LeftWithRecord
+pub mod RecordsBehind
 pub mod Finalized
 pub mod Tops
 pub mod Called
@@ -51,6 +57,7 @@ pub mod Created
 pub mod Leaves
 pub mod Steps
 pub mod Operands
+pub mod TopValues
 pub mod Branches
 pub mod Bounds
 pub mod Turns

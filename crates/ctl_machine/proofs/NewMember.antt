@@ -231,7 +231,7 @@ pub lacking_makes : (code : Code) (old mid new : Engine) (mode : Mode) (stack : 
 unfolding storage_error
 lacking_makes code old mid new mode stack ops h move (Granted place v) asks raises stops i lacks before goes = absurd lacks
 lacking_makes code old mid new mode stack ops h move Exhausted asks raises stops i lacks before goes =
-    subst (λ (m : T.Move). Makes code old new m) (sym raises) (transfers_makes code old new (WayOf.Raise 2) stack h.control ops h.world i (subst (λ (m : Mode). GoesOn old new m old.cells.items) lacks (goes_both old mid new mode before goes)))
+    subst (λ (m : T.Move). Makes code old new m) (sym raises) (transfers_makes code old new (WayOf.Raise 2) tt stack h.control ops h.world i (subst (λ (m : Mode). GoesOn old new m old.cells.items) lacks (goes_both old mid new mode before goes)))
 lacking_makes code old mid new mode stack ops h move UnknownPool asks raises stops i lacks before goes =
     subst (λ (m : T.Move). Makes code old new m) (sym stops) (gone_makes code old new h.control ops h.world i.holds (subst (λ (m : Mode). GoesOn old new m old.cells.items) lacks (goes_both old mid new mode before goes)))
 lacking_makes code old mid new mode stack ops h move (AllocateOf o f) asks raises stops i lacks before goes =
@@ -248,7 +248,7 @@ not_allocated code of (Some c) h = transfers (ByRaise program_error) h.control h
 pub refused_makes : (code : Code) (old new : Engine) (of : Ty) (mode : Mode) (stack : List Kind) (ops : List Word) (h : Here) → Inside code (kept old) stack h.control ops h.world → (o : Option Collection) → Refuses code of o mode → GoesOn old new mode old.cells.items → Makes code old new (not_allocated code of o h)
 unfolding program_error
 refused_makes code old new of mode stack ops h i None refuses goes = gone_makes code old new h.control ops h.world i.holds (subst (λ (m : Mode). GoesOn old new m old.cells.items) refuses goes)
-refused_makes code old new of mode stack ops h i (Some c) refuses goes = transfers_makes code old new (WayOf.Raise 1) stack h.control ops h.world i (subst (λ (m : Mode). GoesOn old new m old.cells.items) refuses.1 goes)
+refused_makes code old new of mode stack ops h i (Some c) refuses goes = transfers_makes code old new (WayOf.Raise 1) tt stack h.control ops h.world i (subst (λ (m : Mode). GoesOn old new m old.cells.items) refuses.1 goes)
 
 refused_so : (code : Code) (old new : Engine) (of : Ty) (mode : Mode) (stack : List Kind) (pool : Option Var) (ops : List Word) (h : Here) → Inside code (kept old) stack h.control ops h.world → (o : Option Collection) → Refuses code of o mode → GoesOn old new mode old.cells.items → Makes code old new (by_new code of pool o ops h)
 refused_so code old new of mode stack pool ops h i None refuses goes = refused_makes code old new of mode stack ops h i None refuses goes

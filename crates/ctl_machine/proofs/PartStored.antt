@@ -1,5 +1,5 @@
 -- A component of an object takes a value.
-use Rattle.std.proofs.Common.{◌≡◌, ℕ, ◌+◌, ◌<◌, List, [], ◌∷◌, ◌++◌, Option, Some, None, drop, length, refl, sym, ap, ◌∙◌, subst}
+use Rattle.std.proofs.Common.{◌≡◌, ℕ, ◌+◌, ◌<◌, List, [], ◌∷◌, ◌++◌, Option, Some, None, drop, length, refl, sym, ap, ◌∙◌, subst, ◌⊎◌, inl, inr}
 use Rattle.std.specs.Prelude.{slice_get}
 use Rattle.std.proofs.lemmas.Option.{slice_get_within}
 use Rattle.ctl_tree.specs.declared.ending.Stop.TheVariants.{UseAfterFree}
@@ -14,8 +14,8 @@ use Rattle.ctl_code.specs.declared.kinds.Kind.TheVariants.{Operand}
 use Rattle.ctl_code.specs.declared.code.Code.{Code}
 use Rattle.ctl_code.specs.declared.code.Cell.{Cell}
 use Rattle.ctl_code.specs.declared.code.Instr.TheVariants.{StorePart}
-use Rattle.ctl_code.specs.States.{Word, State, Frame, Move, Stuck}
-use Rattle.ctl_code.specs.Table.{Here, by_instr, locating, offset_of, quiet, store_into, stored, taking}
+use Rattle.ctl_code.specs.States.{Word, State, Frame, Move, Stuck, Scalar, Located, Cells}
+use Rattle.ctl_code.specs.Table.{Here, by_instr, offset_of, quiet, store_into, stored, taking, gone, on_top}
 use Rattle.ctl_code.specs.Valid.{Leads}
 use Rattle.ctl_machine.specs.declared.engine.Engine.{Engine}
 use Rattle.ctl_machine.specs.declared.frame.Mode.TheVariants as ModeOf
@@ -25,15 +25,16 @@ use Rattle.ctl_machine.specs.Shows.{Kept, Holds, kept, with_spots}
 use Rattle.ctl_machine.specs.Spots.{first_spot, standing}
 use Rattle.ctl_machine.specs.Moves.{Before, Inside, Makes, GoesOn, here_of}
 use Rattle.ctl_machine.proofs.Computed.{cell_of, same_value}
-use Rattle.ctl_machine.proofs.Located.{goes_keeping}
-use Rattle.ctl_machine.proofs.Operands.{has_part}
+use Rattle.ctl_machine.proofs.Located.{goes_keeping, top_is}
+use Rattle.ctl_machine.proofs.Operands.{has_part, part_there}
 use Rattle.ctl_machine.proofs.Owned.{cells_keep, holds_changed, object_shown}
 use Rattle.ctl_machine.proofs.Touched.{gone_makes}
 use Rattle.ctl_machine.proofs.Values.{taken}
+use Rattle.ctl_machine.specs.RecordValues.{IsPart, IsValue}
 
 -- the table's move, by the first cell of the component
 abbrev store_move : Cell → ℕ → ℕ → State → Move
-store_move from offset place s = taking from.named (λ x rest. locating (λ y below. store_into offset x y below (here_of place s)) rest (here_of place s)) s.operands (here_of place s)
+store_move from offset place s = taking from.named (λ x rest. on_top (λ y below. store_into offset x y below (here_of place s)) rest (here_of place s)) s.operands (here_of place s)
 
 -- the operands below the value
 abbrev pub parts_of : Cell → State → List Word
@@ -48,7 +49,16 @@ pub record IsGiven (code : Code) (e : Engine) (place : ℕ) (s : State) (from : 
   pub spots : e.spots.items ≡ standing s.control (drop 1 (parts_of from s)) ++ first_spot (parts_of from s) ∷ []
   pub holds : Holds code (kept e) s.control (parts_of from s) s.world
   pub left : Inside code (with_spots (kept e) (standing s.control (drop 1 (parts_of from s)))) below s.control (drop 1 (parts_of from s)) s.world
-  pub move : (offset : ℕ) → store_move from offset place s ≡ store_into offset value (first_spot (parts_of from s)) (drop 1 (parts_of from s)) (here_of place s)
+  pub either : IsPart (parts_of from s) ⊎ IsValue (parts_of from s)
+  pub move : (offset : ℕ) → IsPart (parts_of from s) → store_move from offset place s ≡ store_into offset value (Located (first_spot (parts_of from s))) (drop 1 (parts_of from s)) (here_of place s)
+  pub none : (offset : ℕ) → IsValue (parts_of from s) → store_move from offset place s ≡ gone s.control s.world
+
+-- the value of a record takes none
+stores_none : (offset x : ℕ) (ops : List Word) (h : Here) → IsValue ops → on_top (λ y below. store_into offset x y below h) ops h ≡ gone h.control h.world
+stores_none offset x (Cells v ∷ ops) h is = refl
+stores_none offset x (Located m ∷ ops) h is = absurd is
+stores_none offset x (Scalar n ∷ ops) h is = absurd is
+stores_none offset x [] h is = absurd is
 
 pub is_given : (code : Code) (e : Engine) (place : ℕ) (s : State) (from : Cell) (t position : ℕ) (ty : Ty) → Before code e place (StorePart from ty t position) s → IsGiven code e place s from t position ty
 is_given code e place s from t position ty b =
@@ -66,9 +76,13 @@ is_given code e place s from t position ty b =
       spots = p.spots;
       holds = i.holds;
       left = p.left;
-      move = λ offset. v.takes (λ x rest. locating (λ y below. store_into offset x y below h) rest h) place
-          ∙ (ap (λ (l : List Word). locating (λ y below. store_into offset v.value y below h) l h) (sym rest)
-          ∙ ap (λ (l : List Word). locating (λ y below. store_into offset v.value y below h) l h) p.are);
+      either = p.either;
+      move = λ offset is. v.takes (λ x rest. on_top (λ y below. store_into offset x y below h) rest h) place
+          ∙ (ap (λ (l : List Word). on_top (λ y below. store_into offset v.value y below h) l h) (sym rest)
+          ∙ top_is (λ y below. store_into offset v.value y below h) (parts_of from s) h is);
+      none = λ offset is. v.takes (λ x rest. on_top (λ y below. store_into offset x y below h) rest h) place
+          ∙ (ap (λ (l : List Word). on_top (λ y below. store_into offset v.value y below h) l h) (sym rest)
+          ∙ stores_none offset v.value (parts_of from s) h is);
     }
 
 pub value_within : (code : Code) (e : Engine) (place : ℕ) (s : State) (from : Cell) (t position : ℕ) (ty : Ty) → Before code e place (StorePart from ty t position) s → cell_of e from < length e.cells.items
@@ -105,9 +119,10 @@ part_makes code old new place s from t position offset x ty o b value_read there
     let y = first_spot (parts_of from s) in
     let rest = drop 1 (parts_of from s) in
     let value : x ≡ i.value = same_value x i.value (slice_get old.cells.items (cell_of old from)) value_read i.value_read in
+    let part = part_there code (kept old) s.control (parts_of from s) (parts_of from s) s.world o i.holds i.either there in
     subst (λ c. Makes code old new (store_move from c place s)) same
-    (subst (λ (m : Move). Makes code old new m) (sym (i.move offset))
-    (subst (λ c. Makes code old new (store_into offset c y rest (here_of place s))) value
+    (subst (λ (m : Move). Makes code old new m) (sym (i.move offset part))
+    (subst (λ c. Makes code old new (store_into offset c (Located y) rest (here_of place s))) value
     (stored_makes code old new place i.below s.control rest s.world y.object (y.offset + offset) x o i.leads i.left there mode kept_is events picks)))
 
 pub store_gone : (code : Code) (old new : Engine) (place : ℕ) (s : State) (from : Cell) (t position offset : ℕ) (ty : Ty) → Before code old place (StorePart from ty t position) s
@@ -118,6 +133,9 @@ store_gone code old new place s from t position offset ty b none g t' position' 
     let y = first_spot (parts_of from s) in
     let rest = drop 1 (parts_of from s) in
     let object = object_shown code (kept old) s.control (parts_of from s) s.world y.object i.holds ∙ none in
-    subst (λ c. Makes code old new (store_move from c place s)) same
-    (subst (λ (m : Move). Makes code old new m) (sym (i.move offset ∙ ap (λ (z : Option W.Object). stored y.object (y.offset + offset) i.value z rest (here_of place s)) object))
-    (gone_makes code old new s.control (parts_of from s) s.world i.holds g))
+    let stops = gone_makes code old new s.control (parts_of from s) s.world i.holds g in
+    let by : IsPart (parts_of from s) ⊎ IsValue (parts_of from s) → store_move from offset place s ≡ gone s.control s.world = λ top. elim top [
+      | inl is ↦ i.move offset is ∙ ap (λ (z : Option W.Object). stored y.object (y.offset + offset) i.value z rest (here_of place s)) object
+      | inr is ↦ i.none offset is
+    ] in
+    subst (λ c. Makes code old new (store_move from c place s)) same (subst (λ (m : Move). Makes code old new m) (sym (by i.either)) stops)

@@ -1,5 +1,5 @@
 -- The actuals of a call become the first slots of a body: their cells stand where the slots begin, and formals stand for the objects.
-use Rattle.std.proofs.Common.{◌≡◌, ℕ, zero, suc, ◌+◌, ◌-◌, ◌≤◌, List, [], ◌∷◌, ◌++◌, Some, Bool, true, false, length, refl, sym, ap, ◌∙◌, subst, arith, map, reverse, drop, take, replicate}
+use Rattle.std.proofs.Common.{◌≡◌, ℕ, zero, suc, ◌+◌, ◌-◌, ◌<◌, ◌≤◌, List, [], ◌∷◌, ◌++◌, Some, Bool, true, false, length, refl, sym, ap, ◌∙◌, subst, arith, map, reverse, drop, take, replicate}
 use Rattle.std.specs.Prelude.{slice_get, slice_set, nat_eq, if◌then◌else◌}
 use Rattle.std.proofs.lemmas.List.{length-append, length-drop, length-reverse, append-nil, append_assoc, reverse-append, map-append, length-replicate, drop-replicate}
 use Rattle.std.proofs.lemmas.Bool.Decides.{nat_tests}
@@ -24,13 +24,16 @@ use Rattle.ctl_code.specs.Table as Table
 use Rattle.ctl_code.specs.Valid.{HaveOperands}
 use Rattle.ctl_machine.specs.Holders.{binding, bound_in, formal_in}
 use Rattle.ctl_machine.specs.Moves.{cleared}
-use Rattle.ctl_machine.specs.Passing.{AreActuals, is_located, is_part, is_part_at, is_part_if, cell_passed, passed, bound, formal_if}
+use Rattle.ctl_machine.specs.Passing.{AreActuals, StandIn, is_located, is_part, is_part_at, is_part_if, cell_passed, passed, bound, formal_if, formal_with}
+use Rattle.ctl_machine.specs.RecordValues.{is_value_as}
 use Rattle.ctl_machine.specs.Spots.{located, value_spot}
+use Rattle.ctl_machine.specs.declared.frame.Formal.{Formal}
 use Rattle.ctl_machine.specs.Under.{cell_in}
 use Rattle.ctl_machine.proofs.Cleared.{cleared_is, unset_cells}
-use Rattle.ctl_machine.proofs.Held.{content_in, unset_contents}
-use Rattle.ctl_machine.proofs.Lists.{eq_differs, eq_same, set_right, length_set}
-use Rattle.ctl_machine.proofs.Words.{length_cells}
+use Rattle.ctl_machine.proofs.Held.{content_in, get_other, unset_contents}
+use Rattle.ctl_machine.proofs.TopValues.{both, not_both}
+use Rattle.ctl_machine.proofs.Lists.{eq_differs, eq_same, get_right, length_set, same_at, set_right}
+use Rattle.ctl_machine.proofs.Words.{length_cells, same_front}
 
 -- One slot more -------------------------------------------------------------------------------------------
 
@@ -75,7 +78,7 @@ none_bound (suc n) (Located s ∷ ops) slot c less =
     ap (λ b. bound_in (bound n ops) slot (if b then binding s else c)) (eq_differs n slot (λ e. omega (arith, e, less)))
     ∙ none_bound n ops slot c (omega (arith, less))
 none_bound (suc n) (Cells v ∷ ops) slot c less =
-    ap (λ b. bound_in (bound n ops) slot (if b then binding (value_spot v) else c)) (eq_differs n slot (λ e. omega (arith, e, less)))
+    ap (λ b. bound_in (bound n ops) slot (if b then W.Copies v else c)) (eq_differs n slot (λ e. omega (arith, e, less)))
     ∙ none_bound n ops slot c (omega (arith, less))
 
 -- All of them -------------------------------------------------------------------------------------------
@@ -96,30 +99,31 @@ next_cell : (x : Word) (front rest row : List ℕ) (at : ℕ) → at ≡ length 
 unfolding opened_lists opened_names
 next_cell (Scalar n) front rest row at long is = is
 next_cell (Located s) front rest row at long is = ap (λ l. slice_set l at 0) is ∙ set_right front (s.object ∷ rest) 0 at 0 long
-next_cell (Cells v) front rest row at long is = ap (λ l. slice_set l at 0) is ∙ set_right front (0 ∷ rest) 0 at 0 long
+next_cell (Cells v) front rest row at long is = ap (λ l. slice_set l at 0) is ∙ set_right front (1 ∷ rest) 0 at 0 long
 
-part_content : (s : Spot) (n : ℕ) (xs : List Slot) (ops : List Word) (slot : ℕ) → length xs ≡ n → content_in xs slot ≡ formal_in (bound n ops) slot → content_in (xs ++ formal_of (Located s) ∷ []) slot ≡ formal_in (formal_if (Located s) n ++ bound n ops) slot
+held_content : (c : W.Content) (y : Slot) (n : ℕ) (xs : List Slot) (ops : List Word) (slot : ℕ) → y.content ≡ c → length xs ≡ n → content_in xs slot ≡ formal_in (bound n ops) slot → content_in (xs ++ y ∷ []) slot ≡ bound_in (bound n ops) slot (if nat_eq n slot then c else W.Nothing)
 unfolding opened_lists opened_names
-part_content s n xs ops slot many h =
-    content_more xs (formal_of (Located s)) slot
-    ∙ (ap (λ j. if nat_eq j slot then binding s else content_in xs slot) many
-    ∙ by (nat_eq n slot) refl)
+held_content c y n xs ops slot holds many h =
+    content_more xs y slot
+    ∙ (ap (λ z. if nat_eq (length xs) slot then z else content_in xs slot) holds
+    ∙ (ap (λ j. if nat_eq j slot then c else content_in xs slot) many
+    ∙ by (nat_eq n slot) refl))
   where
-    by : (b : Bool) → nat_eq n slot ≡ b → (if nat_eq n slot then binding s else content_in xs slot) ≡ bound_in (bound n ops) slot (if nat_eq n slot then binding s else W.Nothing)
+    by : (b : Bool) → nat_eq n slot ≡ b → (if nat_eq n slot then c else content_in xs slot) ≡ bound_in (bound n ops) slot (if nat_eq n slot then c else W.Nothing)
     by true e =
         let same : n ≡ slot = grind (arith, nat_tests, e) in
-        ap (λ c. if c then binding s else content_in xs slot) e
-        ∙ (sym (none_bound n ops slot (binding s) (omega (arith, same)))
-        ∙ ap (λ c. bound_in (bound n ops) slot (if c then binding s else W.Nothing)) (sym e))
+        ap (λ b. if b then c else content_in xs slot) e
+        ∙ (sym (none_bound n ops slot c (omega (arith, same)))
+        ∙ ap (λ b. bound_in (bound n ops) slot (if b then c else W.Nothing)) (sym e))
     by false e =
-        ap (λ c. if c then binding s else content_in xs slot) e
-        ∙ (h ∙ ap (λ c. bound_in (bound n ops) slot (if c then binding s else W.Nothing)) (sym e))
+        ap (λ b. if b then c else content_in xs slot) e
+        ∙ (h ∙ ap (λ b. bound_in (bound n ops) slot (if b then c else W.Nothing)) (sym e))
 
 next_content : (x : Word) (n : ℕ) (xs : List Slot) (ops : List Word) (slot : ℕ) → length xs ≡ n → content_in xs slot ≡ formal_in (bound n ops) slot → content_in (xs ++ formal_of x ∷ []) slot ≡ formal_in (formal_if x n ++ bound n ops) slot
 unfolding opened_lists opened_names
 next_content (Scalar v) n xs ops slot many h = content_same xs (formal_of (Scalar v)) slot refl ∙ h
-next_content (Located s) n xs ops slot many h = part_content s n xs ops slot many h
-next_content (Cells v) n xs ops slot many h = part_content (value_spot v) n xs ops slot many h
+next_content (Located s) n xs ops slot many h = held_content (binding s) (formal_of (Located s)) n xs ops slot refl many h
+next_content (Cells v) n xs ops slot many h = held_content (W.Copies v) (formal_of (Cells v)) n xs ops slot refl many h
 
 pub are_passed : (n : ℕ) (u : List ℕ) (ops : List Word) (rest : List ℕ) (base : ℕ) (row : List ℕ) → n ≤ length ops → base ≡ length (u ++ reverse (cells_of (drop n ops))) → row ≡ (u ++ reverse (cells_of ops)) ++ rest → ArePassed n u ops rest base row
 unfolding opened_lists
@@ -194,7 +198,7 @@ kind_is Boolean (Located s) h = absurd h
 kind_is Address (Located s) h = absurd h
 kind_is Handle (Located s) h = absurd h
 kind_is (Access a) (Located s) h = absurd h
-kind_is (Record t) (Cells v) h = absurd h
+kind_is (Record t) (Cells v) h = refl
 kind_is Integer (Cells v) h = absurd h
 kind_is Count (Cells v) h = absurd h
 kind_is Boolean (Cells v) h = absurd h
@@ -292,6 +296,93 @@ next_spots m i stack ops below spots x e =
     ∙ (ap (λ (l : List Spot). below ++ l) (located_more x.word (take m x.rest))
     ∙ (sym (append_assoc below (located (take m x.rest)) (located (x.word ∷ [])))
     ∙ ap (λ (l : List Word). (below ++ located (take m l)) ++ located (x.word ∷ [])) (sym x.next))))
+
+-- One actual is passed -----------------------------------------------------------------------------------
+
+-- a part, or the value of a record
+pub record IsPassed (x : Word) (below left : List Spot) (s : Spot) (row : List ℕ) (cell at slot : ℕ) : Type 0 where
+  pub cells : slice_set row at 0 ≡ cell_passed x at row
+  pub spots : left ≡ below
+  pub formal : formal_with slot s (is_value_as s cell) ∷ [] ≡ formal_if x slot
+
+pub part_passed : (x : Word) (below all spots : List Spot) (s : Spot) (cells : List ℕ) (at cell slot : ℕ) → is_located x ≡ true → all ≡ spots ++ s ∷ [] → all ≡ below ++ located (x ∷ []) → slice_get cells at ≡ Some cell → slice_get cells at ≡ Some (worth x)
+    → IsPassed x below spots s cells cell at slot
+part_passed (Scalar n) below all spots s cells at cell slot is are stand read here = absurd (cc)
+part_passed (Located y) below all spots s cells at cell slot is are stand read here =
+    let same = same_front spots below s y (sym are ∙ stand) in
+    let told = same_at cell y.object (slice_get cells at) read here in
+    record {
+      cells = refl;
+      spots = same.0;
+      formal = ap (λ b. formal_with slot s b ∷ []) (ap (λ (z : Spot). is_value_as z cell) same.1 ∙ (ap (λ n. is_value_as y n) told ∙ not_both y.object)) ∙ ap (λ (z : Spot). formal_with slot z false ∷ []) same.1;
+    }
+part_passed (Cells v) below all spots s cells at cell slot is are stand read here =
+    let same = same_front spots below s (value_spot v) (sym are ∙ stand) in
+    let told = same_at cell 1 (slice_get cells at) read here in
+    record {
+      cells = refl;
+      spots = same.0;
+      formal = ap (λ b. formal_with slot s b ∷ []) (ap (λ (z : Spot). is_value_as z cell) same.1 ∙ (ap (λ n. is_value_as (value_spot v) n) told ∙ both)) ∙ ap (λ (z : Spot). formal_with slot z true ∷ []) same.1;
+    }
+
+-- any other stays as it is
+pub no_part_passed : (x : Word) (below all : List Spot) (cells : List ℕ) (at slot : ℕ) (formals : List Formal) → is_located x ≡ false → all ≡ below ++ located (x ∷ []) → (cells ≡ cell_passed x at cells) × (all ≡ below) × (formals ≡ formals ++ formal_if x slot)
+no_part_passed (Scalar n) below all cells at slot formals is stand = (refl, stand ∙ append-nil below, sym (append-nil formals))
+no_part_passed (Located s) below all cells at slot formals is stand = absurd (cc)
+no_part_passed (Cells v) below all cells at slot formals is stand = absurd (cc)
+
+-- Where their cells stand --------------------------------------------------------------------------------
+
+-- the newest one
+pub stand_here : (m : ℕ) (x : Word) (rest : List Word) (base : ℕ) (cells : List ℕ) → StandIn (suc m) (x ∷ rest) base cells → slice_get cells (base + m) ≡ Some (worth x)
+stand_here m x rest base cells h =
+    let same : base + m ≡ base + (suc m - 1 - 0) = omega arith in
+    ap (λ n. slice_get cells n) same ∙ h 0 x (omega arith) refl
+
+-- and those below it, when it is passed
+other_cell : (x : Word) (at other : ℕ) (cells : List ℕ) → (at ≡ other → ⊥) → slice_get (cell_passed x at cells) other ≡ slice_get cells other
+other_cell (Scalar n) at other cells differs = refl
+other_cell (Located s) at other cells differs = get_other cells at other 0 differs
+other_cell (Cells v) at other cells differs = get_other cells at other 0 differs
+
+pub stand_next : (m : ℕ) (x : Word) (rest : List Word) (base : ℕ) (cells : List ℕ) → StandIn (suc m) (x ∷ rest) base cells → StandIn m rest base (cell_passed x (base + m) cells)
+stand_next m x rest base cells h = λ i y less found.
+    let same : base + (m - 1 - i) ≡ base + (suc m - 1 - suc i) = omega (arith, less) in
+    other_cell x (base + m) (base + (m - 1 - i)) cells (λ e. omega (arith, less, e))
+    ∙ (ap (λ n. slice_get cells n) same ∙ h (suc i) y (omega (arith, less)) found)
+
+-- those of the newest operands stand in the newest window
+pub stands_in : (n : ℕ) (u : List ℕ) (ops : List Word) (rest : List ℕ) (base : ℕ) (row : List ℕ) → n ≤ length ops → base ≡ length (u ++ reverse (cells_of (drop n ops))) → row ≡ (u ++ reverse (cells_of ops)) ++ rest → StandIn n ops base row
+stands_in zero u ops rest base row enough e is = λ i x less found. absurd (omega (arith, less))
+stands_in (suc n) u [] rest base row enough e is = absurd (omega (arith, enough))
+stands_in (suc n) u (y ∷ ops) rest base row enough e is = by (stands_in n u ops (worth y ∷ rest) base row (omega (arith, enough)) e (is ∙ with_next u (cells_of ops) rest (worth y)))
+  where
+    all : List ℕ
+    all = u ++ reverse (cells_of ops)
+
+    front : row ≡ all ++ worth y ∷ rest
+    front = is ∙ with_next u (cells_of ops) rest (worth y)
+
+    long : base + n ≡ length all + 0
+    long =
+        let below = length-append u (reverse (cells_of (drop n ops))) in
+        let above = length-append u (reverse (cells_of ops)) in
+        let turned : length (reverse (cells_of (drop n ops))) ≡ length (drop n ops) = length-reverse (cells_of (drop n ops)) ∙ length_cells (drop n ops) in
+        let turned' : length (reverse (cells_of ops)) ≡ length ops = length-reverse (cells_of ops) ∙ length_cells ops in
+        let fewer : length (drop n ops) ≡ length ops - n = length-drop n ops in
+        omega (arith, e, below, above, turned, turned', fewer, enough)
+
+    here : slice_get row (base + n) ≡ Some (worth y)
+    here = ap (λ (l : List ℕ). slice_get l (base + n)) front ∙ get_right all (worth y ∷ rest) 0 (base + n) long
+
+    by : StandIn n ops base row → (i : ℕ) (x : Word) → i < suc n → slice_get (y ∷ ops) i ≡ Some x → slice_get row (base + (suc n - 1 - i)) ≡ Some (worth x)
+    by below zero x less found =
+        let same : base + (suc n - 1 - 0) ≡ base + n = omega arith in
+        let is_it : y ≡ x = same_at y x (Some y) refl found in
+        ap (λ j. slice_get row j) same ∙ (here ∙ ap (λ (z : Word). Some (worth z)) is_it)
+    by below (suc i) x less found =
+        let same : base + (suc n - 1 - suc i) ≡ base + (n - 1 - i) = omega (arith, less) in
+        ap (λ j. slice_get row j) same ∙ below i x (omega (arith, less)) found
 
 -- The other slots ----------------------------------------------------------------------------------------
 

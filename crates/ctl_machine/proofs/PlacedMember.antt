@@ -1,5 +1,5 @@
 -- An object that is put into a block is to begin (13.11).
-use Rattle.std.proofs.Common.{◌≡◌, ℕ, ◌+◌, ◌<◌, List, [], ◌∷◌, Some, length, refl, sym, ap, ◌∙◌, subst, arith, drop}
+use Rattle.std.proofs.Common.{◌≡◌, ℕ, ◌+◌, ◌<◌, List, [], Some, length, refl, sym, ap, ◌∙◌, subst, arith, drop}
 use Rattle.std.specs.Prelude.{slice_get, slice_index_or}
 use Rattle.std.proofs.lemmas.List.{append-nil}
 use Rattle.ctl_tree.specs.declared.ending.Stop.{Stop}

@@ -102,7 +102,7 @@ unfolding constraint_error
 bad_makes code old new place slot t at order s b bad g =
     let d = discriminants code old place slot t at order s b in
     subst (λ (m : Move). Makes code old new m) (sym (pool_move code old place slot t at order s b ∙ raises (pool_size order d.lower d.upper) bad))
-    (transfers_makes code old new (WayOf.Raise 0) (below_pool code old place slot t at order s b) s.control d.rest s.world d.left g)
+    (transfers_makes code old new (WayOf.Raise 0) tt (below_pool code old place slot t at order s b) s.control d.rest s.world d.left g)
   where
     raises : (size : ℕ × ℕ) → good_discriminants RootOf.BlockPool size ≡ false → by_pool code slot t size (discriminants code old place slot t at order s b).rest (here_of place s) ≡ transfers (ByRaise constraint_error) s.control s.world
     raises size e = rw e refl

@@ -14,8 +14,8 @@ use Rattle.ctl_code.specs.declared.code.Cell.{Cell}
 use Rattle.ctl_code.specs.declared.code.Named.{Named}
 use Rattle.ctl_code.specs.declared.code.PoolDiscriminant.{PoolDiscriminant}
 use Rattle.ctl_code.specs.declared.code.Instr.TheVariants.{TakeDiscriminant}
-use Rattle.ctl_code.specs.States.{Word, Move, State}
-use Rattle.ctl_code.specs.Table.{Here, by_discriminant, by_instr, discriminant_in}
+use Rattle.ctl_code.specs.States.{Word, Move, State, object_of}
+use Rattle.ctl_code.specs.Table.{Here, by_discriminant, by_instr, discriminant_in, on_top}
 use Rattle.ctl_code.specs.Valid.{IsValid}
 use Rattle.ctl_machine.specs.declared.engine.Engine.{Engine}
 use Rattle.ctl_machine.specs.declared.frame.Mode.TheVariants as ModeOf
@@ -24,7 +24,7 @@ use Rattle.ctl_machine.specs.Moves.{Before, GoesOn, Inside, Makes, here_of}
 use Rattle.ctl_machine.specs.Shows.{Kept, kept, with_spots}
 use Rattle.ctl_machine.specs.Spots.{first_spot, standing}
 use Rattle.ctl_machine.proofs.Following.{makes_later}
-use Rattle.ctl_machine.proofs.Located.{located_move, part_on_top}
+use Rattle.ctl_machine.proofs.Located.{part_on_top}
 use Rattle.ctl_machine.proofs.Operands.{HasPart}
 use Rattle.ctl_machine.proofs.Plain.{put_makes, put_within}
 use Rattle.ctl_machine.proofs.Touched.{gone_makes, part_move}
@@ -44,9 +44,10 @@ discriminant_move : (code : Code) (e : Engine) (place : ℕ) (s : State) (below 
 discriminant_move code e place s below t which to x p is =
     let h = here_of place s in
     let rest = drop 1 s.operands in
-    located_move code e below s (λ z below. by_discriminant which (block_pool_at z.object s.world.pools) to.named below h) h p
+    ap (λ (l : List Word). on_top (λ z below. by_discriminant which (block_pool_at (object_of z) s.world.pools) to.named below h) l h) p.are
+    ∙ (ap (λ n. by_discriminant which (block_pool_at n s.world.pools) to.named rest h) p.object
     ∙ (discriminant_is which (block_pool_at (first_spot s.operands).object s.world.pools) to.named rest h
-    ∙ ap (λ z. part_move z to.named rest h) (sym is))
+    ∙ ap (λ z. part_move z to.named rest h) (sym is)))
 
 pub discriminant_makes : (code : Code) (old mid new : Engine) (place : ℕ) (s : State) (t : ℕ) (which : PoolDiscriminant) (to : Cell) (x : ℕ) → IsValid code → Before code old place (TakeDiscriminant t which to) s
     → Some x ≡ discriminant_at which (first_spot s.operands).object s.world.pools → kept mid ≡ with_spots (kept old) (standing s.control (drop 1 s.operands)) → mid.events.items ≡ old.events.items → mid.picks.items ≡ old.picks.items

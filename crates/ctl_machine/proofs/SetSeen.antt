@@ -72,11 +72,12 @@ level_is d v (suc i) ms hs m some linked found more is long =
 bound_sets : (fs : List Formal) (slot : ℕ) (c : Content) → Allocation.set_in c ≡ 0 → Allocation.set_in (bound_in fs slot c) ≡ 0
 unfolding Allocation.set_in
 bound_sets [] slot c none = none
-bound_sets (f ∷ fs) slot c none = bound_sets fs slot _ (by (nat_eq f.slot slot))
+bound_sets (f ∷ fs) slot c none = bound_sets fs slot _ (by (nat_eq f.slot slot) f.is_value)
   where
-    by : (b : Bool) → Allocation.set_in (if b then W.Binds f.spot.object f.spot.offset f.spot.path else c) ≡ 0
-    by true = refl
-    by false = none
+    by : (b v : Bool) → Allocation.set_in (if b then if v then W.Copies f.spot.path else W.Binds f.spot.object f.spot.offset f.spot.path else c) ≡ 0
+    by true true = refl
+    by true false = refl
+    by false v = none
 
 formal_sets : (fs : List Formal) (slot : ℕ) → Allocation.set_in (formal_in fs slot) ≡ 0
 unfolding Allocation.set_in

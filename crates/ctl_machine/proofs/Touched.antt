@@ -6,17 +6,17 @@ use Rattle.std.proofs.lemmas.List.{append-nil}
 use Rattle.ctl_tree.specs.declared.ending.Stop.TheVariants.{UseAfterFree}
 use Rattle.ctl_program.specs.declared.types.Ty.{Ty}
 use Rattle.ctl_meaning.specs.World as W
-use Rattle.ctl_meaning.specs.World.{World}
+use Rattle.ctl_meaning.specs.World.{Content, World}
 use Rattle.ctl_meaning.specs.Names.{scalar_of}
 use Rattle.ctl_meaning.specs.Objects.{cells_at, object_in}
-use Rattle.ctl_meaning.specs.Changes.{object_at}
+use Rattle.ctl_meaning.specs.Changes.{object_at, slot_at}
 use Rattle.ctl_code.specs.declared.code.Code.{Code}
 use Rattle.ctl_code.specs.declared.code.Cell.{Cell}
 use Rattle.ctl_code.specs.declared.code.Named.{Named}
 use Rattle.ctl_code.specs.declared.code.Instr.TheVariants.{Designate, FetchPart}
 use Rattle.ctl_code.specs.States as T
-use Rattle.ctl_code.specs.States.{Word, State, Move}
-use Rattle.ctl_code.specs.Table.{Here, by_designate, by_instr, by_fetch_part, fetched, gone, holder_at, offset_of, put}
+use Rattle.ctl_code.specs.States.{Word, State, Move, object_of}
+use Rattle.ctl_code.specs.Table.{Here, by_designate, by_instr, by_fetch_part, fetched, gone, holder_at, offset_of, out_of, put, word_of}
 use Rattle.ctl_code.specs.Valid.{IsValid}
 use Rattle.ctl_machine.specs.declared.engine.Engine.{Engine}
 use Rattle.ctl_machine.specs.declared.frame.Mode.{Mode}
@@ -28,7 +28,6 @@ use Rattle.ctl_machine.specs.Moves.{Before, Makes, GoesOn, here_of}
 use Rattle.ctl_machine.proofs.Owned.{object_shown}
 use Rattle.ctl_machine.proofs.Plain.{no_operands, put_makes}
 use Rattle.ctl_machine.specs.Spots.{KeepsSpots}
-use Rattle.ctl_meaning.specs.Finalization.{Spot}
 
 -- what the machine uses has ceased to exist
 pub gone_makes : (code : Code) (old new : Engine) (k : List T.Frame) (ops : List Word) (w : World) → Holds code (kept old) k ops w → GoesOn old new (ModeOf.Stopped UseAfterFree) old.cells.items → Makes code old new (gone k w)
@@ -51,16 +50,19 @@ pub fetched_is : (offset : ℕ) (o : Option W.Object) (to : Named) (ops : List W
 fetched_is offset None to ops h = refl
 fetched_is offset (Some o) to ops h = refl
 
-fetch_is : (offset : ℕ) (holder : Option Spot) (to : Named) (ops : List Word) (h : Here) → by_fetch_part offset holder to ops h ≡ part_move (part_at offset holder h.world) to ops h
-fetch_is offset None to ops h = refl
-fetch_is offset (Some s) to ops h = fetched_is (s.offset + offset) (object_at s.object h.world) to ops h
+fetch_is : (offset : ℕ) (c : Content) (to : Named) (ops : List Word) (h : Here) → by_fetch_part offset (word_of c) to ops h ≡ part_move (part_at offset (word_of c) h.world) to ops h
+fetch_is offset W.Nothing to ops h = refl
+fetch_is offset (W.Holds n) to ops h = fetched_is (0 + offset) (object_at n h.world) to ops h
+fetch_is offset (W.Binds n start path) to ops h = fetched_is (start + offset) (object_at n h.world) to ops h
+fetch_is offset (W.Copies v) to ops h = refl
+fetch_is offset (W.Gathers n) to ops h = refl
 
 fetch_move : (code : Code) (place : ℕ) (s : State) (out slot t position offset : ℕ) (ty : Ty) (to : Cell) (x : Option ℕ) → offset ≡ offset_of code t position → x ≡ part_at offset (holder_at (first_display (heads_of s.world.activations)) out slot s.world) s.world
     → by_instr code (Some (FetchPart out slot t position ty to)) s.operands (here_of place s) ≡ part_move x to.named s.operands (here_of place s)
 fetch_move code place s out slot t position offset ty to x same is =
     let holder = holder_at (first_display (heads_of s.world.activations)) out slot s.world in
     ap (λ n. by_fetch_part n holder to.named s.operands (here_of place s)) (sym same)
-    ∙ (fetch_is offset holder to.named s.operands (here_of place s) ∙ ap (λ y. part_move y to.named s.operands (here_of place s)) (sym is))
+    ∙ (fetch_is offset (slot_at (out_of (first_display (heads_of s.world.activations)) out) slot s.world).content to.named s.operands (here_of place s) ∙ ap (λ y. part_move y to.named s.operands (here_of place s)) (sym is))
 
 pub fetch_makes : (code : Code) (old new : Engine) (place : ℕ) (s : State) (out slot t position offset : ℕ) (ty : Ty) (to : Cell) (x : ℕ) → IsValid code → Before code old place (FetchPart out slot t position ty to) s
     → Some x ≡ part_at offset (holder_at (first_display (heads_of s.world.activations)) out slot s.world) s.world
@@ -87,13 +89,13 @@ part_read code e k ops w n offset r h read = read ∙ (by (object_in n e.objects
 
 -- An object (3.10.2) -------------------------------------------------------------------------------------
 
-pub designate_makes : (code : Code) (old new : Engine) (place : ℕ) (s : State) (out slot : ℕ) (ty : Ty) (to : Cell) (x : Spot) → IsValid code → Before code old place (Designate out slot ty to) s → Some x ≡ holder_at (first_display (heads_of s.world.activations)) out slot s.world
-    → GoesOn old new (ModeOf.At (place + 1)) (slice_set old.cells.items (first_window (reverse old.masters.items) + to.at) x.object) → (ty' : Ty) → Makes code old new (by_instr code (Some (Designate out slot ty' to)) s.operands (here_of place s))
+pub designate_makes : (code : Code) (old new : Engine) (place : ℕ) (s : State) (out slot : ℕ) (ty : Ty) (to : Cell) (x : Word) → IsValid code → Before code old place (Designate out slot ty to) s → Some x ≡ holder_at (first_display (heads_of s.world.activations)) out slot s.world
+    → GoesOn old new (ModeOf.At (place + 1)) (slice_set old.cells.items (first_window (reverse old.masters.items) + to.at) (object_of x)) → (ty' : Ty) → Makes code old new (by_instr code (Some (Designate out slot ty' to)) s.operands (here_of place s))
 designate_makes code old new place s out slot ty to x valid b is g ty' =
-    subst (λ (o : Option Spot). Makes code old new (by_designate o to.named s.operands (here_of place s))) is
-    (put_makes code old new place to ty b.stack s.control s.operands s.world x.object b.fine.0 valid b.inside b.fine.1 g)
+    subst (λ (o : Option Word). Makes code old new (by_designate o to.named s.operands (here_of place s))) is
+    (put_makes code old new place to ty b.stack s.control s.operands s.world (object_of x) b.fine.0 valid b.inside b.fine.1 g)
 
 pub designate_gone : (code : Code) (old new : Engine) (place : ℕ) (s : State) (out slot : ℕ) (ty : Ty) (to : Cell) → Before code old place (Designate out slot ty to) s → None ≡ holder_at (first_display (heads_of s.world.activations)) out slot s.world
     → GoesOn old new (ModeOf.Stopped UseAfterFree) old.cells.items → (ty' : Ty) → Makes code old new (by_instr code (Some (Designate out slot ty' to)) s.operands (here_of place s))
 designate_gone code old new place s out slot ty to b is g ty' =
-    subst (λ (o : Option Spot). Makes code old new (by_designate o to.named s.operands (here_of place s))) is (gone_makes code old new s.control s.operands s.world b.inside.holds g)
+    subst (λ (o : Option Word). Makes code old new (by_designate o to.named s.operands (here_of place s))) is (gone_makes code old new s.control s.operands s.world b.inside.holds g)

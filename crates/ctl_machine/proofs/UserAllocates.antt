@@ -152,7 +152,7 @@ pub too_large : (code : Code) (old new : Engine) (place first units set f : ℕ)
 unfolding constraint_error
 too_large code old new place first units set f o s a more goes =
     let is : nat_lt integer_last units ≡ true = grind (arith, nat_tests, more) in
-    rw (is) (transfers_makes code old new (WayOf.Raise 0) a.stack s.control s.operands s.world a.inside goes)
+    rw (is) (transfers_makes code old new (WayOf.Raise 0) tt a.stack s.control s.operands s.world a.inside goes)
 
 -- The pool object ------------------------------------------------------------------------------------------
 

@@ -22,7 +22,7 @@ use Rattle.ctl_machine.specs.Granting.{number_at}
 use Rattle.ctl_machine.specs.Masters.{first_window}
 use Rattle.ctl_machine.specs.Moves.{Before, GoesOn, Inside, Makes, here_of}
 use Rattle.ctl_machine.specs.Shows.{Kept, kept, with_cells, with_spots}
-use Rattle.ctl_machine.specs.Spots.{first_cells, located, spots_in, standing, value_spot}
+use Rattle.ctl_machine.specs.Spots.{value_on_top, located, spots_in, standing, value_spot}
 use Rattle.ctl_machine.specs.StorageCalling.{AsksAllocate}
 use Rattle.ctl_machine.proofs.Bodies.{more_cells}
 use Rattle.ctl_machine.proofs.CopyAllocated.{copy_move, source_part}
@@ -37,7 +37,11 @@ use Rattle.ctl_machine.proofs.Values.{operand_put, window_in}
 -- the part, where there is room for more
 part_with_room : (code : Code) (e : Kept) (more : List ℕ) (below : List Kind) (k : List T.Frame) (ops : List Word) (w : World) → HasPart code e below k ops w → HasPart code (with_cells e (e.cells ++ more)) below k ops w
 part_with_room code e more below k ops w p = record {
+  top = p.top;
   are = p.are;
+  object = p.object;
+  stands = p.stands;
+  either = p.either;
   spots = p.spots;
   left = record { stands = p.left.stands; sized = p.left.sized; holds = more_cells code (with_spots e (standing k (drop 1 ops))) more k (drop 1 ops) w p.left.holds; spots = p.left.spots };
 }
@@ -50,7 +54,7 @@ value_put code e cell value below k ops w p is within =
     record {
       stands = p.left.stands;
       sized = p.left.sized;
-      holds = other_spots code (with_spots (with_cells e (slice_set e.cells cell 0)) (standing k rest)) (standing k rest ++ value_spot value ∷ []) k (Cells value ∷ rest) w (operand_put code (with_spots e (standing k rest)) k rest w (Cells value) cell p.left.holds (omega (arith, here, is)) within);
+      holds = other_spots code (with_spots (with_cells e (slice_set e.cells cell 1)) (standing k rest)) (standing k rest ++ value_spot value ∷ []) k (Cells value ∷ rest) w (operand_put code (with_spots e (standing k rest)) k rest w (Cells value) cell p.left.holds (omega (arith, here, is)) within);
       spots = append_assoc (spots_in k) (located rest) (value_spot value ∷ []);
     }
 
@@ -87,20 +91,20 @@ value_below code e place t at ty s b =
 
 -- what the table makes of it
 copy_in_is : (code : Code) (e : Engine) (place t at : ℕ) (ty : Ty) (s : State) (r : Test) → (b : Before code e place (NewCopyIn t ty at) s) → tested_there code (Record t) s ≡ r
-    → by_instr code (Some (NewCopyIn t ty at)) s.operands (here_of place s) ≡ copy_in_block code t (first_cells (drop 4 s.operands)) (number_at s.operands 3) (number_at s.operands 2) (number_at s.operands 0) r (drop 1 (drop 4 s.operands)) (here_of place s)
+    → by_instr code (Some (NewCopyIn t ty at)) s.operands (here_of place s) ≡ copy_in_block code t (value_on_top (drop 4 s.operands)) (number_at s.operands 3) (number_at s.operands 2) (number_at s.operands 0) r (drop 1 (drop 4 s.operands)) (here_of place s)
 copy_in_is code e place t at ty s r b is =
     let h = here_of place s in
     let x = value_below code e place t at ty s b in
     let n = has_numbers code (kept e) b.stack s.control s.operands s.world b.fine.2 b.inside in
     at_numbers code (kept e) b.stack s.control s.operands s.world (λ set n a rest. by_copy_in code t set n a rest h) h n
     ∙ (ap (λ (l : List Word). by_copy_in code t (number_at s.operands 3) (number_at s.operands 2) (number_at s.operands 0) l h) x.are
-    ∙ ap (λ (z : Test). copy_in_block code t (first_cells (drop 4 s.operands)) (number_at s.operands 3) (number_at s.operands 2) (number_at s.operands 0) z (drop 1 (drop 4 s.operands)) h) is)
+    ∙ ap (λ (z : Test). copy_in_block code t (value_on_top (drop 4 s.operands)) (number_at s.operands 3) (number_at s.operands 2) (number_at s.operands 0) z (drop 1 (drop 4 s.operands)) h) is)
 
 pub copies_in_block : (code : Code) (old new : Engine) (place t at set : ℕ) (ty : Ty) (s : State) → (b : Before code old place (NewCopyIn t ty at) s) → set ≡ number_at s.operands 3 → tested_there code (Record t) s ≡ Passed
-    → Makes code old new (copy_move code (place + 1) set t (InBlock (number_at s.operands 2) (number_at s.operands 0)) s.world (first_cells (drop 4 s.operands)) (drop 1 (drop 4 s.operands)) s) → Makes code old new (by_instr code (Some (NewCopyIn t ty at)) s.operands (here_of place s))
+    → Makes code old new (copy_move code (place + 1) set t (InBlock (number_at s.operands 2) (number_at s.operands 0)) s.world (value_on_top (drop 4 s.operands)) (drop 1 (drop 4 s.operands)) s) → Makes code old new (by_instr code (Some (NewCopyIn t ty at)) s.operands (here_of place s))
 copies_in_block code old new place t at set ty s b set_is passes made =
     subst (λ (y : T.Move). Makes code old new y) (sym (copy_in_is code old place t at ty s Passed b passes))
-    (subst (λ i. Makes code old new (copy_move code (place + 1) i t (InBlock (number_at s.operands 2) (number_at s.operands 0)) s.world (first_cells (drop 4 s.operands)) (drop 1 (drop 4 s.operands)) s)) set_is made)
+    (subst (λ i. Makes code old new (copy_move code (place + 1) i t (InBlock (number_at s.operands 2) (number_at s.operands 0)) s.world (value_on_top (drop 4 s.operands)) (drop 1 (drop 4 s.operands)) s)) set_is made)
 
 pub copy_stops : (code : Code) (old new : Engine) (place t at : ℕ) (ty : Ty) (stop : Stop) (s : State) → (b : Before code old place (NewCopyIn t ty at) s)
     → tested_there code (Record t) s ≡ NotPassed stop → GoesOn old new (ModeOf.Stopped stop) old.cells.items → Makes code old new (by_instr code (Some (NewCopyIn t ty at)) s.operands (here_of place s))

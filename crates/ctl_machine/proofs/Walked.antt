@@ -1,12 +1,14 @@
 -- The walk over the objects of a master, from the newest on, to the one that was declared in a slot.
-use Rattle.std.proofs.Common.{◌≡◌, ◌≢◌, ℕ, zero, suc, ◌-◌, ◌<◌, ◌≤◌, List, [], ◌∷◌, ◌++◌, Option, Some, None, length, refl, sym, ap, ◌∙◌, arith, drop, take}
+use Rattle.std.proofs.Common.{◌≡◌, ◌≢◌, ℕ, zero, suc, ◌-◌, ◌<◌, ◌≤◌, List, [], ◌∷◌, ◌++◌, Option, Some, None, length, refl, sym, ap, ◌∙◌, arith, drop, take, Bool, true, false}
 use Rattle.std.specs.Prelude.{slice_get, slice_index_or, nat_eq, if◌then◌else◌}
 use Rattle.std.proofs.lemmas.Option.{slice_get_within}
 use Rattle.ctl_meaning.specs.World as W
 use Rattle.ctl_meaning.specs.World.{Content}
 use Rattle.ctl_machine.specs.declared.frame.Formal.{Formal}
 use Rattle.ctl_machine.specs.declared.frame.Owned.{Owned}
-use Rattle.ctl_machine.specs.Holders.{binding, content_of, holder_in, formal_in}
+use Rattle.ctl_code.specs.States.{Cells, Located}
+use Rattle.ctl_code.specs.Table.{word_of}
+use Rattle.ctl_machine.specs.Holders.{binding, content_of, content_of_formal, holder_in, formal_in, word_of_formal}
 use Rattle.ctl_machine.proofs.Lists.{length_taken, eq_same, eq_differs, get_index}
 use Rattle.ctl_machine.proofs.Held.{holder_more, bound_more}
 use Rattle.ctl_machine.proofs.Created.{drop_more}
@@ -49,7 +51,7 @@ holder_passed os start at slot d c some within differs =
 -- Formals ------------------------------------------------------------------------------------------------
 
 -- one formal further down
-formal_walk : (fs : List Formal) (start at slot : ℕ) (f : Formal) → start ≤ at → slice_get fs at ≡ Some f → formal_in (drop start (take (suc at) fs)) slot ≡ (if nat_eq f.slot slot then binding f.spot else formal_in (drop start (take at fs)) slot)
+formal_walk : (fs : List Formal) (start at slot : ℕ) (f : Formal) → start ≤ at → slice_get fs at ≡ Some f → formal_in (drop start (take (suc at) fs)) slot ≡ (if nat_eq f.slot slot then content_of_formal f else formal_in (drop start (take at fs)) slot)
 formal_walk fs start at slot f less found =
     let within = slice_get_within fs at f found in
     let long : length (take at fs) ≡ at = length_taken at fs (omega (arith, within)) in
@@ -57,20 +59,28 @@ formal_walk fs start at slot f less found =
     ∙ (ap (λ (l : List Formal). formal_in l slot) (drop_more (take at fs) start f (omega (arith, less, long)))
     ∙ bound_more (drop start (take at fs)) f slot W.Nothing)
 
+-- what a formal stands for is what its slot holds
+pub formal_word : (f : Formal) → Some (word_of_formal f) ≡ word_of (content_of_formal f)
+formal_word f = by f.is_value
+  where
+    by : (b : Bool) → Some (if b then Cells f.spot.path else Located f.spot) ≡ word_of (if b then W.Copies f.spot.path else binding f.spot)
+    by true = refl
+    by false = refl
+
 -- the newest of them has the slot, or has not
-pub formal_found : (fs : List Formal) (start at slot : ℕ) (f : Formal) → start < at → slice_get fs (at - 1) ≡ Some f → f.slot ≡ slot → formal_in (drop start (take at fs)) slot ≡ binding f.spot
+pub formal_found : (fs : List Formal) (start at slot : ℕ) (f : Formal) → start < at → slice_get fs (at - 1) ≡ Some f → f.slot ≡ slot → formal_in (drop start (take at fs)) slot ≡ content_of_formal f
 formal_found fs start at slot f some found same =
     let last : suc (at - 1) ≡ at = omega (arith, some) in
     ap (λ n. formal_in (drop start (take n fs)) slot) (sym last)
     ∙ (formal_walk fs start (at - 1) slot f (omega (arith, some)) found
-    ∙ ap (λ b. if b then binding f.spot else formal_in (drop start (take (at - 1) fs)) slot) (eq_same f.slot slot same))
+    ∙ ap (λ b. if b then content_of_formal f else formal_in (drop start (take (at - 1) fs)) slot) (eq_same f.slot slot same))
 
 pub formal_passed : (fs : List Formal) (start at slot : ℕ) (f : Formal) → start < at → slice_get fs (at - 1) ≡ Some f → f.slot ≢ slot → formal_in (drop start (take (at - 1) fs)) slot ≡ formal_in (drop start (take at fs)) slot
 formal_passed fs start at slot f some found differs =
     let last : suc (at - 1) ≡ at = omega (arith, some) in
     sym (ap (λ n. formal_in (drop start (take n fs)) slot) (sym last)
     ∙ (formal_walk fs start (at - 1) slot f (omega (arith, some)) found
-    ∙ ap (λ b. if b then binding f.spot else formal_in (drop start (take (at - 1) fs)) slot) (eq_differs f.slot slot differs)))
+    ∙ ap (λ b. if b then content_of_formal f else formal_in (drop start (take (at - 1) fs)) slot) (eq_differs f.slot slot differs)))
 
 -- nothing is left where the walk ends
 pub none_taken : (os : List Owned) (at start : ℕ) → at ≤ start → drop start (take at os) ≡ []

@@ -56,7 +56,7 @@ pub record IsMember (code : Code) (e : Engine) (object place : ℕ) (s : State) 
 
 -- the value of a record has taken the place of the newest part, in this cell, over these parts
 abbrev pub with_value : ℕ → List ℕ → List Spot → Kept → Kept
-with_value cell value below e = record e { cells = slice_set e.cells cell 0; spots = below ++ value_spot value ∷ [] }
+with_value cell value below e = record e { cells = slice_set e.cells cell 1; spots = below ++ value_spot value ∷ [] }
 
 -- Adjustments ------------------------------------------------------------------------------------
 

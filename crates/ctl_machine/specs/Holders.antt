@@ -1,8 +1,10 @@
--- What the slots of active masters hold: the objects and collections that came there, and the formals of bodies the parts that they stand for.
-use Rattle.std.specs.Prelude.{◌≡◌, ◌≢◌, ℕ, ◌-◌, ◌<◌, ◌≤◌, List, [], ◌∷◌, Option, Some, None, length, drop, take, slice_get, nat_eq, if◌then◌else◌}
-use Rattle.ctl_meaning.specs.World.{Content, Nothing, Holds, Binds, Gathers, unset, Activation}
+-- What the slots of active masters hold: the objects and collections that came there, and the formals of bodies the parts that they stand for, or the
+-- records that were copied to them.
+use Rattle.std.specs.Prelude.{◌≡◌, ◌≢◌, ℕ, ◌-◌, ◌<◌, ◌≤◌, List, [], ◌∷◌, Option, Some, None, false, length, drop, take, slice_get, nat_eq, if◌then◌else◌}
+use Rattle.ctl_meaning.specs.World.{Content, Nothing, Holds, Binds, Copies, Gathers, unset, Activation}
 use Rattle.ctl_meaning.specs.Finalization.{Spot}
 use Rattle.ctl_meaning.specs.Lists.{item_or}
+use Rattle.ctl_code.specs.States.{Word, Located, Cells}
 use Rattle.ctl_machine.specs.declared.frame.Formal.{Formal}
 use Rattle.ctl_machine.specs.declared.frame.Master.{Master}
 use Rattle.ctl_machine.specs.declared.frame.Holder.{Holder}
@@ -29,10 +31,14 @@ holder_in (o ∷ os) slot before = holder_in os slot (if nat_eq o.slot slot then
 abbrev pub binding : Spot → Content
 binding s = Binds s.object s.offset s.path
 
+-- and that of any formal that is kept: such a part, or the copy of a record
+abbrev pub content_of_formal : Formal → Content
+content_of_formal f = if f.is_value then Copies f.spot.path else binding f.spot
+
 -- what a slot holds by these formals, the newest last, and what it held before them
 abbrev pub bound_in : List Formal → ℕ → Content → Content
 bound_in [] slot before = before
-bound_in (f ∷ fs) slot before = bound_in fs slot (if nat_eq f.slot slot then binding f.spot else before)
+bound_in (f ∷ fs) slot before = bound_in fs slot (if nat_eq f.slot slot then content_of_formal f else before)
 
 -- what a slot holds when its master is entered, by the formals of its body that stand for parts
 abbrev pub formal_in : List Formal → ℕ → Content
@@ -40,7 +46,7 @@ formal_in fs slot = bound_in fs slot Nothing
 
 -- the formal of an operation has the first slot, and stands for the part that it was called for
 abbrev pub first_formal : Spot → Formal
-first_formal s = record { slot = 0; spot = s }
+first_formal s = record { slot = 0; spot = s; is_value = false }
 
 -- the formals of a master, among those of all active ones
 abbrev pub own_formals : Master → List Formal → List Formal
@@ -74,12 +80,15 @@ abbrev pub IsThere : List Formal → Holder → Type 0
 IsThere formals (HolderOf.Whole n) = Unit {0}
 IsThere formals (HolderOf.Bound at) = at < length formals
 
--- the part that was found, among these formals: a whole object, or the one that a formal stands for
-abbrev pub part_of_formal : Option Formal → Option Spot
-part_of_formal None = None
-part_of_formal (Some f) = Some f.spot
+-- what was found, as an operand, among these formals: a whole object, or what a formal stands for, a part or the copy of a record
+abbrev pub word_of_formal : Formal → Word
+word_of_formal f = if f.is_value then Cells f.spot.path else Located f.spot
 
-abbrev pub found_in : List Formal → Option Holder → Option Spot
+abbrev pub held_by : Option Formal → Option Word
+held_by None = None
+held_by (Some f) = Some (word_of_formal f)
+
+abbrev pub found_in : List Formal → Option Holder → Option Word
 found_in formals None = None
-found_in formals (Some (HolderOf.Whole n)) = Some (whole_spot n)
-found_in formals (Some (HolderOf.Bound at)) = part_of_formal (slice_get formals at)
+found_in formals (Some (HolderOf.Whole n)) = Some (Located (whole_spot n))
+found_in formals (Some (HolderOf.Bound at)) = held_by (slice_get formals at)

@@ -40,3 +40,5 @@ pub mod LeftPools
 pub mod Closing
 pub mod StorageCalling
 pub mod PoolBlocks
+pub mod RecordValues
+pub mod Returning

@@ -1,17 +1,17 @@
--- The actuals of a call become the first slots of a body: which of them are parts of objects, and what becomes of their cells.
-use Rattle.std.specs.Prelude.{ℕ, zero, suc, ◌+◌, ◌-◌, List, [], ◌∷◌, ◌++◌, Option, Some, None, Bool, true, false, slice_get, slice_set}
+-- The actuals of a call become the first slots of a body: which of them are parts of objects or values of records, and what becomes of their cells.
+use Rattle.std.specs.Prelude.{ℕ, zero, suc, ◌≡◌, ◌<◌, ◌+◌, ◌-◌, List, [], ◌∷◌, ◌++◌, Option, Some, None, Bool, true, false, slice_get, slice_set}
 use Rattle.ctl_program.specs.declared.types.Ty.TheVariants.{Record}
 use Rattle.ctl_meaning.specs.Finalization.{Spot}
 use Rattle.ctl_code.specs.declared.kinds.Kind.{Kind}
 use Rattle.ctl_code.specs.declared.kinds.Kind.TheVariants.{Operand}
-use Rattle.ctl_code.specs.States.{Word, Scalar, Located, Cells}
+use Rattle.ctl_code.specs.States.{Word, Scalar, Located, Cells, worth}
 use Rattle.ctl_code.specs.Fits.{IsOperandOf}
 use Rattle.ctl_machine.specs.declared.frame.Formal.{Formal}
 use Rattle.ctl_machine.specs.Shows.{Kept}
 use Rattle.ctl_machine.specs.Moves.{cleared}
 use Rattle.ctl_machine.specs.Spots.{value_spot}
 
--- an operand of this kind is a part of an object
+-- an operand of this kind is a part of an object, or the value of a record
 abbrev pub is_part : Kind → Bool
 is_part (Operand (Record t)) = true
 is_part _ = false
@@ -36,7 +36,11 @@ AreActuals zero kinds ops = Unit {0}
 AreActuals (suc n) (Operand ty ∷ kinds) (x ∷ ops) = IsOperandOf ty x × AreActuals n kinds ops
 AreActuals (suc n) _ _ = ⊥
 
--- the cell of an actual becomes 0 where it is a part
+-- so many of them, the last one first, have their cells from one on
+abbrev pub StandIn : ℕ → List Word → ℕ → List ℕ → Type 0
+StandIn n ops base cells = (i : ℕ) (x : Word) → i < n → slice_get ops i ≡ Some x → slice_get cells (base + (n - 1 - i)) ≡ Some (worth x)
+
+-- the cell of an actual becomes 0 where it is a part, or the value of a record
 abbrev pub cell_passed : Word → ℕ → List ℕ → List ℕ
 cell_passed (Scalar n) cell cells = cells
 cell_passed (Located s) cell cells = slice_set cells cell 0
@@ -48,11 +52,15 @@ passed zero ops base cells = cells
 passed (suc n) [] base cells = cells
 passed (suc n) (x ∷ ops) base cells = passed n ops base (cell_passed x (base + n) cells)
 
--- a formal that stands for the part, if the actual is one
+-- a formal of this slot
+abbrev pub formal_with : ℕ → Spot → Bool → Formal
+formal_with slot s is_value = record { slot = slot; spot = s; is_value = is_value }
+
+-- a formal that stands for the part, or the copy of a record, if the actual is one
 abbrev pub formal_if : Word → ℕ → List Formal
 formal_if (Scalar n) slot = []
-formal_if (Located s) slot = record { slot = slot; spot = s } ∷ []
-formal_if (Cells v) slot = record { slot = slot; spot = value_spot v } ∷ []
+formal_if (Located s) slot = formal_with slot s false ∷ []
+formal_if (Cells v) slot = formal_with slot (value_spot v) true ∷ []
 
 -- the formals that stand for these parts, that of the last slot first
 abbrev pub bound : ℕ → List Word → List Formal

@@ -11,7 +11,7 @@ use Rattle.ctl_objects.specs.Stock.{Stock}
 use Rattle.ctl_code.specs.declared.kinds.Kind.{Kind}
 use Rattle.ctl_code.specs.declared.code.Code.{Code}
 use Rattle.ctl_code.specs.Kinds.{stack_at}
-use Rattle.ctl_code.specs.States.{State, Word, Scalar, Located}
+use Rattle.ctl_code.specs.States.{State, Word, Scalar, object_of}
 use Rattle.ctl_code.specs.Table.{Grant, Granted, Exhausted, UnknownPool, pool_grant, GivenBack, Returned, NotReturned}
 use Rattle.ctl_code.specs.Valid.{Leads}
 use Rattle.ctl_code.specs.Windows.{height}
@@ -21,7 +21,7 @@ use Rattle.ctl_machine.specs.declared.pool_blocks.Request.TheVariants as Request
 use Rattle.ctl_machine.specs.Masters.{first_window}
 use Rattle.ctl_machine.specs.Moves.{Inside}
 use Rattle.ctl_machine.specs.Shows.{kept, with_spots}
-use Rattle.ctl_machine.specs.Spots.{standing}
+use Rattle.ctl_machine.specs.Spots.{located, standing}
 
 -- there is a pool of this number, and it is open
 abbrev pub is_open_at : ℕ → W.Pools → Bool
@@ -44,7 +44,7 @@ IsAccepted next w stock _ answer = ⊥
 
 -- what comes of the request that these operands are, in a world
 abbrev pub grant_in : List Word → World → Grant
-grant_in (Scalar alignment ∷ Scalar size ∷ Located s ∷ ops) w = pool_grant s.object size (block_pool_at s.object w.pools) w
+grant_in (Scalar alignment ∷ Scalar size ∷ x ∷ ops) w = pool_grant (object_of x) size (block_pool_at (object_of x) w.pools) w
 grant_in _ w = UnknownPool
 
 -- the world then
@@ -57,9 +57,11 @@ pub record IsAsked (code : Code) (e : Engine) (place under : ℕ) (s : State) (o
   pub upper : ℕ
   pub value : ℕ
   pub pool : Spot
+  pub word : Word
   pub rest : List Word
   pub below : List Kind
-  pub are : ops ≡ Scalar upper ∷ Scalar value ∷ Located pool ∷ rest
+  pub are : ops ≡ Scalar upper ∷ Scalar value ∷ word ∷ rest
+  pub object : object_of word ≡ pool.object
   pub read : slice_get e.cells.items (first_window (reverse e.masters.items) + height (drop under (stack_at code.kinds place))) ≡ Some value
   pub spots : e.spots.items ≡ standing s.control rest ++ pool ∷ []
   pub leads : Leads code (place + 1) below
@@ -69,7 +71,7 @@ pub record IsAsked (code : Code) (e : Engine) (place under : ℕ) (s : State) (o
 
 -- what comes of the request that these operands are, in a world, where the part that has the component stands over the pool
 abbrev pub grant_into : List Word → World → Grant
-grant_into (Scalar alignment ∷ Scalar size ∷ Located part ∷ Located pool ∷ ops) w = pool_grant pool.object size (block_pool_at pool.object w.pools) w
+grant_into (Scalar alignment ∷ Scalar size ∷ part ∷ pool ∷ ops) w = pool_grant (object_of pool) size (block_pool_at (object_of pool) w.pools) w
 grant_into _ w = UnknownPool
 
 -- the size that is asked for stands below the alignment, the part that has the component below both, the newest one, and the pool below that;
@@ -79,16 +81,22 @@ pub record IsAskedInto (code : Code) (e : Engine) (place : ℕ) (s : State) : Ty
   pub size : ℕ
   pub part : Spot
   pub pool : Spot
+  pub over : Word
+  pub word : Word
   pub rest : List Word
   pub below : List Kind
-  pub are : s.operands ≡ Scalar alignment ∷ Scalar size ∷ Located part ∷ Located pool ∷ rest
+  pub are : s.operands ≡ Scalar alignment ∷ Scalar size ∷ over ∷ word ∷ rest
+  pub stands : located (over ∷ []) ≡ part ∷ []
+  pub object : object_of word ≡ pool.object
   pub read : slice_get e.cells.items (first_window (reverse e.masters.items) + height (drop 2 (stack_at code.kinds place))) ≡ Some size
   pub spots : e.spots.items ≡ (standing s.control rest ++ pool ∷ []) ++ part ∷ []
   pub leads : Leads code (place + 1) below
   pub left : Inside code (with_spots (kept e) (standing s.control rest)) below s.control rest s.world
 
--- a part stands over a pool and what a state has below both
-pub record StandsOnPool (code : Code) (e : Engine) (place : ℕ) (part : Spot) (s : State) : Type 0 where
+-- a part, or the value of a record, stands over a pool and what a state has below both
+pub record StandsOnPool (code : Code) (e : Engine) (place : ℕ) (over : Word) (s : State) : Type 0 where
+  pub part : Spot
+  pub stands : located (over ∷ []) ≡ part ∷ []
   pub pool : Spot
   pub below : List Kind
   pub spots : e.spots.items ≡ (standing s.control s.operands ++ pool ∷ []) ++ part ∷ []

@@ -1,12 +1,12 @@
 //! Allocators with a value (RM 4.8): the object takes the value of a part of another one, and joins its collection once it is adjusted; where
 //! an Adjust of it failed, those of its parts that are adjusted are finalized before it is gone (RM 7.6, 7.6.1).
 
-ghost use Rattle.std.specs.Prelude.{◌≡◌, ◌+◌, ◌^◌, ◌<◌, ◌≤◌, ◌∷◌, ◌++◌, [], ℕ, List, OnErr, OnOk, Some, drop, length, reverse, vec_capacity, vec_len};
+ghost use Rattle.std.specs.Prelude.{◌≡◌, ◌+◌, ◌^◌, ◌<◌, ◌≤◌, ◌∷◌, ◌++◌, [], ℕ, List, IfOk, OnErr, OnOk, Some, drop, length, reverse, vec_capacity, vec_len};
 ghost use Rattle.ctl_program.specs.declared.types.Ty.{Ty};
 ghost use Rattle.ctl_tree.specs.declared.event.Owner.TheVariants as OwnerOf;
 ghost use Rattle.ctl_meaning.specs.Changes.{object_at};
 ghost use Rattle.ctl_meaning.specs.Finalization as S;
-ghost use Rattle.ctl_meaning.specs.Objects.{cells_at, object_in};
+ghost use Rattle.ctl_meaning.specs.Objects.{cells_at, first_cells, object_in};
 ghost use Rattle.ctl_meaning.specs.World.{Object};
 ghost use Rattle.ctl_code.specs.declared.code.Instr.TheVariants as InstrOf;
 ghost use Rattle.ctl_code.specs.Table as Table;
@@ -20,7 +20,8 @@ ghost use Rattle.ctl_machine.specs.Granting.{storage_seen};
 ghost use Rattle.ctl_machine.specs.Moves.{Before, BeforeResuming, GoesOn, Makes, here_of};
 ghost use Rattle.ctl_machine.specs.Shows as Shows;
 ghost use Rattle.ctl_machine.specs.Shows.{kept};
-ghost use Rattle.ctl_machine.specs.Spots.{first_spot};
+ghost use Rattle.ctl_machine.specs.RecordValues.{FindsRecord, IsPart, IsValue};
+ghost use Rattle.ctl_machine.specs.Spots.{first_spot, value_on_top};
 
 use crate::engine::Engine;
 use crate::frame::{Ended, Frame, Mode};
@@ -76,12 +77,12 @@ impl Engine {
     {
         let _ = self.spots.take_last();
         self.spots.push_reserved(Spot::of_value(value));
-        self.cells[cell] = 0;
+        self.cells[cell] = 1;
     }
 
-    /// Calls the Allocate that the user wrote for the type of the pool of this number, for an object of a record type that is to take the
-    /// value of the part that is the newest operand, of an object that is there (RM 4.8, 13.11): the value takes the place of the part, and
-    /// stays an operand meanwhile. Unchanged where memory is refused.
+    /// Calls the Allocate that the user wrote for the type of the pool of this number, for an object of a record type that is to take this
+    /// value, that of the newest operand (RM 4.8, 13.11): the value takes the place of the operand, and stays one meanwhile. Unchanged where
+    /// memory is refused.
     fn call_over_value(
         &mut self,
         code: &Code,
@@ -89,27 +90,21 @@ impl Engine {
         record: usize,
         pool: u64,
         allocate: usize,
+        value: Vec<u64>,
         place: usize,
     ) -> Result<(), AllocError>
-        ghost s: { State × Object × Object × ℕ }
+        ghost s: { State × Object × ℕ × List ℕ }
         requires valid { IsValid code.now }
         requires before { (access : ℕ) × (ty : Ty) × (at : ℕ) × Before code.now self.old place (InstrOf.NewCopy access «record» ty at) s.0 }
-        requires source { object_at (first_spot s.0.operands).object s.0.world ≡ Some s.1 }
-        requires set { s.3 ≡ set }
-        requires pool { object_in pool self.old.stock.objects ≡ Some s.2 }
-        requires operation { Table.operation_for (λ x. x.allocate) code.now s.2.ty ≡ Some allocate }
+        requires value { s.3 ≡ value.items }
+        requires set { s.2 ≡ set }
+        requires pool { object_in pool self.old.stock.objects ≡ Some s.1 }
+        requires operation { Table.operation_for (λ x. x.allocate) code.now s.1.ty ≡ Some allocate }
         requires place { place + 1 < 2 ^ 64 }
         requires masters { self.old.given_masters + 1 < 2 ^ 64 }
-        ensures ok { OnOk result (Makes code.now self.old self.new (Table.call_allocate code.now (Table.units_of code.now «record») set s.2 allocate (Cells (cells_at (first_spot s.0.operands).offset (Table.size_of code.now «record») s.1) ∷ drop 1 s.0.operands) (here_of place s.0))) }
+        ensures ok { OnOk result (Makes code.now self.old self.new (Table.call_allocate code.now (Table.units_of code.now «record») set s.1 allocate (Cells s.3 ∷ drop 1 s.0.operands) (here_of place s.0))) }
         ensures err { OnErr result (GoesOn self.old self.new self.old.mode self.old.cells.items) }
     {
-        let newest = self.count_spots() - 1;
-        let spot = &self.spots[newest];
-        let size = size_of(code, record);
-        let mut value = Vec::new(self.alloc);
-        reserve(&mut value, size)?;
-        self.stock
-            .save(spot.object(), spot.offset(), size, &mut value);
         let cell = self.window() + code.kinds.height_at(place, 1);
         let base = cell + 3;
         self.prepare(base, code.room, 1)?;
@@ -123,6 +118,67 @@ impl Engine {
             place,
             cell + 1,
         );
+        Ok(())
+    }
+
+    /// Answers so many cells of the part that is the newest operand, of an object that is there.
+    pub(crate) fn newest_cells(
+        &self,
+        code: &Code,
+        size: usize,
+        place: usize,
+    ) -> Result<Vec<u64>, AllocError>
+        ghost s: { State × Object }
+        requires before { FindsRecord code.now self.now place s.0 }
+        requires part { IsPart s.0.operands }
+        requires source { object_at (first_spot s.0.operands).object s.0.world ≡ Some s.1 }
+        ensures { IfOk result (λ cells. cells.items ≡ cells_at (first_spot s.0.operands).offset size s.1) }
+    {
+        let _ = code;
+        let _ = place;
+        let spot = &self.spots[self.count_spots() - 1];
+        let mut value = Vec::new(self.alloc);
+        reserve(&mut value, size)?;
+        self.stock
+            .save(spot.object(), spot.offset(), size, &mut value);
+        Ok(value)
+    }
+
+    /// Allocates an object of a record type for the collection of this number, with storage of the pool of an access type and the value of a
+    /// record that is the newest operand, as `copy_member` does with that of a part.
+    fn value_member(
+        &mut self,
+        code: &Code,
+        access: usize,
+        set: u64,
+        record: usize,
+        place: usize,
+    ) -> Result<(), AllocError>
+        ghost s: { State × (ℕ → Grant) }
+        requires valid { IsValid code.now }
+        requires before { (ty : Ty) × (at : ℕ) × Before code.now self.old place (InstrOf.NewCopy access «record» ty at) s.0 }
+        requires value { IsValue s.0.operands }
+        requires storage { s.1 ≡ storage_seen code.now access s.0 }
+        requires place { place + 1 + 1 < 2 ^ 64 }
+        requires objects { self.old.numbered.objects + 1 < 2 ^ 64 }
+        requires masters { self.old.given_masters + 1 < 2 ^ 64 }
+        ensures ok { OnOk result (Makes code.now self.old self.new (Table.copy_at code.now «record» (first_cells (Table.size_of code.now «record») (value_on_top s.0.operands)) set (s.1 (Table.units_of code.now «record»)) (drop 1 s.0.operands) (here_of place s.0))) }
+        ensures err { OnErr result (GoesOn self.old self.new self.old.mode self.old.cells.items) }
+    {
+        let size = size_of(code, record);
+        let value = self.newest_value(code, size, place)?;
+        let grantor = self.grantor(code, access);
+        if let Grantor::User { pool, allocate } = grantor {
+            return self.call_over_value(code, set, record, pool, allocate, value, place);
+        }
+        if let Some(refused) = self.add_member(code, grantor, set, Ty::Record(record))? {
+            self.go_on(refused);
+            return Ok(());
+        }
+        let number = self.numbered.objects;
+        self.stock.write_all(number, 0, value.as_slice());
+        let _ = self.spots.take_last();
+        self.adjust_member(code, set, number, record, place + 2);
         Ok(())
     }
 
@@ -141,6 +197,7 @@ impl Engine {
         ghost s: { State × Object × (ℕ → Grant) }
         requires valid { IsValid code.now }
         requires before { (ty : Ty) × (at : ℕ) × Before code.now self.old place (InstrOf.NewCopy access «record» ty at) s.0 }
+        requires part { IsPart s.0.operands }
         requires source { object_at (first_spot s.0.operands).object s.0.world ≡ Some s.1 }
         requires storage { s.2 ≡ storage_seen code.now access s.0 }
         requires place { place + 1 + 1 < 2 ^ 64 }
@@ -150,8 +207,10 @@ impl Engine {
         ensures err { OnErr result (GoesOn self.old self.new self.old.mode self.old.cells.items) }
     {
         let grantor = self.grantor(code, access);
+        let size = size_of(code, record);
         if let Grantor::User { pool, allocate } = grantor {
-            return self.call_over_value(code, set, record, pool, allocate, place);
+            let value = self.newest_cells(code, size, place)?;
+            return self.call_over_value(code, set, record, pool, allocate, value, place);
         }
         let newest = self.count_spots() - 1;
         let spot = &self.spots[newest];
@@ -162,7 +221,6 @@ impl Engine {
             return Ok(());
         }
         let number = self.numbered.objects;
-        let size = size_of(code, record);
         self.stock.copy(source, start, number, 0, size);
         let _ = self.spots.take_last();
         self.adjust_member(code, set, number, record, place + 2);
@@ -198,9 +256,9 @@ impl Engine {
         Ok(())
     }
 
-    /// Allocates an object of a record type for the collection of an access type with the value of the part that is the newest operand
-    /// (RM 4.8): it takes the value, and is to be adjusted (RM 7.6); or the Allocate is called that the user wrote for the type of its storage
-    /// pool (RM 13.11). Where the finalization of the collection has started, an object with a
+    /// Allocates an object of a record type for the collection of an access type with the value of the part that is the newest operand, or with
+    /// the value of a record (RM 4.8): it takes the value, and is to be adjusted (RM 7.6); or the Allocate is called that the user wrote for the
+    /// type of its storage pool (RM 13.11). Where the finalization of the collection has started, an object with a
     /// controlled part is not: Program_Error is raised; and Storage_Error where the storage pool of the access type is exhausted (RM 13.11).
     /// Where the object of the part, the collection or the pool is gone, the program is erroneous (RM 13.11.2). Unchanged where memory is
     /// refused.
@@ -220,6 +278,31 @@ impl Engine {
         ensures ok { OnOk result (Makes code.now self.old self.new (Table.by_instr code.now (Some (InstrOf.NewCopy access «record» s.1 s.2)) s.0.operands (here_of place s.0))) }
         ensures err { OnErr result (GoesOn self.old self.new self.old.mode self.old.cells.items) }
     {
+        if self.is_newest_value(code, place) {
+            self.allocate_value(code, access, record, place)
+        } else {
+            self.allocate_part(code, access, record, place)
+        }
+    }
+
+    /// Allocates an object of a record type with the value of the part that is the newest operand, as `allocate_copy` does.
+    fn allocate_part(
+        &mut self,
+        code: &Code,
+        access: usize,
+        record: usize,
+        place: usize,
+    ) -> Result<(), AllocError>
+        ghost s: { State × Ty × ℕ }
+        requires valid { IsValid code.now }
+        requires before { Before code.now self.old place (InstrOf.NewCopy access «record» s.1 s.2) s.0 }
+        requires part { IsPart s.0.operands }
+        requires place { place + 1 + 1 < 2 ^ 64 }
+        requires objects { self.old.numbered.objects + 1 < 2 ^ 64 }
+        requires masters { self.old.given_masters + 1 < 2 ^ 64 }
+        ensures ok { OnOk result (Makes code.now self.old self.new (Table.by_instr code.now (Some (InstrOf.NewCopy access «record» s.1 s.2)) s.0.operands (here_of place s.0))) }
+        ensures err { OnErr result (GoesOn self.old self.new self.old.mode self.old.cells.items) }
+    {
         let newest = self.count_spots() - 1;
         if !self.stock.exists(self.spots[newest].object()) {
             self.go_on(Mode::Stopped(Stop::UseAfterFree));
@@ -227,6 +310,33 @@ impl Engine {
         }
         match self.set_for(code, access, Ty::Record(record)) {
             Ok(set) => self.copy_member(code, access, set, record, place),
+            Err(refused) => {
+                self.go_on(refused);
+                Ok(())
+            }
+        }
+    }
+
+    /// Allocates an object of a record type with the value of a record that is the newest operand, as `allocate_copy` does.
+    fn allocate_value(
+        &mut self,
+        code: &Code,
+        access: usize,
+        record: usize,
+        place: usize,
+    ) -> Result<(), AllocError>
+        ghost s: { State × Ty × ℕ }
+        requires valid { IsValid code.now }
+        requires before { Before code.now self.old place (InstrOf.NewCopy access «record» s.1 s.2) s.0 }
+        requires value { IsValue s.0.operands }
+        requires place { place + 1 + 1 < 2 ^ 64 }
+        requires objects { self.old.numbered.objects + 1 < 2 ^ 64 }
+        requires masters { self.old.given_masters + 1 < 2 ^ 64 }
+        ensures ok { OnOk result (Makes code.now self.old self.new (Table.by_instr code.now (Some (InstrOf.NewCopy access «record» s.1 s.2)) s.0.operands (here_of place s.0))) }
+        ensures err { OnErr result (GoesOn self.old self.new self.old.mode self.old.cells.items) }
+    {
+        match self.set_for(code, access, Ty::Record(record)) {
+            Ok(set) => self.value_member(code, access, set, record, place),
             Err(refused) => {
                 self.go_on(refused);
                 Ok(())

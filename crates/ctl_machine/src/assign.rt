@@ -1,6 +1,6 @@
 //! Records are assigned to (RM 5.2, 7.6): the target is finalized, takes the value, and is adjusted.
 
-ghost use Rattle.std.specs.Prelude.{◌≡◌, ◌+◌, ◌^◌, ◌<◌, ◌≤◌, ◌∷◌, List, Option, ℕ, IfOk, None, OnErr, OnOk, Some, length, reverse, slice_get, vec_capacity, vec_len};
+ghost use Rattle.std.specs.Prelude.{◌≡◌, ◌+◌, ◌^◌, ◌<◌, ◌≤◌, ◌∷◌, List, Option, ℕ, IfOk, None, OnErr, OnOk, Some, drop, false, length, reverse, slice_get, true, vec_capacity, vec_len};
 ghost use Rattle.ctl_code.specs.declared.code.Code.{Code};
 ghost use Rattle.ctl_code.specs.declared.code.Instr.TheVariants as InstrOf;
 ghost use Rattle.ctl_code.specs.declared.code.Parts.TheVariants as PartsOf;
@@ -18,6 +18,7 @@ ghost use Rattle.ctl_machine.specs.Assigning.{Assigned, Assigns, Pending, Replac
 ghost use Rattle.ctl_machine.specs.Assigning as Assigning;
 ghost use Rattle.ctl_machine.specs.Finishing.{AreDoubles, HasRoomToFinish};
 ghost use Rattle.ctl_machine.specs.Moves.{Before, BeforeResuming, GoesOn, Makes, here_of};
+ghost use Rattle.ctl_machine.specs.RecordValues.{IsPart};
 ghost use Rattle.ctl_machine.specs.Saved as Saved;
 ghost use Rattle.ctl_machine.specs.Spots.{standing};
 ghost use Rattle.ctl_machine.specs.Shows as Shows;
@@ -152,12 +153,41 @@ impl Engine {
         self.adjust_target(code, assignment, doubles);
     }
 
-    /// Takes the newest part off, and saves its value, so many cells, for which there is room.
+    /// Takes the newest part off, and saves its value, so many cells, for which there is room: that of a part of an object, or of a record that
+    /// stands among the parts.
     #[inline(always)]
-    fn save_value(&mut self, size: usize)
+    fn save_value(&mut self, size: usize, is_value: bool)
         requires spots { 0 < length self.old.spots.items }
         requires saved { vec_len self.old.saved + size ≤ vec_capacity self.old.saved }
-        ensures saves { SavesValue self.old self.new size }
+        ensures saves { SavesValue self.old self.new size is_value }
+        ensures room { (code : Code) (base : ℕ) → HasRoomToFinish code self.old base → HasRoomToFinish code self.new base }
+        ensures waiting { self.new.control ≡ self.old.control }
+    {
+        if is_value {
+            self.save_record(size);
+        } else {
+            self.save_part(size);
+        }
+    }
+
+    /// Takes the value of a record off, which stands among the parts, and saves it, as `save_value` does.
+    fn save_record(&mut self, size: usize)
+        requires spots { 0 < length self.old.spots.items }
+        requires saved { vec_len self.old.saved + size ≤ vec_capacity self.old.saved }
+        ensures saves { SavesValue self.old self.new size true }
+        ensures room { (code : Code) (base : ℕ) → HasRoomToFinish code self.old base → HasRoomToFinish code self.new base }
+        ensures waiting { self.new.control ≡ self.old.control }
+    {
+        let source = self.spots.take_last();
+        source.save(size, &mut self.saved);
+    }
+
+    /// Takes the newest part off, and saves its value, as `save_value` does.
+    #[inline(always)]
+    fn save_part(&mut self, size: usize)
+        requires spots { 0 < length self.old.spots.items }
+        requires saved { vec_len self.old.saved + size ≤ vec_capacity self.old.saved }
+        ensures saves { SavesValue self.old self.new size false }
         ensures room { (code : Code) (base : ℕ) → HasRoomToFinish code self.old base → HasRoomToFinish code self.new base }
         ensures waiting { self.new.control ≡ self.old.control }
     {
@@ -167,16 +197,17 @@ impl Engine {
             .save(source.object(), source.offset(), size, &mut self.saved);
     }
 
-    /// Assigns the value of the newest part, of an object that is there, to the part below it at once: both are of this record type, which
-    /// has no controlled part (RM 5.2). Goes on at this place; unchanged where memory is refused.
+    /// Assigns the value of the newest part, of an object that is there, or of a record, to the part below it at once: both are of this record
+    /// type, which has no controlled part (RM 5.2). Goes on at this place; unchanged where memory is refused.
     fn replace_at_once(
         &mut self,
         code: &Code,
         record: usize,
+        is_value: bool,
         place: usize,
     ) -> Result<(), AllocError>
         ghost t: { Assigned × List ℕ }
-        requires replaces { Replaces code.now self.old «record» place t.0 t.1 }
+        requires replaces { Replaces code.now self.old «record» is_value place t.0 t.1 }
         requires plain { Table.parts_of code.now «record» ≡ PartsOf.Plain }
         ensures ok { OnOk result (Makes code.now self.old self.new (Table.replace_value code.now t.0.spot «record» t.1 t.0.point t.0.control t.0.world)) }
         ensures err { OnErr result (GoesOn self.old self.new self.old.mode self.old.cells.items) }
@@ -188,7 +219,7 @@ impl Engine {
         }
         let size = size_of(code, record);
         reserve(&mut self.saved, size)?;
-        self.save_value(size);
+        self.save_value(size, is_value);
         self.take_value(size);
         let _ = self.spots.take_last();
         self.mode = Mode::At(place);
@@ -205,18 +236,19 @@ impl Engine {
         doubled(self.alloc, spot)
     }
 
-    /// Saves the value of the newest part, of an object that is there, for the part below it, both of this record type, and finalizes that
-    /// (RM 5.2, 7.6): the assignment waits, and goes on at this place. Unchanged where memory is refused.
+    /// Saves the value of the newest part, of an object that is there, or of a record, for the part below it, both of this record type, and
+    /// finalizes that (RM 5.2, 7.6): the assignment waits, and goes on at this place. Unchanged where memory is refused.
     #[inline(always)]
     fn finalize_target(
         &mut self,
         code: &Code,
         record: usize,
+        is_value: bool,
         place: usize,
     ) -> Result<(), AllocError>
         ghost t: { Assigned × List ℕ }
         requires valid { IsValid code.now }
-        requires replaces { Replaces code.now self.old «record» place t.0 t.1 }
+        requires replaces { Replaces code.now self.old «record» is_value place t.0 t.1 }
         requires number { self.old.given_masters + 1 < 2 ^ 64 }
         ensures ok { OnOk result (Makes code.now self.old self.new (Table.finalize_part code.now (Table.parts_of code.now «record») CauseOf.Assign t.0.spot «record» (waiting_for «record» (Some t.1) t.0) t.0.world)) }
         ensures err { OnErr result (GoesOn self.old self.new self.old.mode self.old.cells.items) }
@@ -226,7 +258,7 @@ impl Engine {
         let size = size_of(code, record);
         reserve(&mut self.saved, size)?;
         self.prepare_finalization(code, base)?;
-        self.save_value(size);
+        self.save_value(size, is_value);
         self.control.push_reserved(Frame::Assigning {
             record,
             value: Value::Saved,
@@ -241,24 +273,31 @@ impl Engine {
         Ok(())
     }
 
-    /// Assigns the value of the newest part, of an object that is there, to the part below it, both of this record type (RM 5.2, 7.6). The
-    /// assignment goes on at this place; unchanged where memory is refused.
-    fn replace_value(&mut self, code: &Code, record: usize, place: usize) -> Result<(), AllocError>
+    /// Assigns the value of the newest part, of an object that is there, or of a record, to the part below it, both of this record type (RM 5.2,
+    /// 7.6). The assignment goes on at this place; unchanged where memory is refused.
+    fn replace_value(
+        &mut self,
+        code: &Code,
+        record: usize,
+        is_value: bool,
+        place: usize,
+    ) -> Result<(), AllocError>
         ghost t: { Assigned × List ℕ }
         requires valid { IsValid code.now }
-        requires replaces { Replaces code.now self.old «record» place t.0 t.1 }
+        requires replaces { Replaces code.now self.old «record» is_value place t.0 t.1 }
         requires number { self.old.given_masters + 1 < 2 ^ 64 }
         ensures ok { OnOk result (Makes code.now self.old self.new (Table.replace_value code.now t.0.spot «record» t.1 t.0.point t.0.control t.0.world)) }
         ensures err { OnErr result (GoesOn self.old self.new self.old.mode self.old.cells.items) }
     {
         match parts_of(code, record) {
-            Parts::Plain => self.replace_at_once(code, record, place),
-            _ => self.finalize_target(code, record, place),
+            Parts::Plain => self.replace_at_once(code, record, is_value, place),
+            _ => self.finalize_target(code, record, is_value, place),
         }
     }
 
-    /// Assigns the value of the part that is the newest operand to the part below it (RM 5.2, 7.6); one that is assigned to itself stays as
-    /// it is. Where the object of the newest is not there, the program is erroneous (RM 13.11.2). Unchanged where memory is refused.
+    /// Assigns the value of the part that is the newest operand, or the value of a record, to the part below it (RM 5.2, 7.6); one that is
+    /// assigned to itself stays as it is. Where the object of the newest is not there, the program is erroneous (RM 13.11.2), and where what is
+    /// below is no part: a value takes none. Unchanged where memory is refused.
     #[inline(always)]
     pub(crate) fn assign(
         &mut self,
@@ -269,6 +308,29 @@ impl Engine {
         ghost s: { State }
         requires valid { IsValid code.now }
         requires before { Before code.now self.old place (InstrOf.Assign «record») s }
+        requires place { place + 1 < 2 ^ 64 }
+        requires number { self.old.given_masters + 1 < 2 ^ 64 }
+        ensures ok { OnOk result (Makes code.now self.old self.new (Table.by_instr code.now (Some (InstrOf.Assign «record»)) s.operands (here_of place s))) }
+        ensures err { OnErr result (GoesOn self.old self.new self.old.mode self.old.cells.items) }
+    {
+        if self.is_value_below(code, place) {
+            self.mode = Mode::Stopped(Stop::UseAfterFree);
+            return Ok(());
+        }
+        if self.is_newest_value(code, place) {
+            return self.replace_value(code, record, true, place + 1);
+        }
+        self.assign_part(code, record, place)
+    }
+
+    /// Assigns the value of the part that is the newest operand to the part below it, as `assign` does.
+    #[inline(always)]
+    fn assign_part(&mut self, code: &Code, record: usize, place: usize) -> Result<(), AllocError>
+        ghost s: { State }
+        requires valid { IsValid code.now }
+        requires before { Before code.now self.old place (InstrOf.Assign «record») s }
+        requires part { IsPart s.operands }
+        requires target { IsPart (drop 1 s.operands) }
         requires place { place + 1 < 2 ^ 64 }
         requires number { self.old.given_masters + 1 < 2 ^ 64 }
         ensures ok { OnOk result (Makes code.now self.old self.new (Table.by_instr code.now (Some (InstrOf.Assign «record»)) s.operands (here_of place s))) }
@@ -286,7 +348,7 @@ impl Engine {
             self.mode = Mode::At(place + 1);
             return Ok(());
         }
-        self.replace_value(code, record, place + 1)
+        self.replace_value(code, record, false, place + 1)
     }
 
     /// Goes on with an assignment behind the finalization of its target, if the target is still there (RM 13.11.2): it takes the value, and

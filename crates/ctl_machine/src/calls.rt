@@ -252,7 +252,11 @@ impl Engine {
         requires cells { master.base + master.slots ≤ length self.old.cells.items }
         ensures { OpensBody self.old self.new master place (cleared master.base master.slots self.old.cells.items) (self.old.formals.items ++ first_formal spot ∷ []) }
     {
-        self.formals.push_reserved(Formal { slot: 0, spot });
+        self.formals.push_reserved(Formal {
+            slot: 0,
+            spot,
+            is_value: false,
+        });
         self.open(master, 0, After::Body, place);
     }
 

@@ -9,11 +9,12 @@ ghost use Rattle.ctl_code.specs.States.{State};
 ghost use Rattle.ctl_meaning.specs.Changes.{object_at};
 ghost use Rattle.ctl_code.specs.Valid.{IsValid};
 ghost use Rattle.ctl_machine.specs.declared.frame.Mode.TheVariants as ModeOf;
-ghost use Rattle.ctl_machine.specs.Holders.{IsThere, found_in, own_end};
+ghost use Rattle.ctl_machine.specs.declared.frame.Formal.{Formal};
+ghost use Rattle.ctl_machine.specs.Holders.{IsThere, found_in, own_end, word_of_formal};
 ghost use Rattle.ctl_machine.specs.Instructions.{Touches};
 ghost use Rattle.ctl_machine.specs.Masters.{first_display, heads_of};
 ghost use Rattle.ctl_machine.specs.Moves.{Before, GoesOn, Makes, here_of};
-ghost use Rattle.ctl_machine.specs.Parts.{part_at, part_in};
+ghost use Rattle.ctl_machine.specs.Parts.{component_at, part_at, part_in};
 ghost use Rattle.ctl_machine.specs.Shows.{Holds, kept};
 ghost use Rattle.ctl_machine.specs.Windows.{Comes};
 ghost use Rattle.ctl_tree.specs.declared.ending.Stop.TheVariants as StopOf;
@@ -77,7 +78,25 @@ impl Engine {
         self.stock.read_part(object, start, offset)
     }
 
-    /// Reads a component of what this slot holds, by the first cell of the component; None where there is no such object.
+    /// Reads a component of what the formal at this place stands for, a part of an object or the copy of a record, by the first cell of the
+    /// component; None where there is no such object.
+    fn read_formal(&self, code: &Code, at: usize, offset: usize) -> Option<u64>
+        ghost s: { State }
+        requires there { at < length self.now.formals.items }
+        requires holds { Holds code.now (kept self.now) s.control s.operands s.world }
+        ensures { (f : Formal) × (slice_get self.now.formals.items at ≡ Some f) × (result ≡ component_at offset (word_of_formal f) s.world) }
+    {
+        let formal = &self.formals[at];
+        let spot = &formal.spot;
+        if formal.is_value {
+            Some(spot.cell(offset))
+        } else {
+            self.read_at(code, spot.object(), spot.offset(), offset)
+        }
+    }
+
+    /// Reads a component of what this slot holds, an object, a part of one or the copy of a record, by the first cell of the component; None where
+    /// there is no such object.
     fn read_held(&self, code: &Code, out: usize, slot: usize, offset: usize) -> Option<u64>
         ghost s: { State }
         requires { Holds code.now (kept self.now) s.control s.operands s.world }
@@ -85,10 +104,7 @@ impl Engine {
     {
         match self.holder_out(code, out, slot)? {
             Holder::Whole(object) => self.read_at(code, object, 0, offset),
-            Holder::Bound(at) => {
-                let spot = &self.formals[at].spot;
-                self.read_at(code, spot.object(), spot.offset(), offset)
-            }
+            Holder::Bound(at) => self.read_formal(code, at, offset),
         }
     }
 

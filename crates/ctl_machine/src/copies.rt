@@ -103,6 +103,10 @@ impl Engine {
         ensures gone { (t position : ℕ) (ty : Ty) → offset ≡ Table.offset_of code.now t position → IfNone result (Comes code.now self.new (ModeOf.Stopped StopOf.UseAfterFree) self.new.cells.items (Table.by_instr code.now (Some (InstrOf.KeepPart t position begins ty depth base at)) s.operands (here_of place s))) }
     {
         let _ = depth;
+        // What goes back is given to a variable, which a value is not.
+        if self.is_newest_value(code, place) {
+            return None;
+        }
         let newest = self.count_spots() - 1;
         let spot = &self.spots[newest];
         let object = spot.object();

@@ -9,6 +9,7 @@ ghost use Rattle.ctl_tree.specs.declared.event.Owner.TheVariants as OwnerOf;
 ghost use Rattle.ctl_machine.specs.Moves.{Before, GoesOn, Makes, here_of};
 ghost use Rattle.ctl_machine.specs.Shows.{kept, maker_of};
 ghost use Rattle.ctl_machine.specs.Declaring.{IsDeclared, NewObject, with_object, with_owned};
+ghost use Rattle.ctl_machine.specs.RecordValues.{IsPart};
 ghost use Rattle.ctl_storage.specs.Order.{AreBelow};
 ghost use Rattle.ctl_objects.specs.Order.{AreUpTo};
 
@@ -154,7 +155,7 @@ impl Engine {
 
     /// Lets the newest owned object, of a record type, which has taken a value, be adjusted, for which there is room (RM 7.6); its
     /// declaration goes on at this place. Where no part of it is controlled, it is a layer of its master at once (RM 7.6.1).
-    fn adjust_new(&mut self, code: &Code, record: usize, master: u64, place: usize)
+    pub(crate) fn adjust_new(&mut self, code: &Code, record: usize, master: u64, place: usize)
         ghost t: { NewObject }
         requires newest { IsDeclared code.now self.old «record» place t }
         requires control { vec_len self.old.control + 2 ≤ vec_capacity self.old.control }
@@ -170,10 +171,10 @@ impl Engine {
         self.adjust_object(code, copy, object, record, Owner::Master(master));
     }
 
-    /// Declares an object of a record type with the value of the part that is the newest operand (RM 3.3.1): it is created and takes the
-    /// value, and is to be adjusted (RM 7.6). Where there is no such object, the program is erroneous (RM 13.11.2). Unchanged where
-    /// memory is refused.
-    #[inline(never)]
+    /// Declares an object of a record type with the value of the part that is the newest operand, or with the value of a record (RM 3.3.1): it
+    /// is created and takes the value, and is to be adjusted (RM 7.6). Where there is no such object, the program is erroneous (RM 13.11.2).
+    /// Unchanged where memory is refused.
+    #[inline(always)]
     pub(crate) fn declare_copy(
         &mut self,
         code: &Code,
@@ -184,6 +185,31 @@ impl Engine {
         ghost s: { State }
         requires valid { IsValid code.now }
         requires before { Before code.now self.old place (InstrOf.DeclareCopy slot «record») s }
+        requires place { place + 1 < 2 ^ 64 }
+        requires objects { self.old.numbered.objects + 1 < 2 ^ 64 }
+        ensures ok { OnOk result (Makes code.now self.old self.new (Table.by_instr code.now (Some (InstrOf.DeclareCopy slot «record»)) s.operands (here_of place s))) }
+        ensures err { OnErr result (GoesOn self.old self.new self.old.mode self.old.cells.items) }
+    {
+        if self.is_newest_value(code, place) {
+            self.declare_value(code, slot, record, place)
+        } else {
+            self.declare_part(code, slot, record, place)
+        }
+    }
+
+    /// Declares an object of a record type with the value of the part that is the newest operand, as `declare_copy` does.
+    #[inline(never)]
+    fn declare_part(
+        &mut self,
+        code: &Code,
+        slot: usize,
+        record: usize,
+        place: usize,
+    ) -> Result<(), AllocError>
+        ghost s: { State }
+        requires valid { IsValid code.now }
+        requires before { Before code.now self.old place (InstrOf.DeclareCopy slot «record») s }
+        requires part { IsPart s.operands }
         requires place { place + 1 < 2 ^ 64 }
         requires objects { self.old.numbered.objects + 1 < 2 ^ 64 }
         ensures ok { OnOk result (Makes code.now self.old self.new (Table.by_instr code.now (Some (InstrOf.DeclareCopy slot «record»)) s.operands (here_of place s))) }

@@ -32,8 +32,18 @@ pub enum After {
     Procedure { place: usize, copies: usize },
     /// behind the call of a function, to this place, where its value is the newest operand (RM 6.4)
     Function { place: usize },
+    /// behind the call of a function, to this place, where its value is the newest operand, that of a record of so many cells (RM 6.4, 6.5)
+    Record { place: usize, cells: usize },
     /// to what waits for the body of an operation
     Body,
+}
+
+/// What is called: a procedure, a function whose value is one cell, or one whose value is that of a record of so many cells (RM 6.4).
+#[derive(Clone, Copy)]
+pub enum Callee {
+    Procedure,
+    Function,
+    Record { cells: usize },
 }
 
 /// What becomes of an exception in a master: the place of its handlers, while none of them has begun, and the exception that the
@@ -249,14 +259,16 @@ pub struct Master {
     pub spots: usize,
 }
 
-/// A formal that stands for a part of an object: its slot in the master of the body, and the part (RM 6.2).
+/// A formal that stands for a part of an object: its slot in the master of the body, and the part (RM 6.2); or one that is the copy of a
+/// record, which stands in place of the part as the value of one does among operands (RM 6.2).
 #[derive(Drop)]
 pub struct Formal {
     pub slot: usize,
     pub spot: Spot,
+    pub is_value: bool,
 }
 
-/// What a slot holds: a whole object, of this number, or the part that the formal at this place stands for.
+/// What a slot holds: a whole object, of this number, or what the formal at this place stands for, a part or the copy of a record.
 #[derive(Clone, Copy)]
 pub enum Holder {
     Whole(u64),

@@ -11,7 +11,7 @@ ghost use Rattle.ctl_meaning.specs.World as W;
 ghost use Rattle.ctl_storage.specs.Calls.{IsOpen};
 ghost use Rattle.ctl_objects.specs.Stock.{storage_of};
 ghost use Rattle.ctl_code.specs.declared.code.AccessHome.{AccessHome};
-ghost use Rattle.ctl_code.specs.States.{State};
+ghost use Rattle.ctl_code.specs.States.{State, object_of};
 ghost use Rattle.ctl_code.specs.Table as Table;
 ghost use Rattle.ctl_code.specs.Valid.{IsValid};
 ghost use Rattle.ctl_machine.specs.Granting.{Adds, Grants, Places, Serves, pool_grants, storage_seen};
@@ -98,7 +98,7 @@ impl Engine {
     fn object_held(&self, code: &Code, variable: &Var) -> Option<u64>
         ghost s: { State }
         requires { Holds code.now (kept self.now) s.control s.operands s.world }
-        ensures { result ≡ option_map (λ (y : S.Spot). y.object) (Table.spot_of (slot_at (master_of (first_display (heads_of s.world.activations)) variable.now) variable.now.slot s.world).content) }
+        ensures { result ≡ option_map object_of (Table.word_of (slot_at (master_of (first_display (heads_of s.world.activations)) variable.now) variable.now.slot s.world).content) }
     {
         let _ = code;
         let level = level_of(variable);

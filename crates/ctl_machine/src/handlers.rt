@@ -11,6 +11,8 @@ ghost use Rattle.ctl_code.specs.States.{State};
 ghost use Rattle.ctl_code.specs.Table as Table;
 ghost use Rattle.ctl_code.specs.Valid.{IsValid};
 ghost use Rattle.ctl_machine.specs.Handlers.{ChangesHandling, first_caught, first_handlers};
+ghost use Rattle.ctl_machine.specs.declared.frame.Completion.TheVariants as CompletionOf;
+ghost use Rattle.ctl_machine.specs.Shows.{way_in};
 ghost use Rattle.ctl_machine.specs.Moves.{Before, BeforeLeaving, GoesOn, Makes, here_of};
 
 use crate::calls::replace_top;
@@ -133,9 +135,9 @@ impl Engine {
     pub(crate) fn transfer(&mut self, code: &Code, way: Way) -> Result<(), AllocError>
         ghost s: { State }
         requires valid { IsValid code.now }
-        requires before { BeforeLeaving code.now self.old s }
+        requires before { BeforeLeaving code.now self.old (CompletionOf.Transferred way) s }
         requires number { self.old.given_masters + 1 < 2 ^ 64 }
-        ensures ok { OnOk result (Makes code.now self.old self.new (Table.by_transfer code.now (Table.way_of way) s.control s.world)) }
+        ensures ok { OnOk result (Makes code.now self.old self.new (Table.by_transfer code.now (way_in self.old.spots.items way) s.control s.world)) }
         ensures err { OnErr result (GoesOn self.old self.new self.old.mode self.old.cells.items) }
     {
         match (way, self.handlers()) {

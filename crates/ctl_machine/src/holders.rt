@@ -1,22 +1,26 @@
 //! What a slot holds, where a master stands among the active ones, and which master a collection belongs to.
 
-ghost use Rattle.std.specs.Prelude.{◌≡◌, ◌≤◌, ℕ, IfNone, IfSome, IsFalse, IsTrue, Some, drop, length, reverse, slice_get, take};
+ghost use Rattle.std.specs.Prelude.{◌≡◌, ◌≤◌, ◌∷◌, [], ℕ, IfNone, IfOk, IfSome, IsFalse, IsTrue, Some, drop, length, reverse, slice_get, take};
 ghost use Rattle.ctl_meaning.specs.Allocation as Allocation;
 ghost use Rattle.ctl_meaning.specs.Ledger.{master_in};
 ghost use Rattle.ctl_meaning.specs.World.{Nothing};
 ghost use Rattle.ctl_machine.specs.declared.frame.Owned.{Owned};
 ghost use Rattle.std.specs.Option.{option_map};
 ghost use Rattle.ctl_machine.specs.Owned.{HaveCome, IsSet, collection_of, set_in, sets_owned};
+ghost use Rattle.ctl_code.specs.States.{object_of, worth};
 ghost use Rattle.ctl_code.specs.Table as Table;
-ghost use Rattle.ctl_machine.specs.Holders.{IsMasterOf, IsThere, formal_in, found_in, holder_in, own_formals};
+ghost use Rattle.ctl_machine.specs.Holders.{IsMasterOf, IsThere, formal_in, found_in, holder_in, own_formals, word_of_formal};
 ghost use Rattle.ctl_machine.specs.Masters.{AreBelow};
+ghost use Rattle.ctl_machine.specs.Spots.{located};
 
 use crate::frame::{Formal, Holder, Master, Owned, Role};
+use crate::spots::Spot;
+use std::alloc::{AllocError, Global};
 
 /// Answers the place of the formal of this slot, if there is one among those from one place up to another.
 fn formal(formals: &[Formal], start: usize, end: usize, slot: usize) -> Option<Holder>
     requires { end ≤ length formals.now }
-    ensures part { found_in formals.now result ≡ Table.spot_of (formal_in (drop start (take end formals.now)) slot) }
+    ensures part { found_in formals.now result ≡ Table.word_of (formal_in (drop start (take end formals.now)) slot) }
     ensures there { IfSome result (IsThere formals.now) }
 {
     let mut at = end;
@@ -42,7 +46,7 @@ pub(crate) fn holder(
 ) -> Option<Holder>
     requires owned { end ≤ length owned.now }
     requires formals { master.now.formals ≤ length formals.now }
-    ensures part { found_in formals.now result ≡ Table.spot_of (holder_in (drop start (take end owned.now)) slot (formal_in (own_formals master.now formals.now) slot)) }
+    ensures part { found_in formals.now result ≡ Table.word_of (holder_in (drop start (take end owned.now)) slot (formal_in (own_formals master.now formals.now) slot)) }
     ensures there { IfSome result (IsThere formals.now) }
 {
     let mut at = end;
@@ -150,6 +154,33 @@ pub(crate) fn master_of_set(owned: &[Owned], number: u64) -> u64
     match find_set(owned, number) {
         Some(set) => set.master,
         None => 0,
+    }
+}
+
+impl Formal {
+    /// Answers the cell that what it stands for has as an operand: the number of the object that a part is of, and 1 for the copy of a record.
+    pub(crate) fn cell(&self) -> u64
+        ensures { result ≡ worth (word_of_formal self.now) }
+    {
+        if self.is_value { 1 } else { self.spot.object() }
+    }
+
+    /// Answers the number of the object that it stands for a part of; 0 for the copy of a record.
+    pub(crate) fn object(&self) -> u64
+        ensures { result ≡ object_of (word_of_formal self.now) }
+    {
+        if self.is_value { 0 } else { self.spot.object() }
+    }
+
+    /// Answers what stands among the parts where what it stands for is an operand: a copy of the part, or of the value of the record.
+    pub(crate) fn copied(&self, alloc: Global) -> Result<Spot, AllocError>
+        ensures { IfOk result (λ s. located (word_of_formal self.now ∷ []) ≡ s ∷ []) }
+    {
+        if self.is_value {
+            self.spot.copied_value(alloc)
+        } else {
+            self.spot.copied(alloc)
+        }
     }
 }
 

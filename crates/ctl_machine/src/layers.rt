@@ -20,6 +20,8 @@ ghost use Rattle.ctl_machine.specs.Owned.{HaveCome, remaining, set_numbers, sets
 ghost use Rattle.ctl_objects.specs.Order.{AreUpTo};
 ghost use Rattle.ctl_machine.specs.Moves.{BeforeResuming, Makes};
 ghost use Rattle.ctl_machine.specs.Shows as Shows;
+ghost use Rattle.ctl_machine.specs.Shows.{IsPlainly, IsResult};
+ghost use Rattle.ctl_meaning.specs.Outcome.{Done, Result};
 
 use crate::calls::{Departure, replace_top};
 use crate::engine::Engine;
@@ -45,7 +47,9 @@ impl Departure {
     /// Answers how the master is completed: by Program_Error, in place of what was under way, where a finalization failed (RM 7.6.1).
     #[tactic(auto, unfolding(ctl_meaning::specs::Outcome::program_error))]
     pub(crate) fn completion(self) -> Completion
-        ensures { Shows.result_of result ≡ Table.pending_with self.failed (Shows.result_of self.pending) }
+        ensures result { Shows.result_of result ≡ Table.pending_with self.failed (Shows.result_of self.pending) }
+        ensures plain { IsPlainly self.pending → IsPlainly result }
+        ensures stands { (r : Result Done) → IsResult self.pending r → IsResult result (Table.pending_with self.failed r) }
     {
         if self.failed {
             Completion::Transferred(Way::Raise(PROGRAM_ERROR))

@@ -2,16 +2,17 @@
 //! of one does, it is dropped, and a component takes a value; access values that designate the object of one (RM 3.10.2), and a new object
 //! that takes the value below its access value (RM 4.8).
 
-ghost use Rattle.std.specs.Prelude.{◌≡◌, ◌+◌, ◌^◌, ◌<◌, ℕ, IfNone, IfOk, IfSome, OnErr, OnOk, Some, slice_get};
+ghost use Rattle.std.specs.Prelude.{◌≡◌, ◌+◌, ◌^◌, ◌<◌, ◌∷◌, [], ℕ, IfNone, IfOk, IfSome, OnErr, OnOk, Some, slice_get};
 ghost use Rattle.ctl_code.specs.declared.code.Instr.TheVariants as InstrOf;
 ghost use Rattle.ctl_program.specs.declared.types.Ty.{Ty};
-ghost use Rattle.ctl_meaning.specs.Finalization.{Spot};
 ghost use Rattle.ctl_code.specs.Table as Table;
-ghost use Rattle.ctl_code.specs.States.{State};
+ghost use Rattle.ctl_code.specs.States.{State, Word, object_of, worth};
 ghost use Rattle.ctl_code.specs.Valid.{IsValid};
 ghost use Rattle.ctl_machine.specs.declared.frame.Mode.TheVariants as ModeOf;
 ghost use Rattle.ctl_machine.specs.Holders.{IsThere, found_in};
 ghost use Rattle.ctl_machine.specs.Moves.{Before, GoesOn, Makes, here_of};
+ghost use Rattle.ctl_machine.specs.RecordValues.{IsPart};
+ghost use Rattle.ctl_machine.specs.Spots.{located};
 ghost use Rattle.ctl_machine.specs.Windows.{Comes};
 ghost use Rattle.ctl_tree.specs.declared.ending.Stop.TheVariants as StopOf;
 
@@ -23,25 +24,36 @@ use ctl_code::code::{Cell, Code, Named};
 use std::alloc::AllocError;
 
 impl Engine {
-    /// Answers the part that a slot holds, as a copy.
+    /// Answers the part that a slot holds, or the value of a record, as a copy.
     fn spot_of(&self, holder: Holder) -> Result<Spot, AllocError>
         requires { IsThere self.now.formals.items holder }
-        ensures { IfOk result (λ spot. found_in self.now.formals.items (Some holder) ≡ Some spot) }
+        ensures { IfOk result (λ spot. (x : Word) × (found_in self.now.formals.items (Some holder) ≡ Some x) × (located (x ∷ []) ≡ spot ∷ [])) }
     {
         match holder {
             Holder::Whole(object) => Ok(Spot::whole(self.alloc, object)),
-            Holder::Bound(at) => self.formals[at].spot.copied(self.alloc),
+            Holder::Bound(at) => self.formals[at].copied(self.alloc),
         }
     }
 
     /// Answers the number of the object that is held, or of which a part is.
     pub(crate) fn number_of(&self, holder: Holder) -> u64
         requires { IsThere self.now.formals.items holder }
-        ensures { (spot : Spot) × (found_in self.now.formals.items (Some holder) ≡ Some spot) × (result ≡ spot.object) }
+        ensures { (x : Word) × (found_in self.now.formals.items (Some holder) ≡ Some x) × (result ≡ object_of x) }
     {
         match holder {
             Holder::Whole(object) => object,
-            Holder::Bound(at) => self.formals[at].spot.object(),
+            Holder::Bound(at) => self.formals[at].object(),
+        }
+    }
+
+    /// Answers the cell that what is held has as an operand: the number of the object, or of which a part is, and 1 for the copy of a record.
+    fn cell_of(&self, holder: Holder) -> u64
+        requires { IsThere self.now.formals.items holder }
+        ensures { (x : Word) × (found_in self.now.formals.items (Some holder) ≡ Some x) × (result ≡ worth x) }
+    {
+        match holder {
+            Holder::Whole(object) => object,
+            Holder::Bound(at) => self.formals[at].cell(),
         }
     }
 
@@ -97,15 +109,15 @@ impl Engine {
         };
         let spot = self.spot_of(holder)?;
         reserve(&mut self.spots, 1)?;
-        let object = spot.object();
+        let cell = self.cell_of(holder);
         self.spots.push_reserved(spot);
         let named = Named::Operand;
-        self.put(object, &Cell { at, named }, place);
+        self.put(cell, &Cell { at, named }, place);
         Ok(Some(place + 1))
     }
 
-    /// Goes on from the part that is the newest operand to a component of it, by the first cell of the component and its position (RM 4.1.3);
-    /// unchanged where memory is refused.
+    /// Goes on from the part that is the newest operand, or from the value of a record, to a component of it, by the first cell of the component
+    /// and its position (RM 4.1.3); unchanged where memory is refused.
     pub(crate) fn select(
         &mut self,
         code: &Code,
@@ -120,6 +132,29 @@ impl Engine {
         ensures ok { (t part : ℕ) → offset ≡ Table.offset_of code.now t position → OnOk result (Makes code.now self.old self.new (Table.by_instr code.now (Some (InstrOf.Select t position part)) s.operands (here_of place s))) }
         ensures err { OnErr result (GoesOn self.old self.new self.old.mode self.old.cells.items) }
     {
+        if self.is_newest_value(code, place) {
+            self.select_of_value(code, offset, position, place)
+        } else {
+            self.select_of_part(code, offset, position, place)
+        }
+    }
+
+    /// Goes on from the part that is the newest operand to a component of it, as `select` does.
+    fn select_of_part(
+        &mut self,
+        code: &Code,
+        offset: usize,
+        position: usize,
+        place: usize,
+    ) -> Result<(), AllocError>
+        ghost s: { State }
+        requires before { (t : ℕ) × (part : ℕ) × Before code.now self.old place (InstrOf.Select t position part) s }
+        requires part { IsPart s.operands }
+        requires place { place + 1 < 2 ^ 64 }
+        ensures mode { OnOk result (self.new.mode ≡ ModeOf.At (place + 1)) }
+        ensures ok { (t part : ℕ) → offset ≡ Table.offset_of code.now t position → OnOk result (Makes code.now self.old self.new (Table.by_instr code.now (Some (InstrOf.Select t position part)) s.operands (here_of place s))) }
+        ensures err { OnErr result (GoesOn self.old self.new self.old.mode self.old.cells.items) }
+    {
         let _ = code;
         let newest = self.count_spots() - 1;
         self.spots[newest].select(offset, position)?;
@@ -127,7 +162,7 @@ impl Engine {
         Ok(())
     }
 
-    /// Drops the part that is the newest operand.
+    /// Drops the part that is the newest operand, or the value of a record.
     pub(crate) fn drop_part(&mut self, code: &Code, place: usize)
         ghost s: { State }
         requires before { (t : ℕ) × Before code.now self.old place (InstrOf.DropPart t) s }
@@ -140,8 +175,8 @@ impl Engine {
         self.mode = Mode::At(place + 1);
     }
 
-    /// Puts the value of a component in place of the part that is the newest operand, by the first cell of the component, and answers what
-    /// comes next; where there is no such object, the program is erroneous (RM 13.11.2), and nothing changes.
+    /// Puts the value of a component in place of the part that is the newest operand, or of the value of a record, by the first cell of the
+    /// component, and answers what comes next; where there is no such object, the program is erroneous (RM 13.11.2), and nothing changes.
     pub(crate) fn take_part(
         &mut self,
         code: &Code,
@@ -152,6 +187,25 @@ impl Engine {
         ghost s: { State }
         requires valid { IsValid code.now }
         requires before { (t : ℕ) × (position : ℕ) × (ty : Ty) × Before code.now self.old place (InstrOf.TakePart t position ty to.now) s }
+        requires place { place + 1 < 2 ^ 64 }
+        ensures passed { (t position : ℕ) (ty : Ty) → offset ≡ Table.offset_of code.now t position → IfSome result (λ next. (self.new.mode ≡ ModeOf.At next) × Makes code.now self.old self.new (Table.by_instr code.now (Some (InstrOf.TakePart t position ty to.now)) s.operands (here_of place s))) }
+        ensures left { IfNone result (GoesOn self.old self.new self.old.mode self.old.cells.items) }
+        ensures gone { (t position : ℕ) (ty : Ty) → offset ≡ Table.offset_of code.now t position → IfNone result (Comes code.now self.new (ModeOf.Stopped StopOf.UseAfterFree) self.new.cells.items (Table.by_instr code.now (Some (InstrOf.TakePart t position ty to.now)) s.operands (here_of place s))) }
+    {
+        if self.is_newest_value(code, place) {
+            self.take_of_value(code, offset, to, place);
+            Some(place + 1)
+        } else {
+            self.take_of_part(code, offset, to, place)
+        }
+    }
+
+    /// Puts the value of a component in place of the part that is the newest operand, as `take_part` does.
+    fn take_of_part(&mut self, code: &Code, offset: usize, to: &Cell, place: usize) -> Option<usize>
+        ghost s: { State }
+        requires valid { IsValid code.now }
+        requires before { (t : ℕ) × (position : ℕ) × (ty : Ty) × Before code.now self.old place (InstrOf.TakePart t position ty to.now) s }
+        requires part { IsPart s.operands }
         requires place { place + 1 < 2 ^ 64 }
         ensures passed { (t position : ℕ) (ty : Ty) → offset ≡ Table.offset_of code.now t position → IfSome result (λ next. (self.new.mode ≡ ModeOf.At next) × Makes code.now self.old self.new (Table.by_instr code.now (Some (InstrOf.TakePart t position ty to.now)) s.operands (here_of place s))) }
         ensures left { IfNone result (GoesOn self.old self.new self.old.mode self.old.cells.items) }

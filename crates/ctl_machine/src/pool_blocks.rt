@@ -5,7 +5,6 @@
 ghost use Rattle.std.specs.Prelude.{◌≡◌, ◌+◌, ◌^◌, ◌<◌, ℕ, IfNone, IfOk, IfSome, IsTrue, List, OnErr, OnOk, Some, is_some, true};
 ghost use Rattle.std.specs.Option.{option_map};
 ghost use Rattle.ctl_tree.specs.declared.ending.Stop.TheVariants as StopOf;
-ghost use Rattle.ctl_meaning.specs.Finalization.{Spot};
 ghost use Rattle.ctl_meaning.specs.Objects.{object_in};
 ghost use Rattle.ctl_meaning.specs.Pools.{block_pool_at};
 ghost use Rattle.ctl_meaning.specs.World as W;
@@ -194,12 +193,13 @@ impl Engine {
     /// Gives a component of the newest part an address, by the first cell of the component, and takes the part and the pool below it off; where
     /// the object of the part is gone, the program is erroneous (RM 13.11.2).
     fn store_address(&mut self, code: &Code, offset: usize, address: u64, place: usize)
-        ghost s: { Spot × State }
+        ghost s: { Word × State }
         requires stands { StandsOnPool code.now self.old place s.0 s.1 }
         requires place { place + 1 < 2 ^ 64 }
         ensures { Makes code.now self.old self.new (Table.store_into offset address s.0 s.1.operands (here_of place s.1)) }
     {
         let _ = code;
+        // The value of a record is of no object: so it is where the object of a part is gone.
         let part = self.spots.take_last();
         let _ = self.spots.take_last();
         if !self.stock.exists(part.object()) {

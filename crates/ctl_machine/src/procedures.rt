@@ -1,9 +1,9 @@
 //! Procedures and functions are called (RM 6.4).
 
-ghost use Rattle.std.specs.Prelude.{◌≡◌, ◌+◌, ◌^◌, ◌<◌, ◌≤◌, ◌∷◌, ◌++◌, [], ℕ, IfOk, IsTrue, List, OnErr, OnOk, drop, length, reverse, take, vec_capacity, vec_len};
+ghost use Rattle.std.specs.Prelude.{◌≡◌, ◌+◌, ◌^◌, ◌<◌, ◌≤◌, ◌∷◌, ◌++◌, [], ℕ, IfOk, IsTrue, List, OnErr, OnOk, Some, drop, length, reverse, slice_get, take, vec_capacity, vec_len};
 ghost use Rattle.ctl_code.specs.Kinds.{stack_at};
 ghost use Rattle.ctl_code.specs.Table as Table;
-ghost use Rattle.ctl_code.specs.States.{State, Word};
+ghost use Rattle.ctl_code.specs.States.{State, Word, worth};
 ghost use Rattle.ctl_meaning.specs.Finalization as S;
 ghost use Rattle.ctl_code.specs.Valid.{HaveOperands, IsValid};
 ghost use Rattle.ctl_code.specs.Windows.{height};
@@ -11,22 +11,23 @@ ghost use Rattle.ctl_machine.specs.Calling as Calling;
 ghost use Rattle.ctl_machine.specs.Calling.{BeforeCall};
 ghost use Rattle.ctl_machine.specs.Masters.{first_window};
 ghost use Rattle.ctl_machine.specs.Moves.{GoesOn, Makes, here_of};
-ghost use Rattle.ctl_machine.specs.Passing.{AreActuals, bound, cell_passed, formal_if, is_located, is_part_at, passed, with_actuals};
+ghost use Rattle.ctl_machine.specs.Passing.{AreActuals, StandIn, bound, cell_passed, formal_if, is_located, is_part_at, passed, with_actuals};
 ghost use Rattle.ctl_machine.specs.Spots.{located};
 ghost use Rattle.ctl_machine.specs.Shows.{kept};
 ghost use Rattle.ctl_machine.specs.declared.frame.Mode.TheVariants as ModeOf;
 ghost use Rattle.ctl_machine.specs.Windows.{IsGoing};
 
 use crate::engine::{Engine, clear};
-use crate::frame::{After, Formal, Master};
+use crate::frame::{After, Callee, Formal, Master};
+use crate::record_values::is_value_as;
 use crate::spots::Spot;
 use ctl_code::code::Code;
 use ctl_code::kinds::Kind;
-use ctl_program::operators::SubprogramKind;
 use ctl_program::types::Ty;
 use std::alloc::AllocError;
 
-/// Tells whether the operand under so many newer ones before the instruction at a place is a part of an object (RM 6.2).
+/// Tells whether the operand under so many newer ones before the instruction at a place is a part of an object, or the value of a record
+/// (RM 6.2).
 fn is_part(code: &Code, place: usize, depth: usize) -> bool
     ensures { result ≡ is_part_at (stack_at code.now.kinds place) depth }
 {
@@ -37,7 +38,7 @@ fn is_part(code: &Code, place: usize, depth: usize) -> bool
 }
 
 /// Passes the actual in a cell to the formal of a slot: where it is a part of an object, the newest one, the formal stands for it from then
-/// on, and the cell becomes 0 (RM 6.2); there is room for the formal.
+/// on, and where it is the value of a record, the formal is a copy of it; the cell becomes 0 (RM 6.2). There is room for the formal.
 fn pass(
     cells: &mut [u64],
     spots: &mut Vec<Spot>,
@@ -49,19 +50,24 @@ fn pass(
     requires cell { cell < length cells.old }
     requires room { vec_len formals.old < vec_capacity formals.old }
     requires some { IsTrue is_part → 0 < vec_len spots.old }
-    ensures passed { (x : Word) (below : List S.Spot) → is_part ≡ is_located x → spots.old.items ≡ below ++ located (x ∷ []) → (cells.new ≡ cell_passed x cell cells.old) × (spots.new.items ≡ below) × (formals.new.items ≡ formals.old.items ++ formal_if x slot) }
+    ensures passed { (x : Word) (below : List S.Spot) → is_part ≡ is_located x → spots.old.items ≡ below ++ located (x ∷ []) → slice_get cells.old cell ≡ Some (worth x) → (cells.new ≡ cell_passed x cell cells.old) × (spots.new.items ≡ below) × (formals.new.items ≡ formals.old.items ++ formal_if x slot) }
     ensures length { vec_len formals.new ≤ vec_len formals.old + 1 }
     ensures capacity { vec_capacity formals.new ≡ vec_capacity formals.old }
 {
     if is_part {
         let spot = spots.take_last();
-        formals.push_reserved(Formal { slot, spot });
+        let is_value = is_value_as(&spot, cells[cell]);
+        formals.push_reserved(Formal {
+            slot,
+            spot,
+            is_value,
+        });
         cells[cell] = 0;
     }
 }
 
-/// Lets the formals of a body stand for the parts that are passed to it, the last one first: the cells from one on are the actuals of a
-/// call, so many, and those of parts become 0 (RM 6.2, 6.4.1).
+/// Lets the formals of a body stand for the parts that are passed to it, and be copies of the values of records, the last one first: the cells
+/// from one on are the actuals of a call, so many, and those of parts and such values become 0 (RM 6.2, 6.4.1).
 #[inline(never)]
 fn bind(
     code: &Code,
@@ -77,6 +83,7 @@ fn bind(
     requires formals { vec_len formals.old + actuals ≤ vec_capacity formals.old }
     requires stack { AreActuals actuals (stack_at code.now.kinds place) t.0 }
     requires spots { spots.old.items ≡ t.1 ++ located (take actuals t.0) }
+    requires words { StandIn actuals t.0 base cells.old }
     ensures cells { cells.new ≡ passed actuals t.0 base cells.old }
     ensures spots { spots.new.items ≡ t.1 }
     ensures formals { formals.new.items ≡ formals.old.items ++ bound actuals t.0 }
@@ -104,6 +111,7 @@ fn bind_parts(
     requires formals { vec_len formals.old + actuals ≤ vec_capacity formals.old }
     requires stack { AreActuals actuals (stack_at code.now.kinds place) t.0 }
     requires spots { spots.old.items ≡ t.1 ++ located (take actuals t.0) }
+    requires words { StandIn actuals t.0 base cells.old }
     ensures cells { cells.new ≡ passed actuals t.0 base cells.old }
     ensures spots { spots.new.items ≡ t.1 }
     ensures formals { formals.new.items ≡ formals.old.items ++ bound actuals t.0 }
@@ -126,14 +134,15 @@ fn height_below(code: &Code, actuals: usize, place: usize) -> usize
     code.kinds.height_before(place) - actuals
 }
 
-/// Answers where the end of a body of this kind leads, whose call goes on at this place with so many copies (RM 6.4).
+/// Answers where the end of a body leads that is called so, where the call goes on at this place with so many copies (RM 6.4).
 #[inline(always)]
-fn after_for(kind: SubprogramKind, copies: usize, place: usize) -> After
-    ensures { result ≡ Calling.after_for kind copies place }
+fn after_for(callee: Callee, copies: usize, place: usize) -> After
+    ensures { result ≡ Calling.after_for callee copies place }
 {
-    match kind {
-        SubprogramKind::Procedure => After::Procedure { place, copies },
-        SubprogramKind::Function => After::Function { place },
+    match callee {
+        Callee::Procedure => After::Procedure { place, copies },
+        Callee::Function => After::Function { place },
+        Callee::Record { cells } => After::Record { place, cells },
     }
 }
 
@@ -148,6 +157,7 @@ impl Engine {
         requires formals { vec_len self.old.formals + actuals ≤ vec_capacity self.old.formals }
         requires stack { AreActuals actuals (stack_at code.now.kinds place) t.0 }
         requires spots { self.old.spots.items ≡ t.1 ++ located (take actuals t.0) }
+        requires words { StandIn actuals t.0 base self.old.cells.items }
         ensures mode { self.new.mode ≡ self.old.mode }
         ensures kept { kept self.new ≡ with_actuals (kept self.old) t.0 t.1 base slots actuals }
         ensures events { self.new.events ≡ self.old.events }
@@ -173,7 +183,7 @@ impl Engine {
     pub(crate) fn call(
         &mut self,
         code: &Code,
-        kind: SubprogramKind,
+        callee: Callee,
         body: usize,
         actuals: usize,
         copies: usize,
@@ -181,15 +191,15 @@ impl Engine {
     ) -> Result<(), AllocError>
         ghost s: { State }
         requires valid { IsValid code.now }
-        requires before { BeforeCall code.now self.old kind place body actuals copies s }
+        requires before { BeforeCall code.now self.old callee place body actuals copies s }
         requires place { place + 1 < 2 ^ 64 }
         requires number { self.old.given_masters + 1 < 2 ^ 64 }
-        ensures ok { OnOk result (Makes code.now self.old self.new (Table.call_body code.now body actuals (Calling.leading_to kind copies) s.operands (here_of place s))) }
+        ensures ok { OnOk result (Makes code.now self.old self.new (Table.call_body code.now body actuals (Calling.leading_to callee copies) s.operands (here_of place s))) }
         ensures going { OnOk result (IsGoing self.new.mode) }
         ensures at { OnOk result ((at : ℕ) × (self.new.mode ≡ ModeOf.At at)) }
         ensures err { OnErr result (GoesOn self.old self.new self.old.mode self.old.cells.items) }
     {
-        self.call_from(self.window(), code, kind, body, actuals, copies, place)?;
+        self.call_from(self.window(), code, callee, body, actuals, copies, place)?;
         Ok(())
     }
 
@@ -202,7 +212,7 @@ impl Engine {
         &mut self,
         window: usize,
         code: &Code,
-        kind: SubprogramKind,
+        callee: Callee,
         body: usize,
         actuals: usize,
         copies: usize,
@@ -210,11 +220,11 @@ impl Engine {
     ) -> Result<usize, AllocError>
         ghost s: { State }
         requires valid { IsValid code.now }
-        requires before { BeforeCall code.now self.old kind place body actuals copies s }
+        requires before { BeforeCall code.now self.old callee place body actuals copies s }
         requires place { place + 1 < 2 ^ 64 }
         requires window { window ≡ first_window (reverse self.old.masters.items) }
         requires number { self.old.given_masters + 1 < 2 ^ 64 }
-        ensures ok { OnOk result (Makes code.now self.old self.new (Table.call_body code.now body actuals (Calling.leading_to kind copies) s.operands (here_of place s))) }
+        ensures ok { OnOk result (Makes code.now self.old self.new (Table.call_body code.now body actuals (Calling.leading_to callee copies) s.operands (here_of place s))) }
         ensures going { OnOk result (IsGoing self.new.mode) }
         ensures at { OnOk result ((at : ℕ) × (self.new.mode ≡ ModeOf.At at)) }
         ensures window { IfOk result (λ base. base ≡ first_window (reverse self.new.masters.items)) }
@@ -239,7 +249,7 @@ impl Engine {
             formals: self.count_formals(),
             spots: self.count_spots(),
         };
-        self.stand(master, 0, after_for(kind, copies, place + 1), entry.place);
+        self.stand(master, 0, after_for(callee, copies, place + 1), entry.place);
         Ok(base)
     }
 }

@@ -1,11 +1,14 @@
 //! Parts of objects, as operands and formals stand for them.
 
-ghost use Rattle.std.specs.Prelude.{◌≡◌, ◌+◌, ◌++◌, [], ◌∷◌, IfOk, OnErr, OnOk};
+ghost use Rattle.std.specs.Prelude.{◌≡◌, ◌+◌, ◌++◌, [], ◌∷◌, ◌≤◌, IfOk, OnErr, OnOk, drop, slice_get, vec_capacity, vec_len};
 ghost use Rattle.ctl_code.specs.Table as Table;
 ghost use Rattle.ctl_meaning.specs.Lists.{begins, same_list};
 ghost use Rattle.ctl_meaning.specs.Finalization.{is_whole};
-ghost use Rattle.ctl_machine.specs.Spots.{value_spot, whole_spot};
+ghost use Rattle.ctl_meaning.specs.Names.{scalar_of};
+ghost use Rattle.ctl_meaning.specs.Objects.{first_cells};
+ghost use Rattle.ctl_machine.specs.Spots.{cell_or, value_spot, whole_spot};
 
+use crate::room::reserve;
 use ctl_tree::event::Part;
 use ctl_tree::text::Path;
 use std::alloc::{AllocError, Global};
@@ -61,6 +64,39 @@ impl Spot {
         self.path.as_slice()
     }
 
+    /// Answers the cell at this place of the value of a record, which stands among the parts; 0 for one that it does not have.
+    #[tactic(auto, using(crate::proofs::FirstCells::cell_there))]
+    pub(crate) fn cell(&self, at: usize) -> u64
+        ensures { result ≡ scalar_of (drop at self.now.path) }
+    {
+        cell_of(self.path.as_slice(), at)
+    }
+
+    /// Answers so many of the first cells of the value of a record, which stands among the parts, as `first_of` does.
+    pub(crate) fn first_cells(&self, alloc: Global, count: usize) -> Result<Vec<u64>, AllocError>
+        ensures { IfOk result (λ cells. cells.items ≡ first_cells count self.now.path) }
+    {
+        first_of(alloc, self.path.as_slice(), count)
+    }
+
+    /// Saves so many of the first cells of the value of a record, which stands among the parts, behind those that are saved already, for which
+    /// there is room; 0 for each that it does not have.
+    pub(crate) fn save(&self, count: usize, saved: &mut Vec<u64>)
+        requires { vec_len saved.old + count ≤ vec_capacity saved.old }
+        ensures { saved.new.items ≡ saved.old.items ++ first_cells count self.now.path }
+    {
+        save_first(self.path.as_slice(), count, saved);
+    }
+
+    /// Answers the value of a component of the value of a record, which stands among the parts, by the first cell of the component (RM 4.1.3).
+    pub(crate) fn component(&self, alloc: Global, offset: usize) -> Result<Spot, AllocError>
+        ensures { IfOk result (λ s. s ≡ value_spot (drop offset self.now.path)) }
+    {
+        let start = offset.min(self.path.len());
+        let cells = Vec::from_slice(alloc, &self.path.as_slice()[start..])?;
+        Ok(Spot::of_value(cells))
+    }
+
     /// Answers the number of its object.
     pub(crate) fn object(&self) -> u64
         ensures { result ≡ self.now.object }
@@ -85,6 +121,14 @@ impl Spot {
             offset: self.offset,
             path: copied_path(alloc, self.path.as_slice())?,
         })
+    }
+
+    /// Answers a copy of the value of a record, which stands among the parts.
+    pub(crate) fn copied_value(&self, alloc: Global) -> Result<Spot, AllocError>
+        ensures { IfOk result (λ s. s ≡ value_spot self.now.path) }
+    {
+        let cells = copied_path(alloc, self.path.as_slice())?;
+        Ok(Spot::of_value(cells))
     }
 
     /// Tells whether it is the whole of its object.
@@ -136,6 +180,37 @@ impl Spot {
         ensures { result ≡ begins (whole.now.path ++ position ∷ []) self.now.path }
     {
         lies_below(self.path.as_slice(), whole.path.as_slice(), position as u64)
+    }
+}
+
+/// Answers the cell at this place; 0 for one that is not there.
+fn cell_of(cells: &[u64], at: usize) -> u64
+    ensures { result ≡ cell_or (slice_get cells.now at) }
+{
+    match cells.get(at) {
+        Some(cell) => *cell,
+        None => 0,
+    }
+}
+
+/// Answers so many of these cells, the first ones; 0 for each that is not there.
+pub(crate) fn first_of(alloc: Global, cells: &[u64], count: usize) -> Result<Vec<u64>, AllocError>
+    ensures { IfOk result (λ first. first.items ≡ first_cells count cells.now) }
+{
+    let mut first = Vec::new(alloc);
+    reserve(&mut first, count)?;
+    save_first(cells, count, &mut first);
+    Ok(first)
+}
+
+/// Saves so many of these cells, the first ones, behind those that are saved already, for which there is room; 0 for each that is not there.
+fn save_first(cells: &[u64], count: usize, saved: &mut Vec<u64>)
+    requires { vec_len saved.old + count ≤ vec_capacity saved.old }
+    ensures { saved.new.items ≡ saved.old.items ++ first_cells count cells.now }
+{
+    for at in 0..count {
+        let cell = cell_of(cells, at);
+        saved.push_reserved(cell);
     }
 }
 

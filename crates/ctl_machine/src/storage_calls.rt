@@ -84,7 +84,11 @@ impl Engine {
         };
         let spot = Spot::whole(self.alloc, actuals.pool);
         self.events.push_reserved(event);
-        self.formals.push_reserved(Formal { slot: 0, spot });
+        self.formals.push_reserved(Formal {
+            slot: 0,
+            spot,
+            is_value: false,
+        });
         begin_formals(
             &mut self.cells,
             base,

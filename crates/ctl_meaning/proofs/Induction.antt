@@ -27,7 +27,7 @@ use Rattle.ctl_meaning.specs.Members.{Group}
 use Rattle.ctl_meaning.specs.Choice.{Ask}
 use Rattle.ctl_meaning.specs.Outcome.{Way, ByRaise, Result, Goes, Leaves, Act, Done, on_goes, ◌>>=◌, ◌>>◌, done, nothing, leave_by, raise, ticked, spend, choose, raised_by, tried, told, attempt, Tried, Fine, Raised, when, either, on_some}
 use Rattle.ctl_meaning.specs.Types.{Tables, Category, Elementary, Composite, category_of, Placed, depth, of_record}
-use Rattle.ctl_meaning.specs.Names.{OfSubprogram, OfAllocator, Call as Caller, Default, Tools, Found, InObject, InVariable, InCopy, Alone, gone, existing, must_exist, read_part, write_part, read_found, write_found, found_in, find_var, dereferenced, narrowed, one_step, walk, begins_as, or_constraint_error}
+use Rattle.ctl_meaning.specs.Names.{OfSubprogram, OfAllocator, Call as Caller, Default, Tools, Found, InObject, InVariable, Alone, gone, existing, must_exist, read_part, write_part, on_variable, read_found, write_found, found_in, find_var, dereferenced, narrowed, one_step, walk, begins_as, or_constraint_error}
 use Rattle.ctl_meaning.specs.Marks.{with_mark_pool, mark, default_subpool, subpool_function, discriminant}
 use Rattle.ctl_meaning.specs.Expressions.{Passed, no_actuals, with_formal, bound, by_reference, copied, by_copy, copy_back, call_with, Valued, Naming, Applied, Supplied, pass_each, apply_each, join_each, var_part, if_given, operands, allocator, eval_step, operand_step, name_step, actual_step, by_value}
 use Rattle.ctl_meaning.specs.Finalization.{Spot, whole, component_at, no_component, with_home, call_operation, Chosen, Every, These, after_finalize, own_finalize, in_any_order, parts_to_finalize, finalize_part, finalize, finalize_begun, finalize_object, finalize_if_controlled, finalize_failed, finalize_group}
@@ -149,15 +149,19 @@ module _ (t : Tables) (ask other : Ask) (call spare : Caller) (default fallback 
   unfolding read_found
   k_read_found n (InObject o x path) = k_read_part o x n
   k_read_found n (InVariable m i) = closed.looks (λ w. k_done _)
-  k_read_found n (InCopy m i x) = closed.looks (λ w. k_done _)
   k_read_found n (Alone v) = k_done _
 
   k_write_found : (f : Found) (v : List ℕ) → Same (write_found f v) (write_found f v)
   unfolding write_found
   k_write_found (InObject o x path) v = k_write_part o x v
   k_write_found (InVariable m i) v = closed.changes (assigns m i _)
-  k_write_found (InCopy m i x) v = closed.looks (λ w. closed.changes (sets m i _))
-  k_write_found (Alone u) v = k_nothing
+  k_write_found (Alone u) v = k_gone
+
+  k_on_variable : {A : Type 0} {m n : Act A} (f : Found) → Same m n → Same (on_variable f m) (on_variable f n)
+  unfolding on_variable
+  k_on_variable (InObject o x path) h = h
+  k_on_variable (InVariable m i) h = h
+  k_on_variable (Alone v) h = k_gone
 
   k_found_in : (m i : ℕ) (h : Content) → Same (found_in m i h) (found_in m i h)
   unfolding found_in
@@ -208,7 +212,6 @@ module _ (t : Tables) (ask other : Ask) (call spare : Caller) (default fallback 
   unfolding bound
   k_bound (InObject o x path) = k_done _
   k_bound (InVariable m i) = closed.looks (λ w. k_done _)
-  k_bound (InCopy m i x) = closed.looks (λ w. k_done _)
   k_bound (Alone v) = k_done _
 
   pub k_by_reference : (f : Found) → Same (by_reference f) (by_reference f)
@@ -217,7 +220,7 @@ module _ (t : Tables) (ask other : Ask) (call spare : Caller) (default fallback 
 
   pub k_by_copy : (n : ℕ) (b : CopyStart) (f : Found) → Same (by_copy n b f) (by_copy n b f)
   unfolding by_copy
-  k_by_copy n b f = k_seq (k_copied n b f) (λ v. k_done _)
+  k_by_copy n b f = k_on_variable f (k_seq (k_copied n b f) (λ v. k_done _))
 
   k_copy_back : (ss : List Slot) (bs : List (ℕ × Found)) → Same (copy_back ss bs) (copy_back ss bs)
   unfolding copy_back
@@ -615,7 +618,7 @@ module _ (t : Tables) (ask other : Ask) (call spare : Caller) (default fallback 
 
       k_free : (env : List ℕ) (a : ℕ) (f : Found) → Same (free k env a f) (free j env a f)
       unfolding free free_value
-      k_free env a f = k_seq (k_read_found 1 f) (λ v. k_either _ k_nothing (k_existing _ (λ o. k_on_some _ k_gone (λ b. k_with_set env b (λ set. k_free_object f set o)))))
+      k_free env a f = k_on_variable f (k_seq (k_read_found 1 f) (λ v. k_either _ k_nothing (k_existing _ (λ o. k_on_some _ k_gone (λ b. k_with_set env b (λ set. k_free_object f set o))))))
 
       -- Masters --------------------------------------------------------------------------
 
@@ -720,7 +723,7 @@ module _ (t : Tables) (ask other : Ask) (call spare : Caller) (default fallback 
       k_assign_record env u f g =
           let its : CallAlike (around call env) (around spare env) = λ n ss home. calls n ss env in
           k_seq (k_read_found _ g)
-          (λ v. k_either _ k_nothing (k_then (k_then (k_when _ (k_then (k_finalize (around call env) (around spare env) its _ Every (spot_of f) u) k_nothing)) (k_write_found f v)) (k_adjust (around call env) (around spare env) its None (spot_of f) (Record u))))
+          (λ v. k_either _ k_nothing (k_on_variable f (k_then (k_then (k_when _ (k_then (k_finalize (around call env) (around spare env) its _ Every (spot_of f) u) k_nothing)) (k_write_found f v)) (k_adjust (around call env) (around spare env) its None (spot_of f) (Record u)))))
 
       k_leaving : {m n : Act Done} → Same m n → Same (leaving m) (leaving n)
       unfolding leaving

@@ -12,7 +12,7 @@ use Rattle.ctl_meaning.specs.Changes.{create_at, forget, join, slot_at}
 use Rattle.ctl_meaning.specs.Members.{member_of, is_due}
 use Rattle.ctl_meaning.specs.Outcome.{constraint_error, program_error, Act, Done, ◌>>=◌, ◌>>◌, done, nothing, raise, stop, counted, look, change, Tried, Fine, Raised, attempt, either, on_some}
 use Rattle.ctl_meaning.specs.Types.{Tables, size_of, begin_cells, has_controlled}
-use Rattle.ctl_meaning.specs.Names.{Tools, Found, gone, existing, scalar_of, read_found, write_found}
+use Rattle.ctl_meaning.specs.Names.{Tools, Found, on_variable, gone, existing, scalar_of, read_found, write_found}
 use Rattle.ctl_meaning.specs.Finalization.{finalize_object}
 use Rattle.ctl_meaning.specs.Adjustment.{birth_of}
 use Rattle.ctl_meaning.specs.Initialization.{fill}
@@ -103,7 +103,7 @@ free_value k env access place n =
 
 -- an instance for an access type; null does nothing
 unfoldable pub free : Tools → List ℕ → ℕ → Found → Act Done
-free k env access place = read_found 1 place >>= (λ v. free_value k env access place (scalar_of v))
+free k env access place = on_variable place (read_found 1 place >>= (λ v. free_value k env access place (scalar_of v)))
 
 -- everything here, opened at once
 unfoldable pub opened_allocation : Unit {0}

@@ -21,7 +21,7 @@ use Rattle.ctl_meaning.specs.Outcome.{Act, Done, ◌>>=◌, ◌>>◌, done, noth
 use Rattle.ctl_meaning.specs.Numbers.{unary, binary, converted, is_true}
 use Rattle.ctl_meaning.specs.Changes.{slot_at}
 use Rattle.ctl_meaning.specs.Types.{Category, Composite, category_of, cells_of, Elementary}
-use Rattle.ctl_meaning.specs.Names.{OfSubprogram, OfAllocator, Returned, Tools, Found, InObject, InVariable, InCopy, Alone, copy_at, scalar_of, read_found, write_found, find_var, object_of, walk, begins_as, or_constraint_error}
+use Rattle.ctl_meaning.specs.Names.{OfSubprogram, OfAllocator, Returned, Tools, Found, InObject, InVariable, Alone, scalar_of, on_variable, read_found, write_found, find_var, object_of, walk, begins_as, or_constraint_error}
 use Rattle.ctl_meaning.specs.Marks.{subpool_function, discriminant}
 
 -- Parameters (6.2, 6.4.1) --------------------------------------------------------
@@ -47,11 +47,10 @@ going_back n (Some f) = (n, f) ∷ []
 unfoldable pub with_formal : Formal → Passed → Passed
 with_formal x p = record { slots = p.slots ++ x.slot ∷ []; back = p.back ++ going_back (length p.slots) x.back }
 
--- a record that an object holds is passed by reference, and any other one as a copy: a part of a copy as the cells from there on
+-- a record that an object holds is passed by reference, and any other one as a copy
 unfoldable pub bound : Found → Act Slot
 bound (InObject o offset path) = done (holding (Binds o offset path))
 bound (InVariable m i) = look (λ w. done (valued (slot_at m i w).value))
-bound (InCopy m i offset) = look (λ w. done (holding (Copies (copy_at m i offset w))))
 bound (Alone v) = done (holding (Copies v))
 
 unfoldable pub by_reference : Found → Act Formal
@@ -68,7 +67,7 @@ copied n CopyStartOf.TheVariants.Actual f = read_found n f
 copied n CopyStartOf.TheVariants.Beginning f = done (replicate n 0)
 
 unfoldable pub by_copy : ℕ → CopyStart → Found → Act Formal
-by_copy n begins f = copied n begins f >>= (λ v. done (record { slot = valued (scalar_of v); back = Some f }))
+by_copy n begins f = on_variable f (copied n begins f >>= (λ v. done (record { slot = valued (scalar_of v); back = Some f })))
 
 -- on a normal return the copies go back, from left to right (6.4.1)
 unfoldable pub copy_back : List Slot → List (ℕ × Found) → Act Done

@@ -5,11 +5,11 @@ use Rattle.ctl_program.specs.declared.types.Var.{Var}
 use Rattle.ctl_program.specs.declared.expression.Step.{Step}
 use Rattle.ctl_program.specs.declared.expression.Step.TheVariants.{Component, Dereference, Narrow}
 use Rattle.ctl_tree.specs.declared.ending.Stop.TheVariants.{UseAfterFree}
-use Rattle.ctl_meaning.specs.World.{Object, Content, Holds, Binds, Copies, holding, Slot, World}
+use Rattle.ctl_meaning.specs.World.{Object, Content, Holds, Binds, Copies, Slot, World}
 use Rattle.ctl_meaning.specs.Lists.{item_or, same_list}
 use Rattle.ctl_meaning.specs.Activations.{master_of}
-use Rattle.ctl_meaning.specs.Objects.{first_cells, cells_at, overwritten}
-use Rattle.ctl_meaning.specs.Changes.{object_at, write_cells, set_slot, slot_at, set_value}
+use Rattle.ctl_meaning.specs.Objects.{first_cells, cells_at}
+use Rattle.ctl_meaning.specs.Changes.{object_at, write_cells, slot_at, set_value}
 use Rattle.ctl_meaning.specs.Choice.{Ask}
 use Rattle.ctl_meaning.specs.Outcome.{constraint_error, Act, Done, ◌>>=◌, ◌>>◌, done, nothing, raise, stop, ticked, look, change, either, on_some}
 use Rattle.ctl_meaning.specs.Types.{Tables, Category, Elementary, Composite, placed, offset_in, record_of, descends}
@@ -63,20 +63,11 @@ write_part n offset v = existing n (λ o. change (write_cells n offset v))
 
 -- What a name denotes ------------------------------------------------------------
 
--- a part of an object, an elementary variable, cells of a copy, or a value alone
+-- a part of an object, an elementary variable, or a value alone: that of a call, or a copy that a formal holds
 pub data Found : Type 0 where
   InObject : (object offset : ℕ) (path : List ℕ) → Found
   InVariable : (master slot : ℕ) → Found
-  InCopy : (master slot offset : ℕ) → Found
   Alone : (cells : List ℕ) → Found
-
-unfoldable pub copy_in : Content → List ℕ
-copy_in (Copies v) = v
-copy_in _ = []
-
--- the cells of a copy, from one on
-unfoldable pub copy_at : ℕ → ℕ → ℕ → World → List ℕ
-copy_at m i offset w = drop offset (copy_in (slot_at m i w).content)
 
 -- the first cell of a value
 unfoldable pub scalar_of : List ℕ → ℕ
@@ -86,20 +77,23 @@ scalar_of v = item_or 0 (slice_get v 0)
 unfoldable pub read_found : ℕ → Found → Act (List ℕ)
 read_found n (InObject o offset path) = read_part o offset n
 read_found n (InVariable m i) = look (λ w. done (first_cells n ((slot_at m i w).value ∷ [])))
-read_found n (InCopy m i offset) = look (λ w. done (first_cells n (copy_at m i offset w)))
 read_found n (Alone v) = done (first_cells n v)
+
+-- what is assigned to, copied back to and freed is a variable, which a value is not (3.3)
+unfoldable pub on_variable : {A : Type 0} → Found → Act A → Act A
+on_variable (Alone v) m = gone
+on_variable f m = m
 
 unfoldable pub write_found : Found → List ℕ → Act Done
 write_found (InObject o offset path) v = write_part o offset v
 write_found (InVariable m i) v = change (set_value m i (scalar_of v))
-write_found (InCopy m i offset) v = look (λ w. change (set_slot m i (holding (Copies (overwritten offset v (copy_in (slot_at m i w).content))))))
-write_found (Alone x) v = nothing
+write_found (Alone x) v = gone
 
 -- no name finds a declaration that was not elaborated
 unfoldable pub found_in : ℕ → ℕ → Content → Act Found
 found_in m i (Holds o) = done (InObject o 0 [])
 found_in m i (Binds o offset path) = done (InObject o offset path)
-found_in m i (Copies v) = done (InCopy m i 0)
+found_in m i (Copies v) = done (Alone v)
 found_in m i _ = gone
 
 -- a use of a variable of some category, where a display is seen: a composite one is what its slot holds
@@ -121,7 +115,6 @@ same_found _ _ = false
 unfoldable pub moved : ℕ → ℕ → Found → Found
 moved offset position (InObject o at path) = InObject o (at + offset) (path ++ position ∷ [])
 moved offset position (InVariable m i) = InVariable m i
-moved offset position (InCopy m i at) = InCopy m i (at + offset)
 moved offset position (Alone v) = Alone (drop offset v)
 
 -- an access value's object: Constraint_Error where it is null (4.1), a stop where the object is gone
@@ -156,5 +149,5 @@ or_constraint_error (Some n) = done (n ∷ [])
 
 -- everything here, opened at once
 unfoldable pub opened_names : Unit {0}
-unfolding gone existing must_exist read_part write_part copy_in copy_at scalar_of read_found write_found found_in find_var object_of same_found moved dereferenced narrowed one_step walk begins_as or_constraint_error
+unfolding gone existing must_exist read_part write_part on_variable scalar_of read_found write_found found_in find_var object_of same_found moved dereferenced narrowed one_step walk begins_as or_constraint_error
 opened_names = tt

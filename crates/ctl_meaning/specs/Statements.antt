@@ -25,7 +25,7 @@ use Rattle.ctl_meaning.specs.Changes.{set_value}
 use Rattle.ctl_meaning.specs.Outcome.{completes_loop, raised_by, ByExit, ByReturn, Result, Goes, Leaves, Cut, Act, Done, given, ◌>>=◌, ◌>>◌, done, nothing, leave_by, raise, counted, ticked, then_always, spend, change, show, when, either, on_some}
 use Rattle.ctl_meaning.specs.Numbers.{signed, cell_of, is_true, integer_image, boolean_image}
 use Rattle.ctl_meaning.specs.Types.{Tables, Elementary, Composite, cells_of, has_controlled, operation, record_of}
-use Rattle.ctl_meaning.specs.Names.{Tools, among, Found, InObject, existing, scalar_of, read_found, write_found, object_of, same_found}
+use Rattle.ctl_meaning.specs.Names.{Tools, among, Found, InObject, on_variable, existing, scalar_of, read_found, write_found, object_of, same_found}
 use Rattle.ctl_meaning.specs.Expressions.{no_actuals, with_formal, by_reference, call_with, Valued, Naming, Supplied, pass_each, eval, eval_name, supply}
 use Rattle.ctl_meaning.specs.Finalization.{Spot, Every, finalize}
 use Rattle.ctl_meaning.specs.Adjustment.{adjust}
@@ -79,10 +79,10 @@ spot_of _ = record { object = 0; offset = 0; path = [] }
 -- the target is finalized, takes the value and is adjusted, by the type at its place: its operations are called among the masters of the
 -- statement, where that type is seen
 unfoldable pub overwrite : Tools → List ℕ → ℕ → Found → List ℕ → Act Done
-overwrite k env t target v =
-    when (has_controlled k.tables (Record t)) (finalize (among env k) CauseOf.TheVariants.Assign Every (spot_of target) t >> nothing)
+overwrite k env t target v = on_variable target
+    (when (has_controlled k.tables (Record t)) (finalize (among env k) CauseOf.TheVariants.Assign Every (spot_of target) t >> nothing)
     >> write_found target v
-    >> adjust (among env k) None (spot_of target) (Record t)
+    >> adjust (among env k) None (spot_of target) (Record t))
 
 -- the source's value is read; an object that is assigned to itself stays as it is (profile)
 unfoldable pub assign_record : Tools → List ℕ → ℕ → Found → Found → Act Done

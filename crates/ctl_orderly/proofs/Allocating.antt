@@ -13,7 +13,7 @@ use Rattle.ctl_meaning.specs.Initialization.{fill}
 use Rattle.ctl_meaning.specs.Allocation.{with_set, created_or_gone, created, allocate_for, allocate, returns_storage, freed, finalize_unfinalized, free_object, free_value, free}
 use Rattle.ctl_orderly.proofs.Rules.{Good, as_well, vacuous, seq, then_do, stopped, counts, looks, some_or, choice}
 use Rattle.ctl_orderly.proofs.Edits.{changes}
-use Rattle.ctl_orderly.proofs.Plain.{keeps_changes, keeps_counts, keeps_nothing, keeps_read_found, keeps_seq, keeps_then, keeps_write_found}
+use Rattle.ctl_orderly.proofs.Plain.{keeps_on_variable, keeps_changes, keeps_counts, keeps_nothing, keeps_read_found, keeps_seq, keeps_then, keeps_write_found}
 use Rattle.std.proofs.Common.{◌≡◌, ◌<◌, ◌≤◌, ◌&&◌, refl, sym, ap, ◌∙◌, subst, arith, ◌⊎◌, inl, inr}
 use Rattle.ctl_tree.specs.declared.event.Owner.{Owner}
 use Rattle.ctl_tree.specs.declared.event.Owner.TheVariants.{Master, Collection}
@@ -74,7 +74,7 @@ module _ (t : Tables) (order : InOrder t.records) (ask : Ask) (call : Caller) (d
 
   pub keeps_free : (env : List ℕ) (a : ℕ) (f : Found) → Good t (free k env a f)
   unfolding free free_value with_set
-  keeps_free env a f = keeps_seq (keeps_read_found 1 f) (λ v. choice _ (λ e. keeps_nothing) (λ e. exists _ (λ o is. some_or _ (λ e. is_gone) (λ b e. looks (λ w. as_well (frees f _ o) (λ tr w i r. r.0.1) (λ r tr w i h. tt))))))
+  keeps_free env a f = keeps_on_variable f (keeps_seq (keeps_read_found 1 f) (λ v. choice _ (λ e. keeps_nothing) (λ e. exists _ (λ o is. some_or _ (λ e. is_gone) (λ b e. looks (λ w. as_well (frees f _ o) (λ tr w i r. r.0.1) (λ r tr w i h. tt)))))))
 
   -- Allocators ---------------------------------------------------------------------------------------
 

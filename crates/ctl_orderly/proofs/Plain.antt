@@ -13,11 +13,11 @@ use Rattle.ctl_meaning.specs.World.{World, Object, Content, Nothing, Holds, Bind
 use Rattle.ctl_meaning.specs.Changes.{object_at}
 use Rattle.ctl_meaning.specs.Outcome.{Way, ByRaise, Result, Goes, Leaves, Act, Done, given, then_always, stop, counted, look, change, show, ◌>>=◌, ◌>>◌, done, nothing, leave_by, raise, ticked, spend, when, either, on_some}
 use Rattle.ctl_meaning.specs.Types.{Tables, Category, Elementary, Composite}
-use Rattle.ctl_meaning.specs.Names.{Tools, Found, InObject, InVariable, InCopy, Alone, gone, existing, must_exist, read_part, write_part, read_found, write_found, found_in, find_var, dereferenced, narrowed, one_step, walk, or_constraint_error}
+use Rattle.ctl_meaning.specs.Names.{Tools, Found, InObject, InVariable, Alone, gone, existing, must_exist, read_part, write_part, on_variable, read_found, write_found, found_in, find_var, dereferenced, narrowed, one_step, walk, or_constraint_error}
 use Rattle.ctl_meaning.specs.Marks.{with_mark_pool, mark, default_subpool, subpool_function, discriminant}
 use Rattle.ctl_meaning.specs.Expressions.{bound, by_reference, copied, by_copy, copy_back}
 use Rattle.ctl_orderly.proofs.Rules.{Good, as_well, sequence, gives, seq, then_do, stopped, counts, ticks, spends, looks, some_or, choice, whether}
-use Rattle.ctl_orderly.proofs.Edits.{Numbered, Edits, changes, edit_writes, edit_value, edit_slot, edit_pools, Plain, shows_plain}
+use Rattle.ctl_orderly.proofs.Edits.{Numbered, Edits, changes, edit_writes, edit_value, edit_pools, Plain, shows_plain}
 
 module _ {t : Tables} where
   -- Combinators ---------------------------------------------------------------
@@ -106,15 +106,19 @@ module _ {t : Tables} where
   unfolding read_found
   keeps_read_found n (InObject o x path) = keeps_read_part o x n
   keeps_read_found n (InVariable m i) = keeps_looks (λ w. keeps_done _)
-  keeps_read_found n (InCopy m i x) = keeps_looks (λ w. keeps_done _)
   keeps_read_found n (Alone v) = keeps_done _
 
   pub keeps_write_found : (f : Found) (v : List ℕ) → Good t (write_found f v)
   unfolding write_found
   keeps_write_found (InObject o x path) v = keeps_write_part o x v
   keeps_write_found (InVariable m i) v = keeps_changes (edit_value m i _)
-  keeps_write_found (InCopy m i x) v = keeps_looks (λ w. keeps_changes (edit_slot m i _))
-  keeps_write_found (Alone u) v = keeps_nothing
+  keeps_write_found (Alone u) v = keeps_gone
+
+  pub keeps_on_variable : {A : Type 0} {m : Act A} (f : Found) → Good t m → Good t (on_variable f m)
+  unfolding on_variable
+  keeps_on_variable (InObject o x path) h = h
+  keeps_on_variable (InVariable m i) h = h
+  keeps_on_variable (Alone v) h = keeps_gone
 
   pub keeps_found_in : (m i : ℕ) (h : Content) → Good t (found_in m i h)
   unfolding found_in
@@ -165,7 +169,6 @@ module _ {t : Tables} where
   unfolding bound
   keeps_bound (InObject o x path) = keeps_done _
   keeps_bound (InVariable m i) = keeps_looks (λ w. keeps_done _)
-  keeps_bound (InCopy m i x) = keeps_looks (λ w. keeps_done _)
   keeps_bound (Alone v) = keeps_done _
 
   pub keeps_by_reference : (f : Found) → Good t (by_reference f)
@@ -174,7 +177,7 @@ module _ {t : Tables} where
 
   pub keeps_by_copy : (n : ℕ) (b : CopyStart) (f : Found) → Good t (by_copy n b f)
   unfolding by_copy
-  keeps_by_copy n b f = keeps_seq (keeps_copied n b f) (λ v. keeps_done _)
+  keeps_by_copy n b f = keeps_on_variable f (keeps_seq (keeps_copied n b f) (λ v. keeps_done _))
 
   pub keeps_copy_back : (ss : List Slot) (bs : List (ℕ × Found)) → Good t (copy_back ss bs)
   unfolding copy_back

@@ -20,7 +20,7 @@ use Rattle.ctl_meaning.proofs.Relation.{Each, IfSome}
 use Rattle.ctl_meaning.proofs.Layers.{OfStatements, Statements}
 use Rattle.ctl_orderly.proofs.Rules.{Good}
 use Rattle.ctl_orderly.proofs.Edits.{edit_value}
-use Rattle.ctl_orderly.proofs.Plain.{keeps_by_reference, keeps_changes, keeps_counts, keeps_done, keeps_either, keeps_existing, keeps_gives, keeps_gone, keeps_joins, keeps_leave, keeps_nothing, keeps_on_some, keeps_raise, keeps_read_found, keeps_seq, keeps_shows, keeps_spends, keeps_then, keeps_ticked, keeps_when, keeps_write_found}
+use Rattle.ctl_orderly.proofs.Plain.{keeps_on_variable, keeps_by_reference, keeps_changes, keeps_counts, keeps_done, keeps_either, keeps_existing, keeps_gives, keeps_gone, keeps_joins, keeps_leave, keeps_nothing, keeps_on_some, keeps_raise, keeps_read_found, keeps_seq, keeps_shows, keeps_spends, keeps_then, keeps_ticked, keeps_when, keeps_write_found}
 use Rattle.std.proofs.Common.{◌≡◌, refl, sym, subst}
 use Rattle.ctl_meaning.specs.Lists.{last_of}
 use Rattle.ctl_meaning.specs.Statements.{turns}
@@ -108,7 +108,7 @@ module _ (t : Tables) (order : InOrder t.records) (ask : Ask) (call : Caller) (d
       let around : Caller = λ x home. call x env in
       let its : (n : ℕ) (ss : List Slot) (home : List ℕ) → Good t (around (OfSubprogram n ss) home) = λ n ss home. calls n ss env in
       keeps_seq (keeps_read_found _ g)
-      (λ v. keeps_either _ keeps_nothing (keeps_then (keeps_then (keeps_when _ (keeps_then (keeps_finalize t ask around default its Every (spot_of f) u) keeps_nothing)) (keeps_write_found f v)) (keeps_adjust t ask around default its (spot_of f) (Record u))))
+      (λ v. keeps_either _ keeps_nothing (keeps_on_variable f (keeps_then (keeps_then (keeps_when _ (keeps_then (keeps_finalize t ask around default its Every (spot_of f) u) keeps_nothing)) (keeps_write_found f v)) (keeps_adjust t ask around default its (spot_of f) (Record u)))))
 
   keeps_leaving : {m : Act Done} → Good t m → Good t (leaving m)
   unfolding leaving

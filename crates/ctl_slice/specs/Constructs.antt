@@ -62,10 +62,10 @@ abbrev pub may_all_be_passed : List (Formal Definition Use) → Bool
 may_all_be_passed [] = true
 may_all_be_passed (f ∷ fs) = may_be_passed f && may_all_be_passed fs
 
--- no result, or one of a scalar type (6.1)
+-- no result, or one of a type of the text, or of a scalar one (6.1)
 abbrev pub may_be_given : Option (Mark Use) → Bool
 may_be_given None = true
-may_be_given (Some m) = is_scalar m.first.denoted
+may_be_given (Some m) = is_of_text m.first.denoted || is_scalar m.first.denoted
 
 -- a procedure with such parameters, or with none, and a function with such ones that gives such a result (6.1)
 abbrev pub is_subprogram : Specification Definition Use → Bool

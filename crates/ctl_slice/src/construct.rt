@@ -60,12 +60,15 @@ fn may_all_be_passed(formals: &[Formal<Definition, Use>]) -> bool
     true
 }
 
-/// Tells whether a heading has no result, or one of a scalar type (RM 6.1).
+/// Tells whether a heading has no result, or one of a type of the text, or of a scalar one (RM 6.1).
 fn may_be_given(heading: &Specification<Definition, Use>) -> bool
     ensures { result ≡ spec.may_be_given heading.now.result }
 {
     match &heading.result {
-        Some(mark) => is_scalar(mark.first.denoted),
+        Some(mark) => {
+            let mark = mark.first.denoted;
+            is_of_text(mark) || is_scalar(mark)
+        }
         None => true,
     }
 }

@@ -1,7 +1,7 @@
 //! Collections, allocators and dereferences (RM 4.1, 4.8, 7.6.1).
 
 use crate::codes::{code_of, completed, is_well_formed, validated};
-use crate::lines::{CELL_2, CELL_3, Line, SECOND};
+use crate::lines::{CELL_2, CELL_3, Line, PRINT, SECOND};
 use crate::runs::{outcome_of, traced};
 use ctl_code::code::{AccessHome, Code, Instr};
 use ctl_program::types::{Ty, Var};
@@ -61,8 +61,6 @@ const TAKE: Instr = Instr::TakePart {
     ty: Ty::Integer,
     to: CELL_2,
 };
-
-const PRINT: Instr = Instr::PutLine { text: 1, first: 2 };
 
 /// Makes the collection, whose slot is the first one.
 const GATHER: Instr = Instr::Gather {

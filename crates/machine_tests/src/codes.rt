@@ -226,6 +226,11 @@ pub fn is_well_formed(code: Code) -> bool {
     code.validate().is_some()
 }
 
+/// Whether the code of these lines is well formed, where a body stands at each of these places.
+pub fn is_accepted(alloc: Global, lines: &[Line], bodies: &[usize]) -> Result<bool, AllocError> {
+    Ok(is_well_formed(code_of(alloc, lines, bodies)?))
+}
+
 /// Code that is well formed.
 pub fn validated(code: Code) -> Result<ValidCode, Fail> {
     match code.validate() {

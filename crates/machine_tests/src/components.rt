@@ -1,14 +1,14 @@
 //! A component of an object is passed by copy (RM 6.4.1): which part has it is kept below the actual, and what the formal holds in the end goes
 //! back to it.
 
-use crate::codes::{code_of, is_well_formed, valid_code_with};
-use crate::lines::{ADD, CELL_2, CELL_3, CELL_4, FIRST, Line, layout_of_two};
+use crate::codes::{is_accepted, valid_code_with};
+use crate::lines::{CALL, CELL_3, CELL_4, FETCH, INCREASE, Line, PRINT, layout_of_two};
 use crate::runs::{outcome_of, traced};
 use ctl_code::code::{Instr, Parts};
 use ctl_program::operators::CopyStart;
 use ctl_program::types::Ty;
 use ctl_tree::request::Order;
-use std::alloc::{AllocError, Global};
+use std::alloc::Global;
 use std::test::Fail;
 
 /// The object, a part.
@@ -62,13 +62,6 @@ const NOT_KEPT: Instr = Instr::Set {
     to: CELL_4,
 };
 
-/// Calls the procedure, whose formal gives back what it holds.
-const CALL: Instr = Instr::Call {
-    procedure: 1,
-    actuals: 1,
-    copies: 1,
-};
-
 /// The second component takes it.
 const COPY_BACK: Instr = Instr::CopyBackPart {
     depth: 1,
@@ -77,25 +70,6 @@ const COPY_BACK: Instr = Instr::CopyBackPart {
     kept: 2,
     record: 0,
     position: 2,
-};
-
-const FETCH: Instr = Instr::FetchPart {
-    out: 0,
-    slot: 0,
-    record: 0,
-    position: 2,
-    ty: Ty::Integer,
-    to: CELL_2,
-};
-
-const PRINT: Instr = Instr::PutLine { text: 1, first: 2 };
-
-/// Adds one to the formal.
-const INCREASE: Instr = Instr::BinaryConstant {
-    op: ADD,
-    left: FIRST,
-    right: 1,
-    to: FIRST,
 };
 
 /// Where the procedure stands.
@@ -178,11 +152,6 @@ fn a_copy_goes_back_only_to_an_object(rt: HostRuntime) -> Result<(), Fail> {
     Ok(())
 }
 
-/// Whether the code of these lines is well formed.
-fn is_accepted(alloc: Global, lines: &[Line]) -> Result<bool, AllocError> {
-    Ok(is_well_formed(code_of(alloc, lines, &[BODY])?))
-}
-
 /// A part is kept in the last two of the operands that are counted, in their cells.
 #[test]
 fn parts_are_kept_in_numbers(rt: HostRuntime) -> Result<(), Fail> {
@@ -203,7 +172,7 @@ fn parts_are_kept_in_numbers(rt: HostRuntime) -> Result<(), Fail> {
             kept,
             at,
         };
-        assert!(rt; is_accepted(alloc, &lines_with_keep(keep))? == is_valid);
+        assert!(rt; is_accepted(alloc, &lines_with_keep(keep), &[BODY])? == is_valid);
     }
     Ok(())
 }
@@ -228,7 +197,7 @@ fn copies_go_back_by_numbers(rt: HostRuntime) -> Result<(), Fail> {
             record: 0,
             position: 2,
         };
-        assert!(rt; is_accepted(alloc, &lines_with_back(back))? == is_valid);
+        assert!(rt; is_accepted(alloc, &lines_with_back(back), &[BODY])? == is_valid);
     }
     Ok(())
 }

@@ -1,11 +1,10 @@
 //! What a formal holds in the end of its body is an operand where the call goes on, and goes back to a variable (RM 6.4.1): codes in which
 //! it does not stand there are refused.
 
-use crate::codes::{code_of, is_well_formed};
-use crate::lines::{ADD, CELL_2, FIRST, Line, SECOND};
+use crate::codes::is_accepted;
+use crate::lines::{CALL, CELL_2, INCREASE, Line, PRINT, SECOND};
 use ctl_code::code::Instr;
 use ctl_program::types::Ty;
-use std::alloc::{AllocError, Global};
 use std::test::Fail;
 
 /// Puts the actual.
@@ -13,13 +12,6 @@ const ACTUAL: Instr = Instr::Set {
     value: 20,
     ty: Ty::Integer,
     to: CELL_2,
-};
-
-/// Calls the procedure with it, whose formal gives back what it holds.
-const CALL: Instr = Instr::Call {
-    procedure: 1,
-    actuals: 1,
-    copies: 1,
 };
 
 /// The second variable takes it.
@@ -35,16 +27,6 @@ const TAKEN: Instr = Instr::Move {
     from: SECOND,
     ty: Ty::Integer,
     to: CELL_2,
-};
-
-const PRINT: Instr = Instr::PutLine { text: 1, first: 2 };
-
-/// Adds one to the formal.
-const INCREASE: Instr = Instr::BinaryConstant {
-    op: ADD,
-    left: FIRST,
-    right: 1,
-    to: FIRST,
 };
 
 /// Where the procedure stands.
@@ -72,11 +54,6 @@ fn lines_with_back(back: Instr) -> [Line; 11] {
     lines
 }
 
-/// Whether the code of these lines is well formed.
-fn is_accepted(alloc: Global, lines: &[Line]) -> Result<bool, AllocError> {
-    Ok(is_well_formed(code_of(alloc, lines, &[BODY])?))
-}
-
 #[test]
 fn only_what_stands_there_goes_back(rt: HostRuntime) -> Result<(), Fail> {
     let alloc = rt.alloc();
@@ -87,11 +64,11 @@ fn only_what_stands_there_goes_back(rt: HostRuntime) -> Result<(), Fail> {
             out: 0,
             slot: 1,
         };
-        assert!(rt; is_accepted(alloc, &lines_with_back(back))? == is_valid);
+        assert!(rt; is_accepted(alloc, &lines_with_back(back), &[BODY])? == is_valid);
     }
     let mut lines = LINES;
     lines[5] = (Instr::Discard(2), "mi");
-    assert!(rt; !is_accepted(alloc, &lines)?);
+    assert!(rt; !is_accepted(alloc, &lines, &[BODY])?);
     Ok(())
 }
 
@@ -108,6 +85,6 @@ fn there_are_no_more_copies_than_actuals(rt: HostRuntime) -> Result<(), Fail> {
         "m",
     );
     lines[2] = (Instr::NewLine, "m");
-    assert!(rt; !is_accepted(rt.alloc(), &lines)?);
+    assert!(rt; !is_accepted(rt.alloc(), &lines, &[BODY])?);
     Ok(())
 }

@@ -18,6 +18,8 @@ mod evaluated;
 #[cfg(test)]
 mod filled;
 #[cfg(test)]
+mod given;
+#[cfg(test)]
 mod lines;
 #[cfg(test)]
 mod machine;

@@ -1,4 +1,4 @@
-//! What the codes of the tests are written with: cells, operators, and lines of an instruction with what stands before it.
+//! What the codes of the tests are written with: cells, operators, instructions, and lines of an instruction with what stands before it.
 
 use ctl_code::code::{Cell, Instr, Layout, Named, Operator, Parts};
 use ctl_code::kinds::{Kind, KindNotes};
@@ -6,7 +6,7 @@ use ctl_program::operators::BinaryOp;
 use ctl_program::types::Ty;
 use std::alloc::{AllocError, Global};
 
-/// An instruction, and what stands in the window before it, the newest last: `m` is the main procedure and `f` another body, `[` a block with
+/// An instruction, and what stands in the window before it, the newest last: `m` is the main procedure, `f` and `g` are other bodies, `[` a block with
 /// one slot and `{` one with two, `i` and `b` are operands, an Integer and a Boolean, and `r` is a part of record type 0.
 pub type Line = (Instr, &'static str);
 
@@ -81,6 +81,34 @@ pub const AND: Operator = Operator {
     result: Ty::Boolean,
 };
 
+/// Prints the number in cell 2.
+pub const PRINT: Instr = Instr::PutLine { text: 1, first: 2 };
+
+/// The value of the second component of the object in the first slot.
+pub const FETCH: Instr = Instr::FetchPart {
+    out: 0,
+    slot: 0,
+    record: 0,
+    position: 2,
+    ty: Ty::Integer,
+    to: CELL_2,
+};
+
+/// Calls a procedure with one actual, whose formal gives back what it holds.
+pub const CALL: Instr = Instr::Call {
+    procedure: 1,
+    actuals: 1,
+    copies: 1,
+};
+
+/// Adds one to the formal.
+pub const INCREASE: Instr = Instr::BinaryConstant {
+    op: ADD,
+    left: FIRST,
+    right: 1,
+    to: FIRST,
+};
+
 /// What a letter of a line stands for.
 fn kind_of(letter: char) -> Kind {
     match letter {
@@ -93,6 +121,11 @@ fn kind_of(letter: char) -> Kind {
             level: BODY_LEVEL,
             slots: BODY_SLOTS,
             number: 1,
+        },
+        'g' => Kind::Body {
+            level: BODY_LEVEL,
+            slots: BODY_SLOTS,
+            number: 2,
         },
         '[' => Kind::Block(1),
         '{' => Kind::Block(2),

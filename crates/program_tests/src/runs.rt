@@ -57,12 +57,12 @@ fn faults_of_texts(rt: HostRuntime) -> Result<(), Fail> {
             "1:43: 20 UNKNOWN",
         ),
         (
-            "procedure Main is type R is record N : Integer; end record; function F return R is V : R; begin return 1; end F; begin null; end Main;",
-            "1:104: 30 TYPE",
+            "with MR_Pools; use MR_Pools; procedure Main is P : Mark_Release_Pool (64); B : Boolean := 1; begin null; end Main;",
+            "1:91: 30 TYPE",
         ),
         (
-            "procedure Main is type R is record N : Integer; end record; function F return R is V : R; begin return V; end F; begin null; end Main;",
-            "1:61: 12 LEFT_OUT",
+            "with MR_Pools; use MR_Pools; procedure Main is P : Mark_Release_Pool (64); begin null; end Main;",
+            "1:48: 12 LEFT_OUT",
         ),
     ] {
         let shown = match check_source(rt.alloc(), source.as_bytes()) {

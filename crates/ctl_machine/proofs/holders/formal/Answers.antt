@@ -1,10 +1,10 @@
 use Rattle.std.proofs.Common.{◌≡◌, ◌∙◌, ◌-◌, Some, ap, arith, sym}
 use Rattle.std.specs.Prelude.{slice_get}
-use Rattle.ctl_code.specs.Table.{spot_of}
+use Rattle.ctl_code.specs.Table.{word_of}
 use Rattle.ctl_machine.specs.declared.frame.Formal.{Formal}
-use Rattle.ctl_machine.specs.Holders.{part_of_formal}
+use Rattle.ctl_machine.specs.Holders.{held_by}
 use Rattle.ctl_machine.proofs.Links.{got}
-use Rattle.ctl_machine.proofs.Walked.{formal_found, formal_passed}
+use Rattle.ctl_machine.proofs.Walked.{formal_found, formal_passed, formal_word}
 use Rattle.ctl_machine.proofs.holders.formal.Goals as goal
 
 pub returns-then-formals-at-clause-part : goal.returns-then-formals-at-clause-part
@@ -14,8 +14,9 @@ returns-then-formals-at-clause-part c =
     let within = c.loop-at.invariant.0 in
     let f = c.index-formals-at.result in
     let found : slice_get c.args.formals.now (c.loop-at.at - 1) ≡ Some f = got c.args.formals.now (c.loop-at.at - 1) f (omega (arith, some, within)) c.index-formals-at.is in
-    ap (λ o. part_of_formal o) found
-    ∙ ap (λ x. spot_of x) (sym (formal_found c.args.formals.now c.args.start c.loop-at.at c.args.slot f (omega (arith, some)) found (let is = ap (λ (x : Formal). x.slot) c.index-formals-at.is in omega (arith, same, is))) ∙ c.loop-at.invariant.1)
+    ap (λ o. held_by o) found
+    ∙ formal_word f
+    ∙ ap (λ x. word_of x) (sym (formal_found c.args.formals.now c.args.start c.loop-at.at c.args.slot f (omega (arith, some)) found (let is = ap (λ (x : Formal). x.slot) c.index-formals-at.is in omega (arith, same, is))) ∙ c.loop-at.invariant.1)
 
 pub loop-at-preserved : goal.loop-at-preserved
 loop-at-preserved c =

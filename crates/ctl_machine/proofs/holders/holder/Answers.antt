@@ -1,6 +1,6 @@
 use Rattle.std.proofs.Common.{◌-◌, ◌∙◌, ap, arith, sym}
 use Rattle.std.specs.Prelude.{slice_index_or}
-use Rattle.ctl_code.specs.Table.{spot_of}
+use Rattle.ctl_code.specs.Table.{word_of}
 use Rattle.ctl_machine.specs.declared.frame.Role.{Role}
 use Rattle.ctl_machine.specs.Holders.{content_as, formal_in, own_formals}
 use Rattle.ctl_machine.proofs.Newest.{any_owned}
@@ -14,7 +14,7 @@ returns-in-Object-clause-part c =
     let same = c.if-newest-slot.true in
     let o = slice_index_or owned (c.loop-at.at - 1) any_owned in
     let found = holder_found owned c.args.start c.loop-at.at c.args.slot any_owned (formal_in (own_formals c.args.master.now c.args.formals.now) c.args.slot) (omega (arith, some)) c.loop-at.invariant.0 (omega (arith, same)) in
-    ap (λ (r : Role). spot_of (content_as r o.number)) (sym c.in-Object.is) ∙ ap (λ x. spot_of x) (sym found ∙ c.loop-at.invariant.1)
+    ap (λ (r : Role). word_of (content_as r o.number)) (sym c.in-Object.is) ∙ ap (λ x. word_of x) (sym found ∙ c.loop-at.invariant.1)
 
 pub returns-in-Collection-clause-part : goal.returns-in-Collection-clause-part
 returns-in-Collection-clause-part c =
@@ -23,7 +23,7 @@ returns-in-Collection-clause-part c =
     let same = c.if-newest-slot.true in
     let o = slice_index_or owned (c.loop-at.at - 1) any_owned in
     let found = holder_found owned c.args.start c.loop-at.at c.args.slot any_owned (formal_in (own_formals c.args.master.now c.args.formals.now) c.args.slot) (omega (arith, some)) c.loop-at.invariant.0 (omega (arith, same)) in
-    ap (λ (r : Role). spot_of (content_as r o.number)) (sym c.in-Collection.is) ∙ ap (λ x. spot_of x) (sym found ∙ c.loop-at.invariant.1)
+    ap (λ (r : Role). word_of (content_as r o.number)) (sym c.in-Collection.is) ∙ ap (λ x. word_of x) (sym found ∙ c.loop-at.invariant.1)
 
 pub loop-at-preserved : goal.loop-at-preserved
 loop-at-preserved c =

@@ -4,9 +4,9 @@ use Rattle.ctl_meaning.specs.Finalization.{Spot}
 use Rattle.ctl_code.specs.Kinds.{stack_at}
 use Rattle.ctl_code.specs.States.{Word}
 use Rattle.ctl_machine.specs.declared.frame.Formal.{Formal}
-use Rattle.ctl_machine.specs.Passing.{AreActuals, bound, cell_passed, formal_if, passed}
+use Rattle.ctl_machine.specs.Passing.{AreActuals, StandIn, bound, cell_passed, formal_if, passed}
 use Rattle.ctl_machine.specs.Spots.{located}
-use Rattle.ctl_machine.proofs.Passed.{is_next, length_cell, next_spots, some_located}
+use Rattle.ctl_machine.proofs.Passed.{is_next, length_cell, next_spots, some_located, stand_here, stand_next}
 use Rattle.ctl_machine.proofs.procedures.bind.Goals as goal
 
 pub pass-requires-clause-some : goal.pass-requires-clause-some
@@ -43,7 +43,9 @@ loop-depth-preserved g c =
     let x = is_next m i stack ops (subst (λ j. AreActuals j (drop i stack) (drop i ops)) left before.actuals) in
     let below = g.t.1 ++ located (take m (drop (suc i) ops)) in
     let spots : c.loop-depth.spots.items ≡ below ++ located (x.word ∷ []) = next_spots m i stack ops g.t.1 c.loop-depth.spots.items x (before.spots ∙ ap (λ j. g.t.1 ++ located (take j (drop i ops))) left) in
-    let done = c.pass.ensures.passed x.word below (c.is_part-is_part.ensures ∙ x.is) spots in
+    let words : StandIn (suc m) (x.word ∷ x.rest) base c.loop-depth.cells = subst (λ (l : List Word). StandIn (suc m) l base c.loop-depth.cells) x.are (subst (λ j. StandIn j (drop i ops) base c.loop-depth.cells) left before.words) in
+    let done = c.pass.ensures.passed x.word below (c.is_part-is_part.ensures ∙ x.is) spots (stand_here m x.word x.rest base c.loop-depth.cells words) in
+    let fewer : StandIn m (drop (suc i) ops) base c.pass.new.cells = subst (λ (l : List Word). StandIn m l base c.pass.new.cells) (sym x.next) (subst (λ (l : List ℕ). StandIn m x.rest base l) (sym done.0) (stand_next m x.word x.rest base c.loop-depth.cells words)) in
     let cells : passed m (drop (suc i) ops) base c.pass.new.cells ≡ passed n ops base c.args.cells.now =
     ap (λ (l : List ℕ). passed m (drop (suc i) ops) base l) done.0
     ∙ (ap (λ (l : List Word). passed m l base (cell_passed x.word (base + m) c.loop-depth.cells)) x.next
@@ -66,5 +68,6 @@ loop-depth-preserved g c =
       many = omega (arith, longer, many);
       room = c.pass.ensures.capacity ∙ before.room;
       long = ap (λ (l : List ℕ). length l) done.0 ∙ (length_cell x.word (base + m) c.loop-depth.cells ∙ before.long);
+      words = subst (λ j. StandIn j (drop (i + 1) ops) base c.pass.new.cells) (sym next) (subst (λ j. StandIn m (drop j ops) base c.pass.new.cells) (sym further) fewer);
       actuals = subst (λ j. AreActuals j (drop (i + 1) stack) (drop (i + 1) ops)) (sym next) (subst (λ j. AreActuals m (drop j stack) (drop j ops)) (sym further) x.actuals);
     }

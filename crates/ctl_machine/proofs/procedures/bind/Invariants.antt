@@ -1,6 +1,6 @@
 use Rattle.std.specs.Prelude.{◌≡◌, ◌+◌, ◌-◌, ◌≤◌, ◌++◌, drop, take, length, vec_len, vec_capacity}
 use Rattle.ctl_code.specs.Kinds.{stack_at}
-use Rattle.ctl_machine.specs.Passing.{AreActuals, bound, passed}
+use Rattle.ctl_machine.specs.Passing.{AreActuals, StandIn, bound, passed}
 use Rattle.ctl_machine.specs.Spots.{located}
 use Rattle.ctl_machine.proofs.procedures.bind.Given as goal
 
@@ -13,5 +13,6 @@ invariant-loop-depth g l = record {
   many : vec_len l.formals ≤ vec_len l.fn.formals + l.depth;
   room : vec_capacity l.formals ≡ vec_capacity l.fn.formals;
   long : length l.cells ≡ length l.fn.cells;
+  words : StandIn (l.fn.actuals - l.depth) (drop l.depth g.t.0) l.fn.base l.cells;
   actuals : AreActuals (l.fn.actuals - l.depth) (drop l.depth (stack_at l.fn.code.kinds l.fn.place)) (drop l.depth g.t.0);
 }

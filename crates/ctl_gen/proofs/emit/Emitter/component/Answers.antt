@@ -4,7 +4,7 @@ use Rattle.ctl_layout.specs.Values.{begun_by, given, value_code}
 use Rattle.ctl_layout.proofs.Layers.{begun_given, begun_variable}
 use Rattle.ctl_gen.specs.Emitted.{lined}
 use Rattle.ctl_gen.proofs.Emission.{on_ok}
-use Rattle.ctl_gen.proofs.EmittedParts.{component_behind, component_fetched}
+use Rattle.ctl_gen.proofs.EmittedParts.{component_behind, component_fetched, value_component}
 use Rattle.ctl_gen.proofs.emit.Emitter.component.Goals as goal
 
 pub returns-in-empty : goal.returns-in-empty
@@ -30,4 +30,5 @@ returns-in-Given c = on_ok _ _ c.taken-in-Given.result c.taken-in-Given.ensures 
     let i = c.in-Given in
     let same : begun_by a.of.now ≡ given (value_code i.field-0) = ap begun_by i.is ∙ begun_given i.field-0 i.field-1 in
     e ∙ ap (λ b. lined (rest_taken b a.steps.now a.record a.position a.ty a.to) a.self.now) same
+    ∙ value_component (value_code i.field-0) a.steps.now a.record a.position a.ty a.to a.self.now
     ∙ ap (λ b. lined (rest_component b a.steps.now a.record a.position a.ty a.to) a.self.now) (sym same))

@@ -1,5 +1,5 @@
 use Rattle.std.proofs.Common.{ap, sym, ◌∙◌}
-use Rattle.ctl_layout.specs.Values.{begun_by, denoted}
+use Rattle.ctl_layout.specs.Values.{denoted}
 use Rattle.ctl_layout.specs.Layout.{copy}
 use Rattle.ctl_gen.specs.Emitted.{lined}
 use Rattle.ctl_gen.proofs.Emission.{on_ok}
@@ -11,5 +11,5 @@ returns c = on_ok _ _ c.over_operand.result c.over_operand.ensures (λ e.
     let x = c.in-Some.part in
     let t = c.args.record in
     let e0 = c.args.self.now in
-    copy_emitted (begun_by x.name.now) x.reached c.args.slot t e0 c.part.new.self c.over_operand.new.self c.in_ok-part.ensures e
+    copy_emitted x c.args.slot t e0 c.source.new.self c.over_operand.new.self c.in_ok-source.ensures e
     ∙ ap (λ o. lined (copy c.args.slot t o).code e0) (sym (ap denoted c.in-Some.is) ∙ c.copied.ensures))

@@ -1,11 +1,10 @@
-use Rattle.ctl_meaning.specs.Changes.{object_at}
-use Rattle.ctl_machine.specs.Granting.{storage_seen}
-use Rattle.ctl_machine.specs.Spots.{first_spot}
-use Rattle.ctl_machine.proofs.CopyAllocated.{object_or}
 use Rattle.ctl_machine.proofs.engine.Engine.allocate_copy.Given as goal
 
-abbrev pub ghost-set_for : goal.ghost-set_for
-ghost-set_for g a = g.s.0
+abbrev pub ghost-is_newest_value : goal.ghost-is_newest_value
+ghost-is_newest_value g a = g.s.0
 
-abbrev pub ghost-copy_member : goal.ghost-copy_member
-ghost-copy_member g a = (g.s.0, object_or (object_at (first_spot g.s.0.operands).object g.s.0.world), storage_seen a.code.now a.access g.s.0)
+abbrev pub ghost-allocate_value : goal.ghost-allocate_value
+ghost-allocate_value g a = g.s
+
+abbrev pub ghost-allocate_part : goal.ghost-allocate_part
+ghost-allocate_part g a = g.s

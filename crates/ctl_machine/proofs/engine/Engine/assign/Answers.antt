@@ -1,86 +1,35 @@
-use Rattle.std.proofs.Common.{◌+◌, ◌++◌, ◌∷◌, ◌∙◌, [], List, Option, ap, refl, subst, sym}
-use Rattle.ctl_meaning.specs.Finalization.{Spot}
-use Rattle.ctl_meaning.specs.Objects.{object_in}
-use Rattle.ctl_meaning.specs.World.{Object}
-use Rattle.ctl_code.specs.Table.{is_same_part, replace_value}
-use Rattle.ctl_machine.specs.Assigning.{Replaces}
-use Rattle.ctl_machine.specs.Moves.{Makes}
-use Rattle.ctl_machine.specs.Shows.{kept, with_spots}
-use Rattle.ctl_machine.specs.Spots.{standing}
-use Rattle.ctl_machine.proofs.Assigned.{are_given, assigned_at, point_of, replaced_makes, replaces_now, rest_of, same_makes, source_gone, source_of, target_of, value_found}
-use Rattle.ctl_machine.proofs.Owned.{none_there, some_there}
+use Rattle.std.proofs.Common.{◌∙◌, ◌∷◌, List, ap, refl}
+use Rattle.ctl_code.specs.declared.kinds.Kind.{Kind}
+use Rattle.ctl_code.specs.declared.kinds.Kind.TheVariants.{Operand}
+use Rattle.ctl_code.specs.declared.code.Instr.TheVariants as InstrOf
+use Rattle.ctl_program.specs.declared.types.Ty.TheVariants.{Record}
+use Rattle.ctl_machine.proofs.Assigned.{given_makes, gives_now, value_stops}
 use Rattle.ctl_machine.proofs.Steps.{on_ok}
-use Rattle.ctl_machine.proofs.Words.{newest_read, next_read, two_dropped}
 use Rattle.ctl_machine.proofs.engine.Engine.assign.Goals as goal
 
-pub returns-then-not-exists-clause-ok : goal.returns-then-not-exists-clause-ok
-returns-then-not-exists-clause-ok g c =
-    let code = c.args.code.now in
-    let old = c.args.self.now in
-    let t = c.args.record in
+pub is_value_below-requires : goal.is_value_below-requires
+is_value_below-requires g c =
     let b = c.requires.1.0 in
-    let i = are_given code old c.args.place g.s t c.requires.0 b in
-    let count = c.count_spots-count in
-    let below = standing g.s.control (rest_of g.s) in
-    let source_is = newest_read old.spots.items (below ++ target_of g.s ∷ []) (source_of g.s) c.index-source.result.now count.result i.spots count.ensures.count c.index-source.ensures in
-    let none = none_there (object_in c.object.result old.stock.objects) (sym c.exists.ensures ∙ c.if-not-exists.true) in
-    source_gone code old _ c.args.place g.s t c.requires.0 b (ap (λ n. object_in n old.stock.objects) (sym (c.object.ensures ∙ ap (λ (x : Spot). x.object) source_is)) ∙ none)
-    (record { mode = refl; kept = refl; events = refl; picks = refl })
+    let t = c.args.record in
+    (InstrOf.Assign t, b, t, t, b.fine.1.2.0, b.fine.1.1 ∙ ap (λ (l : List Kind). Operand (Record t) ∷ l) b.fine.1.2.1)
 
-pub returns-then-is_same-clause-ok : goal.returns-then-is_same-clause-ok
-returns-then-is_same-clause-ok g c =
-    let code = c.args.code.now in
-    let old = c.args.self.now in
-    let t = c.args.record in
-    let b = c.requires.1.0 in
-    let i = are_given code old c.args.place g.s t c.requires.0 b in
-    let count = c.count_spots-count in
-    let below = standing g.s.control (rest_of g.s) in
-    let source_is = newest_read old.spots.items (below ++ target_of g.s ∷ []) (source_of g.s) c.index-source.result.now count.result i.spots count.ensures.count c.index-source.ensures in
-    let target_is = next_read old.spots.items below (target_of g.s) (source_of g.s) c.index-target.result.now count.result i.spots count.ensures.count c.index-target.ensures in
-    let some = some_there (object_in c.object.result old.stock.objects) (sym c.exists.ensures ∙ c.if-not-exists.false) in
-    let found = ap (λ n. object_in n old.stock.objects) (sym (c.object.ensures ∙ ap (λ (x : Spot). x.object) source_is)) ∙ some.1 in
-    let same = sym c.if-is_same.true ∙ (c.is_same.ensures ∙ (ap (λ (x : Spot). is_same_part x c.index-source.result.now) target_is ∙ ap (λ (x : Spot). is_same_part (target_of g.s) x) source_is)) in
-    same_makes code old _ c.args.place g.s t some.0 c.requires.0 b found same refl
-    (ap (λ (l : List Spot). with_spots (kept old) l) (c.truncate.ensures.items ∙ two_dropped old.spots.items below (target_of g.s) (source_of g.s) count.result i.spots count.ensures.count))
-    refl refl
+pub returns-then-is_value_below-clause-ok : goal.returns-then-is_value_below-clause-ok
+returns-then-is_value_below-clause-ok g c =
+    value_stops c.args.code.now c.args.self.now _ c.args.place g.s c.args.record c.requires.0 c.requires.1.0 (c.is_value_below.ensures.value c.if-is_value_below.true) (record { mode = refl; kept = refl; events = refl; picks = refl })
+
+pub is_newest_value-requires : goal.is_newest_value-requires
+is_newest_value-requires g c = let b = c.requires.1.0 in (InstrOf.Assign c.args.record, b, c.args.record, b.fine.1.0, b.fine.1.1)
 
 pub replace_value-requires : goal.replace_value-requires
 replace_value-requires g c =
-    let code = c.args.code.now in
-    let old = c.args.self.now in
-    let t = c.args.record in
-    let b = c.requires.1.0 in
-    let i = are_given code old c.args.place g.s t c.requires.0 b in
-    let next = c.args.place + 1 in
-    let count = c.count_spots-count in
-    let source_is = newest_read old.spots.items (standing g.s.control (rest_of g.s) ++ target_of g.s ∷ []) (source_of g.s) c.index-source.result.now count.result i.spots count.ensures.count c.index-source.ensures in
-    let some = some_there (object_in c.object.result old.stock.objects) (sym c.exists.ensures ∙ c.if-not-exists.false) in
-    let found = ap (λ n. object_in n old.stock.objects) (sym (c.object.ensures ∙ ap (λ (x : Spot). x.object) source_is)) ∙ some.1 in
-    let now = replaces_now code old c.args.place g.s t some.0 c.requires.0 b found in (
-      c.requires.0,
-      (
-        subst (λ (o : Option Object). Replaces code old t next (assigned_at next g.s) (value_found code t o g.s)) (sym found) now,
-        c.requires.1.1.1,
-      ),
-    )
+    (c.requires.0, (gives_now c.args.code.now c.args.self.now c.args.place g.s c.args.record c.requires.0 c.requires.1.0 (c.is_newest_value.ensures.value c.if-is_newest_value.true), c.requires.1.1.1))
 
-pub returns-clause-ok : goal.returns-clause-ok
-returns-clause-ok g c =
-    let code = c.args.code.now in
-    let old = c.args.self.now in
-    let t = c.args.record in
-    let b = c.requires.1.0 in
-    let i = are_given code old c.args.place g.s t c.requires.0 b in
-    let count = c.count_spots-count in
-    let below = standing g.s.control (rest_of g.s) in
-    let source_is = newest_read old.spots.items (below ++ target_of g.s ∷ []) (source_of g.s) c.index-source.result.now count.result i.spots count.ensures.count c.index-source.ensures in
-    let target_is = next_read old.spots.items below (target_of g.s) (source_of g.s) c.index-target.result.now count.result i.spots count.ensures.count c.index-target.ensures in
-    let some = some_there (object_in c.object.result old.stock.objects) (sym c.exists.ensures ∙ c.if-not-exists.false) in
-    let found = ap (λ n. object_in n old.stock.objects) (sym (c.object.ensures ∙ ap (λ (x : Spot). x.object) source_is)) ∙ some.1 in
-    let same = sym c.if-is_same.false ∙ (c.is_same.ensures ∙ (ap (λ (x : Spot). is_same_part x c.index-source.result.now) target_is ∙ ap (λ (x : Spot). is_same_part (target_of g.s) x) source_is)) in
-    let next = c.args.place + 1 in
-    let makes : Option Object → Type 0 = λ o. Makes code old c.replace_value.new.self (replace_value code (target_of g.s) t (value_found code t o g.s) (point_of next g.s) g.s.control g.s.world) in
+pub returns-then-is_newest_value-clause-ok : goal.returns-then-is_newest_value-clause-ok
+returns-then-is_newest_value-clause-ok g c =
     on_ok c.replace_value.result
-    (λ (m : makes (object_in (source_of g.s).object old.stock.objects)). replaced_makes code old c.replace_value.new.self c.args.place g.s t some.0 c.requires.0 b found same (subst makes found m))
+    (λ made. given_makes c.args.code.now c.args.self.now c.replace_value.new.self c.args.place g.s c.args.record c.requires.0 c.requires.1.0 (c.is_newest_value.ensures.value c.if-is_newest_value.true) (c.is_value_below.ensures.part c.if-is_value_below.false) made)
     c.replace_value.ensures.ok
+
+pub assign_part-requires : goal.assign_part-requires
+assign_part-requires g c =
+    (c.requires.0, (c.requires.1.0, (c.is_newest_value.ensures.part c.if-is_newest_value.false, (c.is_value_below.ensures.part c.if-is_value_below.false, (c.requires.1.1.0, c.requires.1.1.1)))))

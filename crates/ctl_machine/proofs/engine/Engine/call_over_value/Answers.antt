@@ -1,25 +1,20 @@
-use Rattle.std.proofs.Common.{◌≡◌, ◌+◌, ◌<◌, ◌++◌, ◌∙◌, [], ◌∷◌, List, ap, arith, drop, length, refl, subst, sym, ℕ}
+use Rattle.std.proofs.Common.{◌+◌, ◌<◌, ◌∙◌, ◌∷◌, List, ap, arith, drop, length, refl, subst, sym, ℕ}
 use Rattle.std.specs.Prelude.{vec_capacity, vec_len}
-use Rattle.std.specs.Option.{option_map_or}
-use Rattle.ctl_meaning.specs.Finalization.{Spot}
-use Rattle.ctl_meaning.specs.Objects.{cells_at, object_in}
+use Rattle.ctl_meaning.specs.Objects.{object_in}
 use Rattle.ctl_code.specs.declared.kinds.Kind.{Kind}
 use Rattle.ctl_code.specs.declared.kinds.Kind.TheVariants.{RecordValue}
 use Rattle.ctl_code.specs.Valid.{over_numbers}
 use Rattle.ctl_code.specs.States.{Cells}
-use Rattle.ctl_code.specs.Table.{size_of}
 use Rattle.ctl_code.specs.Windows.{height}
-use Rattle.ctl_machine.specs.Shows.{Kept, kept}
-use Rattle.ctl_machine.specs.Spots.{first_spot, standing}
+use Rattle.ctl_machine.specs.Shows.{Kept}
+use Rattle.ctl_machine.specs.Spots.{first_spot}
 use Rattle.ctl_machine.specs.StorageCalling.{AsksAllocate}
 use Rattle.ctl_machine.proofs.Blocks.{stack_is}
 use Rattle.ctl_machine.proofs.CopyAllocated.{source_part}
 use Rattle.ctl_machine.proofs.Following.{makes_later}
 use Rattle.ctl_machine.proofs.Lists.{length_set}
-use Rattle.ctl_machine.proofs.Owned.{object_shown}
 use Rattle.ctl_machine.proofs.UserAllocates.{next_within}
 use Rattle.ctl_machine.proofs.ValueKept.{asks_over_value}
-use Rattle.ctl_machine.proofs.Words.{newest_read}
 use Rattle.ctl_machine.proofs.engine.Engine.call_over_value.Goals as goal
 
 pub overflow_add-cell : goal.overflow_add-cell
@@ -69,38 +64,24 @@ enter_allocate-requires g c =
     let put = c.put_value.new.self in
     let s = g.s.0 in
     let t = c.args.record in
-    let y = first_spot s.operands in
     let before = c.requires.1.0 in
     let b = before.3 in
-    let p = source_part code old before.0 c.args.place t before.2 before.1 s b in
-    let count = c.count_spots-newest in
-    let spot = newest_read old.spots.items (standing s.control (drop 1 s.operands)) y c.index-spot.result.now count.result p.spots count.ensures.count c.index-spot.ensures in
-    let number = c.object.ensures ∙ ap (λ (x : Spot). x.object) spot in
-    let start = c.offset.ensures ∙ ap (λ (x : Spot). x.offset) spot in
-    let there = sym (object_shown code (kept old) s.control s.operands s.world y.object b.inside.holds) ∙ c.requires.1.1.0 in
-    let value : c.save.new.saved.items ≡ cells_at y.offset (size_of code t) g.s.1 =
-    c.save.ensures.items
-    ∙ (ap (λ (l : List ℕ). l ++ option_map_or (cells_at c.offset.result c.size_of-size.result) (object_in c.object.result old.stock.objects) []) (c.in_ok-reserve.ensures.items ∙ c.new-value.ensures.items)
-    ∙ (ap (λ n. option_map_or (cells_at n c.size_of-size.result) (object_in c.object.result old.stock.objects) []) start
-    ∙ (ap (λ n. option_map_or (cells_at y.offset c.size_of-size.result) (object_in n old.stock.objects) []) number
-    ∙ (ap (λ o. option_map_or (cells_at y.offset c.size_of-size.result) o []) there
-    ∙ ap (λ n. cells_at y.offset n g.s.1) c.size_of-size.ensures)))) in
     let goes = c.in_ok-prepare.ensures.ok.1 in
     let window = c.window.ensures in
     let under = c.height_at.ensures in
     let same = ap (λ (l : List Kind). height (drop 1 l)) (stack_is code c.args.place b.stack b.leads ∙ b.fine.2.1) in
     let cell = c.window.result + c.height_at.result in
     let wide = c.in_ok-prepare.ensures.cells in
-    let asks = asks_over_value code old ready put before.0 c.args.place t before.2 cell (cell + 1) before.1 c.save.new.saved.items s c.in_ok-prepare.ensures.ok.0 b goes.kept (omega (arith, window, under, same)) (omega (arith, wide)) refl c.put_value.ensures.kept in
+    let asks = asks_over_value code old ready put before.0 c.args.place t before.2 cell (cell + 1) before.1 c.args.value.items s c.in_ok-prepare.ensures.ok.0 b goes.kept (omega (arith, window, under, same)) (omega (arith, wide)) refl c.put_value.ensures.kept in
     let control = c.in_ok-prepare.ensures.control in
     let formals = c.in_ok-prepare.ensures.formals in
     let given = c.put_value.ensures.given ∙ c.in_ok-prepare.ensures.number in
     let fewer = c.requires.1.1.1.1.1.1 in
-    let total = ap (λ (e : Kept). length e.cells) c.put_value.ensures.kept ∙ length_set ready.cells.items cell 0 in
+    let total = ap (λ (e : Kept). length e.cells) c.put_value.ensures.kept ∙ length_set ready.cells.items cell 1 in
     let stock = c.put_value.ensures.stock ∙ c.in_ok-prepare.ensures.existing in (
       c.requires.0,
       (
-        subst (λ (v : List ℕ). AsksAllocate code put c.args.place (cell + 1) (record s { operands = Cells v ∷ drop 1 s.operands })) value asks,
+        subst (λ (v : List ℕ). AsksAllocate code put c.args.place (cell + 1) (record s { operands = Cells v ∷ drop 1 s.operands })) (sym c.requires.1.1.0) asks,
         (
           c.requires.1.1.1.0,
           (

@@ -1,6 +1,6 @@
 use Rattle.ctl_code.specs.Table.{units_of}
 use Rattle.ctl_machine.specs.Granting.{place_granted, world_granted}
-use Rattle.ctl_machine.proofs.CopyAllocated.{taken_state}
+use Rattle.ctl_machine.proofs.CopyAllocated.{taken_state, value_of}
 use Rattle.ctl_machine.proofs.MasterOf.{object_or}
 use Rattle.ctl_machine.proofs.engine.Engine.copy_member.Given as goal
 
@@ -8,10 +8,13 @@ abbrev pub ghost-grantor : goal.ghost-grantor
 ghost-grantor g a = g.s.0
 
 abbrev pub ghost-call_over_value : goal.ghost-call_over_value
-ghost-call_over_value g a = (g.s.0, g.s.1, object_or a.pool a.self.now.stock.objects, a.set)
+ghost-call_over_value g a = (g.s.0, object_or a.pool a.self.now.stock.objects, a.set, value_of a.code.now a.record g.s.1 g.s.0)
+
+abbrev pub ghost-newest_cells : goal.ghost-newest_cells
+ghost-newest_cells g a = (g.s.0, g.s.1)
 
 abbrev pub ghost-add_member : goal.ghost-add_member
 ghost-add_member g a = (g.s.0, g.s.2)
 
 abbrev pub ghost-adjust_member : goal.ghost-adjust_member
-ghost-adjust_member g a = let granted = g.s.2 (units_of a.code.now a.record) in taken_state a.code.now a.set a.record (place_granted granted) (world_granted g.s.0.world granted) g.s.1 g.s.0
+ghost-adjust_member g a = let granted = g.s.2 (units_of a.code.now a.record) in taken_state a.code.now a.set a.record (place_granted granted) (world_granted g.s.0.world granted) (value_of a.code.now a.record g.s.1 g.s.0) g.s.0

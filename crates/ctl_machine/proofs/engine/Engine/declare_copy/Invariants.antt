@@ -1,6 +1,10 @@
-use Rattle.ctl_machine.proofs.CopyDeclared.{copied_at}
-use Rattle.ctl_machine.proofs.Newest.{newest_object}
 use Rattle.ctl_machine.proofs.engine.Engine.declare_copy.Given as goal
 
-abbrev pub ghost-adjust_new : goal.ghost-adjust_new
-ghost-adjust_new g a = copied_at a.code.now a.place (newest_object a.self.now.owned.items).slot a.record g.s
+abbrev pub ghost-is_newest_value : goal.ghost-is_newest_value
+ghost-is_newest_value g a = g.s
+
+abbrev pub ghost-declare_value : goal.ghost-declare_value
+ghost-declare_value g a = g.s
+
+abbrev pub ghost-declare_part : goal.ghost-declare_part
+ghost-declare_part g a = g.s

@@ -1,5 +1,6 @@
 use Rattle.std.proofs.Common.{◌≡◌, ◌+◌, ◌∙◌, ℕ, Option, ap, drop, reverse, sym}
 use Rattle.ctl_program.specs.declared.operators.CopyStart.{CopyStart}
+use Rattle.ctl_code.specs.declared.code.Instr.TheVariants.{KeepPart}
 use Rattle.ctl_meaning.specs.World.{World}
 use Rattle.ctl_meaning.specs.Finalization.{Spot}
 use Rattle.ctl_meaning.specs.Changes.{object_at}
@@ -7,7 +8,7 @@ use Rattle.ctl_machine.specs.Masters.{first_window}
 use Rattle.ctl_machine.specs.Parts.{begun_with, part_in}
 use Rattle.ctl_machine.specs.Shows.{kept}
 use Rattle.ctl_machine.specs.Spots.{first_spot, standing}
-use Rattle.ctl_machine.proofs.KeptPart.{copy_within, keep_gone, keep_makes, keep_within, part_kept}
+use Rattle.ctl_machine.proofs.KeptPart.{copy_within, keep_gone, keep_makes, keep_none, keep_within, part_kept}
 use Rattle.ctl_machine.proofs.Located.{part_on_top}
 use Rattle.ctl_machine.proofs.Words.{newest_read, same_front}
 use Rattle.ctl_machine.proofs.engine.Engine.keep_part.Goals as goal
@@ -58,7 +59,7 @@ returns-in-Some-clause-passed g c = λ t position ty same.
     let mid_is = c.keep_spot.ensures.kept ∙ part_kept (kept old) c.take_last.new.self.items below (first_window (reverse old.masters.items) + c.args.base) c.object-object.result c.offset-start.result y popped number first in
     let read = begun_is c.args.begins _ c.offset-start.result c.object-object.result c.args.offset y g.s.world c.in-Some.ensures first number in (
       c.put.ensures.mode,
-      keep_makes code old c.keep_spot.new.self c.put.new.self c.args.place g.s r.0 r.1 c.args.offset c.args.begins r.2 c.args.depth c.args.base c.args.at c.in-Some.value c.requires.0 b read mid_is c.keep_spot.ensures.events c.keep_spot.ensures.picks c.put.ensures t position ty same,
+      keep_makes code old c.keep_spot.new.self c.put.new.self c.args.place g.s r.0 r.1 c.args.offset c.args.begins r.2 c.args.depth c.args.base c.args.at c.in-Some.value c.requires.0 b (c.is_newest_value.ensures.part c.if-is_newest_value.false) read mid_is c.keep_spot.ensures.events c.keep_spot.ensures.picks c.put.ensures t position ty same,
     )
 
 pub returns-in-None-clause-gone : goal.returns-in-None-clause-gone
@@ -74,4 +75,12 @@ returns-in-None-clause-gone g c = λ t position ty same new goes.
     let number = c.object-object.ensures ∙ ap (λ (x : Spot). x.object) spot in
     let first = c.offset-start.ensures ∙ ap (λ (x : Spot). x.offset) spot in
     let read = begun_is c.args.begins _ c.offset-start.result c.object-object.result c.args.offset y g.s.world c.in-None.ensures first number in
-    keep_gone code old new c.args.place g.s r.0 r.1 c.args.offset c.args.begins r.2 c.args.depth c.args.base c.args.at b read goes t position ty same
+    keep_gone code old new c.args.place g.s r.0 r.1 c.args.offset c.args.begins r.2 c.args.depth c.args.base c.args.at b (c.is_newest_value.ensures.part c.if-is_newest_value.false) read goes t position ty same
+
+pub is_newest_value-requires : goal.is_newest_value-requires
+is_newest_value-requires g c = let r = c.requires.1.0 in (KeepPart r.0 r.1 c.args.begins r.2 c.args.depth c.args.base c.args.at, r.3, r.0, r.3.fine.2.0, r.3.fine.2.1)
+
+pub returns-then-is_newest_value-clause-gone : goal.returns-then-is_newest_value-clause-gone
+returns-then-is_newest_value-clause-gone g c = λ t position ty same new goes.
+    let r = c.requires.1.0 in
+    keep_none c.args.code.now c.args.self.now new c.args.place g.s r.0 r.1 c.args.begins r.2 c.args.depth c.args.base c.args.at r.3 (c.is_newest_value.ensures.value c.if-is_newest_value.true) goes t position ty

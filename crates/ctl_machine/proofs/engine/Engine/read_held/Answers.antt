@@ -1,29 +1,17 @@
-use Rattle.std.proofs.Common.{◌≡◌, ◌+◌, ◌<◌, ◌∙◌, Option, Some, ap, arith, subst, sym}
-use Rattle.std.specs.Prelude.{length, slice_get}
-use Rattle.ctl_meaning.specs.Changes.{object_at}
-use Rattle.ctl_meaning.specs.Finalization.{Spot}
+use Rattle.std.proofs.Common.{◌∙◌, Option, Some, ap, subst, sym}
+use Rattle.ctl_code.specs.States.{Word}
 use Rattle.ctl_machine.specs.declared.frame.Formal.{Formal}
 use Rattle.ctl_machine.specs.declared.frame.Holder.{Holder}
-use Rattle.ctl_machine.specs.Holders.{IsThere, found_in, part_of_formal}
-use Rattle.ctl_machine.specs.Parts.{part_at, part_in}
-use Rattle.ctl_machine.proofs.Links.{got}
+use Rattle.ctl_machine.specs.Holders.{IsThere, found_in, held_by}
+use Rattle.ctl_machine.specs.Parts.{part_at}
 use Rattle.ctl_machine.proofs.engine.Engine.read_held.Goals as goal
 
-pub index-requires : goal.index-requires
-index-requires g c =
-    let within : c.in-Bound.at < length c.args.self.now.formals.items = subst (λ (h : Holder). IsThere c.args.self.now.formals.items h) c.in-Bound.is c.in_ok-object.ensures.there in
-    let many = c.args.self.now.formals.ok.1 in
-    omega (arith, within, many)
+pub read_formal-requires : goal.read_formal-requires
+read_formal-requires g c = (subst (λ (h : Holder). IsThere c.args.self.now.formals.items h) c.in-Bound.is c.in_ok-object.ensures.there, c.requires)
 
 pub returns-in-Bound : goal.returns-in-Bound
 returns-in-Bound g c =
     let formals = c.args.self.now.formals.items in
-    let f = c.index.result.now in
-    let w = g.s.world in
-    let within : c.in-Bound.at < length formals = subst (λ (h : Holder). IsThere formals h) c.in-Bound.is c.in_ok-object.ensures.there in
-    let found : slice_get formals c.in-Bound.at ≡ Some f = got formals c.in-Bound.at f within c.index.ensures in
-    let held = sym (ap (λ (o : Option Formal). part_of_formal o) found) ∙ (sym (ap (λ (h : Holder). found_in formals (Some h)) c.in-Bound.is) ∙ c.in_ok-object.ensures.part) in
-    c.read_at-in-Bound.ensures
-    ∙ (ap (λ n. part_in (n + c.args.offset) (object_at c.object.result w)) c.offset.ensures
-    ∙ (ap (λ n. part_in (f.spot.offset + c.args.offset) (object_at n w)) c.object.ensures
-    ∙ ap (λ (x : Option Spot). part_at c.args.offset x w) held))
+    let read = c.read_formal.ensures in
+    let held = sym (ap (λ (o : Option Formal). held_by o) read.1) ∙ (sym (ap (λ (h : Holder). found_in formals (Some h)) c.in-Bound.is) ∙ c.in_ok-object.ensures.part) in
+    read.2 ∙ ap (λ (x : Option Word). part_at c.args.offset x g.s.world) held

@@ -5,3 +5,6 @@ ghost-holder_out g a = g.s
 
 abbrev pub ghost-read_at : goal.ghost-read_at
 ghost-read_at g a = g.s
+
+abbrev pub ghost-read_formal : goal.ghost-read_formal
+ghost-read_formal g a = g.s

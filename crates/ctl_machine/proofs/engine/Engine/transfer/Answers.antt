@@ -2,9 +2,11 @@ use Rattle.std.proofs.Common.{◌≡◌, ◌∙◌, ℕ, Some, reverse, subst, s
 use Rattle.ctl_code.specs.declared.code.Way.{Way}
 use Rattle.ctl_code.specs.declared.code.Way.TheVariants as WayOf
 use Rattle.ctl_code.specs.States.{Move}
-use Rattle.ctl_code.specs.Table.{by_transfer, way_of}
+use Rattle.ctl_code.specs.Table.{by_transfer}
+use Rattle.ctl_machine.specs.declared.frame.Completion.TheVariants.{Transferred}
+use Rattle.ctl_machine.specs.Shows.{way_in}
 use Rattle.ctl_machine.specs.Handlers.{first_handlers}
-use Rattle.ctl_machine.specs.Moves.{Makes}
+use Rattle.ctl_machine.specs.Moves.{BeforeLeaving, Makes}
 use Rattle.ctl_machine.proofs.Caught.{caught_makes, leaves_else}
 use Rattle.ctl_machine.proofs.Steps.{on_ok}
 use Rattle.ctl_machine.proofs.engine.Engine.transfer.Goals as goal
@@ -15,8 +17,8 @@ returns-in-Raise-Some-clause-ok g c =
     let code = c.args.code.now in
     let old = c.args.self.now in
     let new = c.set_handling.new.self in
-    subst (λ (way : Way). Makes code old new (by_transfer code (way_of way) g.s.control g.s.world)) (sym c.in-Raise-Some.is-0)
-    (caught_makes code old new g.s c.in-Raise-Some.exception c.in-Raise-Some.place c.requires.1.0 (sym c.handlers.ensures ∙ c.in-Raise-Some.is-1) c.set_handling.ensures)
+    subst (λ (way : Way). Makes code old new (by_transfer code (way_in old.spots.items way) g.s.control g.s.world)) (sym c.in-Raise-Some.is-0)
+    (caught_makes code old new g.s c.in-Raise-Some.exception c.in-Raise-Some.place (subst (λ (way : Way). BeforeLeaving code old (Transferred way) g.s) c.in-Raise-Some.is-0 c.requires.1.0) (sym c.handlers.ensures ∙ c.in-Raise-Some.is-1) c.set_handling.ensures)
 
 pub returns-in_default-clause-ok : goal.returns-in_default-clause-ok
 returns-in_default-clause-ok g c =
