@@ -231,8 +231,7 @@ TEXTS = [
     (CONTROLLED + "type T is new Controlled with record N : Integer := 1; end record; type U is new T with record N : Boolean; end record; X : U; begin null; end Main;", 21, 1, 159),
     (CONTROLLED + "type T is new Controlled with null record; X : T; Y : T := X; begin null; end Main;", ACCEPTED, 1, 1),
     (CONTROLLED + "type T is new Controlled with null record; X, Y : T; begin X := Y; X := 1; end Main;", 30, 1, 136),
-    # components of these types are run, in objects of controlled types, where their defaults are constants; others are left out at their type,
-    # but where no object has that type
+    # components of these types are run, in objects of controlled types, whatever their defaults are
     (
         CONTROLLED + "type T is new Controlled with record N : Integer; B : Boolean; end record; X : T; begin X.N := 1; X.B := X.N = 1; end Main;",
         ACCEPTED,
@@ -241,8 +240,10 @@ TEXTS = [
     ),
     (CONTROLLED + "type T is new Controlled with record N : Integer := 1; B : Boolean := True; end record; X : T; begin null; end Main;", ACCEPTED, 1, 1),
     (CONTROLLED + "type T is new Controlled with record N : Integer := 1 + 1; end record; begin null; end Main;", ACCEPTED, 1, 1),
-    (CONTROLLED + "type T is new Controlled with record N : Integer := 1 + 1; end record; X : T; begin null; end Main;", 12, 1, 64),
-    (CONTROLLED + "K : Integer; type T is new Controlled with record N : Integer := K; end record; X : T; begin null; end Main;", 12, 1, 77),
+    (CONTROLLED + "type T is new Controlled with record N : Integer := 1 + 1; end record; X : T; begin null; end Main;", ACCEPTED, 1, 1),
+    (CONTROLLED + "K : Integer; type T is new Controlled with record N : Integer := K; end record; X : T; begin null; end Main;", ACCEPTED, 1, 1),
+    # where a default is of a record type the type has no objects
+    (CONTROLLED + "type P is record N : Integer; end record; Q : P; type T is record C : P := Q; end record; begin null; end Main;", ACCEPTED, 1, 1),
     (CONTROLLED + "type T is new Controlled with record N : Integer := True; end record; X : T; begin null; end Main;", 30, 1, 116),
     (
         CONTROLLED

@@ -6,7 +6,7 @@ use Rattle.ctl_program.specs.declared.types.Ty.TheVariants.{Integer}
 use Rattle.ctl_meaning.specs.Finalization.{Spot}
 use Rattle.ctl_code.specs.declared.code.Code.{Code}
 use Rattle.ctl_code.specs.declared.kinds.Kind.{Kind}
-use Rattle.ctl_code.specs.declared.kinds.Kind.TheVariants.{Operand, RecordValue, Block, Body}
+use Rattle.ctl_code.specs.declared.kinds.Kind.TheVariants.{Operand, RecordValue, Block, Body, Default}
 use Rattle.ctl_code.specs.States.{Word, Scalar, Located, Cells, Frame, cells_of, worth}
 use Rattle.ctl_code.specs.Table.{keeping, with_values}
 use Rattle.ctl_code.specs.Valid.{HaveOperands}
@@ -105,9 +105,11 @@ kept_scalars code zero (Operand t ∷ []) k ops h first second s = absurd h
 kept_scalars code zero (Operand t ∷ RecordValue ∷ stack) k ops h first second s = absurd h
 kept_scalars code zero (Operand t ∷ Block slots ∷ stack) k ops h first second s = absurd h
 kept_scalars code zero (Operand t ∷ Body level slots number ∷ stack) k ops h first second s = absurd h
+kept_scalars code zero (Operand t ∷ Default level number ∷ stack) k ops h first second s = absurd h
 kept_scalars code (suc n) (Operand t ∷ stack) k (x ∷ ops) h first second s = kept_scalars code n stack k ops h first second s.1
 kept_scalars code (suc n) (Operand t ∷ stack) k [] h first second s = absurd s
 kept_scalars code n [] k ops h first second s = absurd h
 kept_scalars code n (RecordValue ∷ stack) k ops h first second s = absurd h
 kept_scalars code n (Block slots ∷ stack) k ops h first second s = absurd h
 kept_scalars code n (Body level slots number ∷ stack) k ops h first second s = absurd h
+kept_scalars code n (Default level number ∷ stack) k ops h first second s = absurd h

@@ -3,7 +3,7 @@ use Rattle.std.proofs.Common.{◌≡◌, ℕ, zero, suc, ◌+◌, ◌<◌, List,
 use Rattle.std.specs.Prelude.{drop}
 use Rattle.ctl_program.specs.declared.types.Ty.TheVariants.{Integer, Count, Boolean, Address, Handle, Access, Record}
 use Rattle.ctl_code.specs.declared.kinds.Kind.{Kind}
-use Rattle.ctl_code.specs.declared.kinds.Kind.TheVariants.{Operand, RecordValue, Block, Body}
+use Rattle.ctl_code.specs.declared.kinds.Kind.TheVariants.{Operand, RecordValue, Block, Body, Default}
 use Rattle.ctl_code.specs.Valid.{HaveNumbers, over_numbers}
 
 -- where so many stand on top, each of them is one
@@ -13,6 +13,7 @@ number_at (suc n) i [] lt h = absurd h
 number_at (suc n) i (RecordValue ∷ stack) lt h = absurd h
 number_at (suc n) i (Block slots ∷ stack) lt h = absurd h
 number_at (suc n) i (Body level slots number ∷ stack) lt h = absurd h
+number_at (suc n) i (Default level number ∷ stack) lt h = absurd h
 number_at (suc n) i (Operand Count ∷ stack) lt h = absurd h
 number_at (suc n) i (Operand Boolean ∷ stack) lt h = absurd h
 number_at (suc n) i (Operand Address ∷ stack) lt h = absurd h
@@ -29,6 +30,7 @@ one_number (suc n) [] rest h e = absurd h
 one_number (suc n) (RecordValue ∷ stack) rest h e = absurd h
 one_number (suc n) (Block slots ∷ stack) rest h e = absurd h
 one_number (suc n) (Body level slots number ∷ stack) rest h e = absurd h
+one_number (suc n) (Default level number ∷ stack) rest h e = absurd h
 one_number (suc n) (Operand Count ∷ stack) rest h e = absurd h
 one_number (suc n) (Operand Boolean ∷ stack) rest h e = absurd h
 one_number (suc n) (Operand Address ∷ stack) rest h e = absurd h
@@ -56,6 +58,7 @@ over_below (suc n) [] below h e = absurd h
 over_below (suc n) (RecordValue ∷ stack) below h e = absurd h
 over_below (suc n) (Block slots ∷ stack) below h e = absurd h
 over_below (suc n) (Body level slots number ∷ stack) below h e = absurd h
+over_below (suc n) (Default level number ∷ stack) below h e = absurd h
 over_below (suc n) (Operand Count ∷ stack) below h e = absurd h
 over_below (suc n) (Operand Boolean ∷ stack) below h e = absurd h
 over_below (suc n) (Operand Address ∷ stack) below h e = absurd h

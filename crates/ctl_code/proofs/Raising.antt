@@ -1,25 +1,26 @@
 -- The least numbers of slots of the masters around declarations: what is raised is no greater than it has to be, and where nothing is raised
 -- all is as it should be.
-use Rattle.std.proofs.Common.{◌≡◌, ℕ, zero, suc, ◌+◌, ◌-◌, ◌<◌, ◌≤◌, List, [], ◌∷◌, length, Option, Some, None, Bool, true, false, refl, sym, ap, ◌∙◌, subst, arith}
-use Rattle.std.specs.Prelude.{◌||◌, if◌then◌else◌, nat_eq, nat_lt, slice_get}
-use Rattle.std.proofs.lemmas.Bool.{eq-eqb, ltb-true, ltb-false}
+use Rattle.std.proofs.Common.{◌≡◌, ℕ, zero, suc, ◌+◌, ◌<◌, ◌≤◌, List, [], ◌∷◌, length, Option, Some, None, Bool, true, false, refl, sym, ap, ◌∙◌, subst, arith}
+use Rattle.std.specs.Prelude.{◌||◌, nat_lt, slice_get}
+use Rattle.std.proofs.lemmas.Bool.{ltb-true, ltb-false}
 use Rattle.std.proofs.lemmas.Option.{slice_get_within}
 use Rattle.ctl_code.specs.declared.code.Begun.{Begun}
 use Rattle.ctl_code.specs.declared.code.Code.{Code}
+use Rattle.ctl_code.specs.declared.code.Initial.TheVariants.{Computed}
 use Rattle.ctl_code.specs.declared.code.Instr.{Instr}
-use Rattle.ctl_code.specs.declared.code.Instr.TheVariants.{Call, CopyBack, Evaluate, EvaluateRecord, Declare, DeclareCopy, DeclarePool, Gather, New, NewCopy, TakeBlock, Free, FreePart, Fetch, Store, FetchPart, Locate, Designate, Assign}
+use Rattle.ctl_code.specs.declared.code.Instr.TheVariants.{Call, CopyBack, Evaluate, EvaluateRecord, Declare, DeclareCopy, DeclarePool, New, NewCopy, TakeBlock, Free, FreePart, Fetch, Store, FetchPart, Locate, Designate, Assign}
 use Rattle.ctl_code.specs.declared.code.Layout.{Layout}
 use Rattle.ctl_code.specs.declared.code.Operations.{Operations}
 use Rattle.ctl_code.specs.declared.homes.Declaration.{Declaration}
+use Rattle.ctl_code.specs.declared.homes.Declaration.TheVariants.{Record}
 use Rattle.ctl_code.specs.declared.kinds.Kind.{Kind}
-use Rattle.ctl_code.specs.declared.kinds.Kind.TheVariants.{Operand, RecordValue, Block, Body}
-use Rattle.ctl_code.specs.declared.kinds.MasterAt.{MasterAt}
-use Rattle.ctl_code.specs.declared.kinds.MasterAt.TheVariants.{Entered, Around}
+use Rattle.ctl_code.specs.declared.kinds.Kind.TheVariants.{Default}
 use Rattle.ctl_code.specs.Demands.{AreAround, AreFine, IsAround, IsFineAt, IsMet, demand_of, place_of, with_counts}
 use Rattle.ctl_code.specs.Homes.{Below, Raises}
+use Rattle.ctl_code.specs.Table.{default_of}
 use Rattle.ctl_code.specs.Kinds.{or_empty, stack_at}
 use Rattle.ctl_code.specs.Valid.{AreInitialsWithin, AreOperationsWithin, IsFine, IsInitialWithin, IsLaid, IsOperationWithin, IsValid, kinds_at}
-use Rattle.ctl_code.specs.Windows.{Counts, HasHome, HasSlot, IsWithin, depth, master_at, said, slots_at, slots_of}
+use Rattle.ctl_code.specs.Windows.{Counts, HasHome, IsWithin, said, slots_at}
 
 -- Raising ----------------------------------------------------------------------------------------
 
@@ -95,45 +96,6 @@ within_raised outer of n old new a rest h = all_up_to (HasLevelOf outer of) n ol
 
 -- Instructions ------------------------------------------------------------------------------------
 
-same_number : (n : ℕ) → nat_eq n n ≡ true
-same_number n = eq-eqb n n refl
-
-not_less : (n : ℕ) → nat_lt n n ≡ false
-not_less n = by (nat_lt n n) refl
-  where
-    by : (b : Bool) → nat_lt n n ≡ b → b ≡ false
-    by true e = absurd (let less = ltb-true n n e in omega (arith, less))
-    by false e = refl
-
--- how many slots the newest master has
-abbrev pub newest_slots : List Kind → ℕ
-newest_slots [] = 0
-newest_slots (Operand ty ∷ s) = newest_slots s
-newest_slots (RecordValue ∷ s) = newest_slots s
-newest_slots (Block slots ∷ s) = slots
-newest_slots (Body own slots number ∷ s) = slots
-
--- it was entered
-pub newest_entered : (s : List Kind) → 0 < depth s → master_at s (depth s - 1 - 0) ≡ Entered (newest_slots s)
-newest_entered [] some = absurd (omega (arith, some))
-newest_entered (Operand ty ∷ s) some = newest_entered s some
-newest_entered (RecordValue ∷ s) some = newest_entered s some
-newest_entered (Block slots ∷ s) some =
-    let level : depth s + 1 - 1 - 0 ≡ depth s = omega arith in
-    ap (λ (l : ℕ). master_at (Block slots ∷ s) l) level ∙ ap (λ (b : Bool). if b then Entered slots else master_at s (depth s)) (same_number (depth s))
-newest_entered (Body own slots number ∷ s) some =
-    let level : own + 1 - 1 - 0 ≡ own = omega arith in
-    ap (λ (l : ℕ). master_at (Body own slots number ∷ s) l) level
-    ∙ ap (λ (b : Bool). if b then Around number else (if nat_eq own own then Entered slots else Entered 0)) (not_less own)
-    ∙ ap (λ (b : Bool). if b then Entered slots else Entered 0) (same_number own)
-
--- so whether it has a slot is not asked of these numbers
-pub newest_slot : (most c : Counts) (s : List Kind) (slot : ℕ) → HasSlot most s 0 slot → HasSlot c s 0 slot
-newest_slot most c s slot h =
-    let level = depth s - 1 - 0 in
-    let e = newest_entered s h.0 in
-    (h.0, subst (λ (m : MasterAt). slot < slots_of c m level) (sym e) (subst (λ (m : MasterAt). slot < slots_of most m level) e h.1))
-
 -- what an instruction asks is true where it is as it should be
 pub asks : (code : Code) (c : Counts) (place : ℕ) (i : Instr) (s : List Kind) → IsFine (with_counts c code) place i s → IsMet (with_counts c code) s (demand_of i)
 asks code c place (Call f count copies) s h = h.0.3
@@ -149,11 +111,11 @@ asks code c place (Free access out slot) s h = (h.0, h.3)
 asks code c place (FreePart access t position) s h = h.0
 asks code c place (CopyBack depth at out slot) s h = h.4
 asks code c place (TakeBlock t out slot) s h = h.1
-asks code c place (Fetch out slot ty to) s h = h.2
+asks code c place (Fetch v ty to) s h = h.2
 asks code c place (Store from ty out slot) s h = h.2
-asks code c place (FetchPart out slot t position ty to) s h = h.2
-asks code c place (Locate out slot t at) s h = h.2
-asks code c place (Designate out slot ty to) s h = h.2
+asks code c place (FetchPart v t position ty to) s h = h.2
+asks code c place (Locate v t at) s h = h.2
+asks code c place (Designate v ty to) s h = h.2
 asks code c place _ s h = tt
 
 -- and it is as it should be with other numbers that are as it asks
@@ -161,10 +123,9 @@ pub answered : (code : Code) (most c : Counts) (place : ℕ) (i : Instr) (s : Li
 answered code most c place (Call f count copies) s h met = ((h.0.0, h.0.1, h.0.2, met), h.1, h.2)
 answered code most c place (Evaluate f count ty at) s h met = (h.0, (h.1.0, h.1.1, h.1.2, met), h.2, h.3)
 answered code most c place (EvaluateRecord f count t at) s h met = ((h.0.0, h.0.1, h.0.2, met), h.1, h.2)
-answered code most c place (Declare slot t) s h met = (h.0, h.1, newest_slot most c s slot h.2, met)
-answered code most c place (DeclareCopy slot t) s h met = (h.0, h.1, newest_slot most c s slot h.2, met)
-answered code most c place (DeclarePool slot t order at) s h met = (h.0, h.1, newest_slot most c s slot h.2, met)
-answered code most c place (Gather access count) s h met = ((h.0.0, h.0.1, h.0.2, newest_slot most c s h.0.0.collection.slot h.0.3), h.1, h.2)
+answered code most c place (Declare slot t) s h met = (h.0, h.1, h.2, met)
+answered code most c place (DeclareCopy slot t) s h met = (h.0, h.1, h.2, met)
+answered code most c place (DeclarePool slot t order at) s h met = (h.0, h.1, h.2, met)
 answered code most c place (Assign t) s h met = (h.0, h.1, met)
 answered code most c place (New access of ty at) s h met = (h.0, h.1, h.2, h.3, h.4, met.0, met.1)
 answered code most c place (NewCopy access t ty at) s h met = (h.0, h.1, h.2, met.0, met.1)
@@ -172,11 +133,11 @@ answered code most c place (Free access out slot) s h met = (met.0, h.1, h.2, me
 answered code most c place (FreePart access t position) s h met = (met, h.1)
 answered code most c place (CopyBack depth at out slot) s h met = (h.0, h.1, h.2, h.3, met)
 answered code most c place (TakeBlock t out slot) s h met = (h.0, met)
-answered code most c place (Fetch out slot ty to) s h met = (h.0, h.1, met)
+answered code most c place (Fetch v ty to) s h met = (h.0, h.1, met)
 answered code most c place (Store from ty out slot) s h met = (h.0, h.1, met)
-answered code most c place (FetchPart out slot t position ty to) s h met = (h.0, h.1, met)
-answered code most c place (Locate out slot t at) s h met = (h.0, h.1, met)
-answered code most c place (Designate out slot ty to) s h met = (h.0, h.1, met)
+answered code most c place (FetchPart v t position ty to) s h met = (h.0, h.1, met)
+answered code most c place (Locate v t at) s h met = (h.0, h.1, met)
+answered code most c place (Designate v ty to) s h met = (h.0, h.1, met)
 answered code most c place _ s h met = h
 
 one_instr : (o : Option Instr) (x y : Instr) → o ≡ Some x → o ≡ Some y → x ≡ y
@@ -234,34 +195,46 @@ operations_raised code t o old new a found h =
     h
 
 -- the component at a place
-abbrev pub IsWithinAt : ℕ → List Begun → Counts → ℕ → Type 0
-IsWithinAt t xs c i = (x : Begun) → slice_get xs i ≡ Some x → IsInitialWithin c t x.initial
+abbrev pub IsWithinAt : Code → ℕ → List Begun → Counts → ℕ → Type 0
+IsWithinAt code t xs c i = (x : Begun) → slice_get xs i ≡ Some x → IsInitialWithin (with_counts c code) t (default_of code t x.position) x.initial
 
-each_within : (c : Counts) (t : ℕ) (xs : List Begun) → ((i : ℕ) → IsWithinAt t xs c i) → AreInitialsWithin c t xs
-each_within c t [] h = tt
-each_within c t (x ∷ xs) h = (h 0 x refl, each_within c t xs (λ i y e. h (suc i) y e))
+each_within : (code : Code) (c : Counts) (t : ℕ) (xs : List Begun) → ((i : ℕ) → IsWithinAt code t xs c i) → AreInitialsWithin (with_counts c code) t xs
+each_within code c t [] h = tt
+each_within code c t (x ∷ xs) h = (h 0 x refl, each_within code c t xs (λ i y e. h (suc i) y e))
 
-within_each : (c : Counts) (t : ℕ) (xs : List Begun) → AreInitialsWithin c t xs → (i : ℕ) → IsWithinAt t xs c i
-within_each c t [] h i x e = absurd (cc e)
-within_each c t (x ∷ xs) h zero y e = let same : x ≡ y = cc e in subst (λ (z : Begun). IsInitialWithin c t z.initial) same h.0
-within_each c t (x ∷ xs) h (suc i) y e = within_each c t xs h.1 i y e
+within_each : (code : Code) (c : Counts) (t : ℕ) (xs : List Begun) → AreInitialsWithin (with_counts c code) t xs → (i : ℕ) → IsWithinAt code t xs c i
+within_each code c t [] h i x e = absurd (cc e)
+within_each code c t (x ∷ xs) h zero y e = let same : x ≡ y = cc e in subst (λ (z : Begun). IsInitialWithin (with_counts c code) t (default_of code t z.position) z.initial) same h.0
+within_each code c t (x ∷ xs) h (suc i) y e = within_each code c t xs h.1 i y e
 
 one_begun : (o : Option Begun) (x y : Begun) → o ≡ Some x → o ≡ Some y → x ≡ y
 one_begun o x y e f = let same : Some x ≡ Some y = sym e ∙ f in cc same
 
-pub initial_raised : (t : ℕ) (xs : List Begun) (i : ℕ) (x : Begun) (old new : Counts) (a : Bool) → slice_get xs i ≡ Some x → Raises (λ c. IsInitialWithin c t x.initial) old new a → Raises (λ c. IsWithinAt t xs c i) old new a
-initial_raised t xs i x old new a found h =
-    raised_as (λ c. IsInitialWithin c t x.initial) (λ c. IsWithinAt t xs c i) old new a
+pub initial_raised : (code : Code) (t : ℕ) (xs : List Begun) (i : ℕ) (x : Begun) (old new : Counts) (a : Bool) → slice_get xs i ≡ Some x → Raises (λ c. IsInitialWithin (with_counts c code) t (default_of code t x.position) x.initial) old new a → Raises (λ c. IsWithinAt code t xs c i) old new a
+initial_raised code t xs i x old new a found h =
+    raised_as (λ c. IsInitialWithin (with_counts c code) t (default_of code t x.position) x.initial) (λ c. IsWithinAt code t xs c i) old new a
     (λ c below q. q x found)
-    (λ most below q p y there. subst (λ (z : Begun). IsInitialWithin old t z.initial) (one_begun (slice_get xs i) x y found there) p)
+    (λ most below q p y there. subst (λ (z : Begun). IsInitialWithin (with_counts old code) t (default_of code t z.position) z.initial) (one_begun (slice_get xs i) x y found there) p)
     h
 
-pub initials_raised : (t : ℕ) (xs : List Begun) (n : ℕ) (old new : Counts) (a : Bool) → length xs ≤ n → Raises (UpTo (IsWithinAt t xs) n) old new a → Raises (λ c. AreInitialsWithin c t xs) old new a
-initials_raised t xs n old new a all h =
-    raised_as (λ c. (i : ℕ) → IsWithinAt t xs c i) (λ c. AreInitialsWithin c t xs) old new a
-    (λ c below q. within_each c t xs q)
-    (λ most below q p. each_within old t xs p)
-    (all_up_to (IsWithinAt t xs) n old new a (λ i far x there. let within = slice_get_within xs i x there in absurd (omega (arith, within, far, all))) h)
+-- the type whose default is evaluated at a place
+pub one_default : (o : Option (List Kind)) (l m n i : ℕ) → o ≡ Some (Default l m ∷ []) → o ≡ Some (Default n i ∷ []) → m ≡ i
+one_default o l m n i e f = let same : Some (Default l m ∷ []) ≡ Some (Default n i ∷ []) = sym e ∙ f in cc same
+
+pub default_raised : (code : Code) (t place level number : ℕ) (old new : Counts) (a : Bool) → kinds_at code place ≡ Some (Default level number ∷ [])
+    → Raises (λ c. IsWithin c (Record t) (Record number)) old new a → Raises (λ c. IsInitialWithin (with_counts c code) t place Computed) old new a
+default_raised code t place level number old new a found h =
+    raised_as (λ c. IsWithin c (Record t) (Record number)) (λ c. IsInitialWithin (with_counts c code) t place Computed) old new a
+    (λ c below q. q level number found)
+    (λ most below q p l n there. subst (λ m. IsWithin old (Record t) (Record m)) (one_default (kinds_at code place) level number l n found there) p)
+    h
+
+pub initials_raised : (code : Code) (t : ℕ) (xs : List Begun) (n : ℕ) (old new : Counts) (a : Bool) → length xs ≤ n → Raises (UpTo (IsWithinAt code t xs) n) old new a → Raises (λ c. AreInitialsWithin (with_counts c code) t xs) old new a
+initials_raised code t xs n old new a all h =
+    raised_as (λ c. (i : ℕ) → IsWithinAt code t xs c i) (λ c. AreInitialsWithin (with_counts c code) t xs) old new a
+    (λ c below q. within_each code c t xs q)
+    (λ most below q p. each_within code old t xs p)
+    (all_up_to (IsWithinAt code t xs) n old new a (λ i far x there. let within = slice_get_within xs i x there in absurd (omega (arith, within, far, all))) h)
 
 -- the record type of a number
 abbrev pub IsAroundAt : Code → Counts → ℕ → Type 0
@@ -287,6 +260,7 @@ laid_with code most c t x h around = record {
   operations = h.operations;
   storage = h.storage;
   types = h.types;
+  defaults = h.defaults;
   units = h.units;
   rise = h.rise;
   controlled = h.controlled;

@@ -17,7 +17,7 @@ use Rattle.ctl_meaning.specs.Finalization.{Spot, is_whole}
 use Rattle.ctl_meaning.specs.Outcome.{ByRaise, Tried, Fine, Raised}
 use Rattle.ctl_code.specs.declared.code.Begun.{Begun}
 use Rattle.ctl_code.specs.declared.code.Initial.{Initial}
-use Rattle.ctl_code.specs.declared.code.Initial.TheVariants.{Constant, ByType}
+use Rattle.ctl_code.specs.declared.code.Initial.TheVariants.{Constant, ByType, Computed}
 use Rattle.ctl_code.specs.declared.code.Parts.{Parts}
 use Rattle.ctl_code.specs.declared.code.Parts.TheVariants as PartsOf
 use Rattle.ctl_code.specs.declared.code.Entry.{Entry}
@@ -82,6 +82,7 @@ small_own_finalize code (Raised e) cause s ty k w = small_own_failed code cause 
 small_component : (code : Code) (cause : Cause) (s : Spot) (x : Begun) (initial : Initial) (k : List Frame) (w : World) → Small w (finalize_component code cause s x initial k w)
 small_component code cause s x (Constant v) k w = same_world w _ (omega arith) refl refl refl
 small_component code cause s x (ByType t) k w = small_finalize_part code (parts_of code t) cause (component_of s x.offset x.position) t k w
+small_component code cause s x Computed k w = same_world w _ (omega arith) refl refl refl
 
 pub small_finalizing_parts : (code : Code) (t : Tried Handed) (cause : Cause) (s : Spot) (left : List Begun) (failed : Bool) (pick : ℕ) (k : List Frame) (w : World) → Small w (by_finalizing_parts code t cause s left failed pick k w)
 small_finalizing_parts code (Raised e) cause s left failed pick k w = same_world w _ (omega arith) refl refl refl
@@ -119,6 +120,7 @@ small_adjust_left code creation s t (x ∷ xs) failed k w = same_world w _ (omeg
 small_adjust_component : (code : Code) (creation : Option Owner) (s : Spot) (x : Begun) (initial : Initial) (failed : Bool) (k : List Frame) (w : World) → Small w (adjust_component code creation s x initial failed k w)
 small_adjust_component code creation s x (Constant v) failed k w = same_world w _ (omega arith) refl refl refl
 small_adjust_component code creation s x (ByType t) failed k w = small_adjust_left code creation (component_of s x.offset x.position) t (controlled_of code t) failed k w
+small_adjust_component code creation s x Computed failed k w = same_world w _ (omega arith) refl refl refl
 
 pub small_adjusting : (code : Code) (t : Tried Handed) (creation : Option Owner) (s : Spot) (ty : ℕ) (left : List Begun) (pick : ℕ) (k : List Frame) (w : World) → Small w (by_adjusting code t creation s ty left pick k w)
 small_adjusting code (Raised e) creation s ty left pick k w = same_world w _ (omega arith) refl refl refl
@@ -156,6 +158,7 @@ small_undo_part code PartsOf.Plain s t k w = same_world w _ (omega arith) refl r
 small_undo_component : (code : Code) (s : Spot) (x : Begun) (initial : Initial) (k : List Frame) (w : World) → Small w (undo_component code s x initial k w)
 small_undo_component code s x (Constant v) k w = same_world w _ (omega arith) refl refl refl
 small_undo_component code s x (ByType t) k w = small_undo_part code (parts_of code t) (component_of s x.offset x.position) t k w
+small_undo_component code s x Computed k w = same_world w _ (omega arith) refl refl refl
 
 pub small_undoing_parts : (code : Code) (t : Tried Handed) (s : Spot) (left : List Begun) (pick : ℕ) (k : List Frame) (w : World) → Small w (by_undoing_parts code t s left pick k w)
 small_undoing_parts code (Raised e) s left pick k w = same_world w _ (omega arith) refl refl refl
@@ -188,6 +191,7 @@ small_default x offset v rest (Some o) k w = same_world w _ (omega arith) refl r
 small_begin : (code : Code) (x : Newborn) (b : Begun) (initial : Initial) (rest before : List Begun) (k : List Frame) (w : World) → Small w (begin_component code x b initial rest before k w)
 small_begin code x b (Constant v) rest before k w = small_default x b.offset v rest (object_at x.spot.object w) k w
 small_begin code x b (ByType t) rest before k w = same_world w _ (omega arith) refl refl refl
+small_begin code x b Computed rest before k w = same_world w _ (omega arith) refl refl refl
 
 small_initialize_by : (code : Code) (f : Option ℕ) (x : Newborn) (o : Option Object) (k : List Frame) (w : World) → Small w (initialize_by code f x o k w)
 small_initialize_by code f x None k w = same_world w _ (omega arith) refl refl refl

@@ -10,7 +10,7 @@ use Rattle.ctl_code.specs.declared.kinds.Kind.{Kind}
 use Rattle.ctl_code.specs.declared.least.Demand.{Demand}
 use Rattle.ctl_code.specs.declared.least.Demand.TheVariants as DemandOf
 use Rattle.ctl_code.specs.Kinds.{stack_at}
-use Rattle.ctl_code.specs.Valid.{AreInitialsWithin, AreOperationsWithin, HasCollection, IsFine}
+use Rattle.ctl_code.specs.Valid.{AreInitialsWithin, AreOperationsWithin, HasCollection, HasVariable, IsFine}
 use Rattle.ctl_code.specs.Windows.{Counts, HasHome, HasHomeOf, HasSlot}
 
 -- what code says with these numbers
@@ -32,17 +32,18 @@ demand_of (Free access out slot) = DemandOf.Freed access out slot
 demand_of (FreePart access t position) = DemandOf.Collection access
 demand_of (CopyBack depth at out slot) = DemandOf.Slot out slot
 demand_of (TakeBlock t out slot) = DemandOf.Slot out slot
-demand_of (Fetch out slot ty to) = DemandOf.Slot out slot
+demand_of (Fetch v ty to) = DemandOf.Variable v
 demand_of (Store from ty out slot) = DemandOf.Slot out slot
-demand_of (FetchPart out slot t position ty to) = DemandOf.Slot out slot
-demand_of (Locate out slot t at) = DemandOf.Slot out slot
-demand_of (Designate out slot ty to) = DemandOf.Slot out slot
+demand_of (FetchPart v t position ty to) = DemandOf.Variable v
+demand_of (Locate v t at) = DemandOf.Variable v
+demand_of (Designate v ty to) = DemandOf.Variable v
 demand_of _ = DemandOf.Nothing
 
 -- and whether they are as it asks, where this stands in the window
 abbrev pub IsMet : Code → List Kind → Demand → Type 0
 IsMet code stack DemandOf.Nothing = Unit {0}
 IsMet code stack (DemandOf.Slot out slot) = HasSlot code.homes stack out slot
+IsMet code stack (DemandOf.Variable v) = HasVariable code.homes stack v
 IsMet code stack (DemandOf.Home of) = HasHome code.homes stack of
 IsMet code stack (DemandOf.Collection access) = HasCollection code stack access
 IsMet code stack (DemandOf.Allocated access of) = HasCollection code stack access × HasHomeOf code.homes stack of
@@ -60,9 +61,9 @@ abbrev pub place_of : Bool → ℕ → ℕ → ℕ
 place_of true count number = count - 1 - number
 place_of false count number = number
 
--- the masters around its operations and the types of its components stand around each record type
+-- the masters around its operations, the types of its components and those from which it has defaults stand around each record type
 abbrev pub IsAround : Code → ℕ → Layout → Type 0
-IsAround code t x = AreOperationsWithin code t × AreInitialsWithin code.homes t x.begun.items
+IsAround code t x = AreOperationsWithin code t × AreInitialsWithin code t x.begun.items
 
 abbrev pub AreAround : Code → Type 0
 AreAround code = (t : ℕ) (x : Layout) → slice_get code.layouts.items t ≡ Some x → IsAround code t x

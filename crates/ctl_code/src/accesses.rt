@@ -51,7 +51,7 @@ fn is_allocable(code: &Code, masters: usize, access: usize, of: Ty) -> bool
 }
 
 /// Tells whether the master of a variable stands around an instruction, and has its slot (RM 7.6.1).
-fn has_variable(code: &Code, place: usize, variable: Var) -> bool
+pub(crate) fn has_variable(code: &Code, place: usize, variable: Var) -> bool
     ensures { IsTrue result ↔ HasVariable code.now.homes (stack_at code.now.kinds place) variable }
 {
     let depth = code.kinds.depth_at(place);
@@ -92,9 +92,7 @@ fn is_gathered(code: &Code, place: usize, access: usize) -> bool
     match code.accesses.get(access) {
         Some(home) => {
             home.collection.level == code.kinds.depth_at(place)
-                && code
-                    .kinds
-                    .has_slot(place, 0, home.collection.slot, &code.homes)
+                && code.kinds.owns_slot(place, home.collection.slot)
         }
         None => false,
     }

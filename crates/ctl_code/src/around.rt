@@ -7,6 +7,7 @@ ghost use Rattle.ctl_code.specs.Windows.{HasHome, HasHomeOf, IsWithin};
 
 use crate::code::{Code, Initial, Layout};
 use crate::homes::Declaration;
+use crate::layouts::default_of;
 use ctl_program::types::Ty;
 
 /// Tells whether each master around a declaration stands around an instruction with as many slots.
@@ -73,12 +74,21 @@ pub(crate) fn are_operations_within(code: &Code, number: usize) -> bool
     }
 }
 
-/// Tells whether the masters around the type of a component, if that is a record type, stand around the record type of a number.
-fn is_initial_within(code: &Code, number: usize, initial: Initial) -> bool
-    ensures { IsTrue result ↔ IsInitialWithin code.now.homes number initial }
+/// Tells whether the masters around the type of a component, if that is a record type, stand around the record type of a number; and those
+/// around the type from which it has the default that is evaluated at a place.
+fn is_initial_within(code: &Code, number: usize, place: usize, initial: Initial) -> bool
+    ensures { IsTrue result ↔ IsInitialWithin code.now number place initial }
 {
     match initial {
         Initial::Constant(_) => true,
+        Initial::Computed => match code.kinds.default_at(place) {
+            Some(other) => is_within(
+                code,
+                Declaration::Record(number),
+                Declaration::Record(other),
+            ),
+            None => true,
+        },
         Initial::ByType(other) => is_within(
             code,
             Declaration::Record(number),
@@ -89,10 +99,11 @@ fn is_initial_within(code: &Code, number: usize, initial: Initial) -> bool
 
 /// Tells whether the masters around the types of its components that begin with something stand around a record type.
 pub(crate) fn are_initials_within(code: &Code, number: usize, layout: &Layout) -> bool
-    ensures { IsTrue result ↔ AreInitialsWithin code.now.homes number layout.now.begun.items }
+    ensures { IsTrue result ↔ AreInitialsWithin code.now number layout.now.begun.items }
 {
     for component in &layout.begun {
-        if !is_initial_within(code, number, component.initial) {
+        let place = default_of(code, number, component.position);
+        if !is_initial_within(code, number, place, component.initial) {
             return false;
         }
     }

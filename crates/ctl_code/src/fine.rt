@@ -10,12 +10,12 @@ ghost use Rattle.ctl_code.specs.declared.code.Cell.{Cell};
 ghost use Rattle.ctl_code.specs.declared.code.Operator.{Operator};
 ghost use Rattle.ctl_code.specs.declared.code.Instr.TheVariants as I;
 ghost use Rattle.ctl_code.specs.Kinds.{changed, stack_at};
-ghost use Rattle.ctl_code.specs.Valid.{Bounded, DropsPart, IsAtEnd, IsDeclarable, IsEntry, IsFine, IsScalar, IsText, Leads, Puts, Taken, Takes, Under};
+ghost use Rattle.ctl_code.specs.Valid.{Bounded, DropsPart, IsAtEnd, IsDeclarable, IsEntry, IsFine, HasVariable, IsScalar, IsText, Leads, Puts, Taken, Takes, Under};
 ghost use Rattle.ctl_code.specs.declared.homes.Declaration.TheVariants as DeclarationOf;
-ghost use Rattle.ctl_code.specs.Windows.{HasHome, HasSlot, depth, height, variable_at};
+ghost use Rattle.ctl_code.specs.Windows.{HasHome, HasSlot, OwnsSlot, depth, height, variable_at};
 
 use crate::accesses::{
-    is_free_fine, is_free_part_fine, is_gather_fine, is_given_fine, is_new_copy_fine,
+    has_variable, is_free_fine, is_free_part_fine, is_gather_fine, is_given_fine, is_new_copy_fine,
     is_new_copy_in_fine, is_new_fine, is_new_in_fine,
 };
 use crate::around::has_home;
@@ -30,7 +30,7 @@ use crate::kinds::{Kind, is_same_kind};
 use crate::layouts::is_declarable;
 use crate::pools::{is_giving_fine, is_pool_fine, is_taking_fine, is_taking_into_fine};
 use crate::types::{is_binary_of, is_cell_of, is_scalar, is_unary_of};
-use ctl_program::types::Ty;
+use ctl_program::types::{Ty, Var};
 
 // Where an instruction leads -------------------------------------------------------------------
 
@@ -495,7 +495,7 @@ fn is_declare_fine(code: &Code, place: usize, slot: usize, number: usize) -> boo
 {
     is_declarable(code, code.kinds.depth_at(place), number)
         && leads_on(code, place, 0, None)
-        && code.kinds.has_slot(place, 0, slot, &code.homes)
+        && code.kinds.owns_slot(place, slot)
         && has_home(code, place, Declaration::Record(number))
 }
 
@@ -506,19 +506,17 @@ fn is_copy_fine(code: &Code, place: usize, slot: usize, number: usize) -> bool
 {
     is_declarable(code, code.kinds.depth_at(place), number)
         && drops_part(code, place, 0, number)
-        && code.kinds.has_slot(place, 0, slot, &code.homes)
+        && code.kinds.owns_slot(place, slot)
         && has_home(code, place, Declaration::Record(number))
 }
 
 /// Checks that the value of a variable, whose master may stand around the body, that of a component of the object in such a slot, or an
 /// access value of this object is put (RM 4.1, 4.1.3, 3.10.2).
-fn is_fetch_fine(code: &Code, place: usize, out: usize, slot: usize, ty: Ty, to: Cell) -> bool
+fn is_fetch_fine(code: &Code, place: usize, variable: Var, ty: Ty, to: Cell) -> bool
     requires { place + 1 < 2 ^ 64 }
-    ensures { let stack = stack_at code.now.kinds place in IsTrue result ↔ (IsScalar ty × Puts code.now place to ty stack × HasSlot code.now.homes stack out slot) }
+    ensures { let stack = stack_at code.now.kinds place in IsTrue result ↔ (IsScalar ty × Puts code.now place to ty stack × HasVariable code.now.homes stack variable) }
 {
-    is_scalar(ty)
-        && puts(code, place, 0, to, ty)
-        && code.kinds.has_slot(place, out, slot, &code.homes)
+    is_scalar(ty) && puts(code, place, 0, to, ty) && has_variable(code, place, variable)
 }
 
 /// Checks that such a variable takes a value (RM 5.2).
@@ -532,19 +530,11 @@ fn is_store_fine(code: &Code, place: usize, from: Cell, ty: Ty, out: usize, slot
 }
 
 /// Checks that the object in such a slot is put as a part of a record type, in this cell (RM 4.1).
-fn is_locate_fine(
-    code: &Code,
-    place: usize,
-    out: usize,
-    slot: usize,
-    record: usize,
-    at: usize,
-) -> bool
+fn is_locate_fine(code: &Code, place: usize, variable: Var, record: usize, at: usize) -> bool
     requires { place + 1 < 2 ^ 64 }
-    ensures { IsTrue result ↔ IsFine code.now place (I.Locate out slot «record» at) (stack_at code.now.kinds place) }
+    ensures { IsTrue result ↔ IsFine code.now place (I.Locate variable «record» at) (stack_at code.now.kinds place) }
 {
-    puts_operand(code, place, 0, at, Ty::Record(record))
-        && code.kinds.has_slot(place, out, slot, &code.homes)
+    puts_operand(code, place, 0, at, Ty::Record(record)) && has_variable(code, place, variable)
 }
 
 /// Checks the assignment of the value of one part to another (RM 5.2).
@@ -701,22 +691,20 @@ pub fn is_fine(code: &Code, place: usize, instr: &Instr) -> bool
         Instr::Number | Instr::NewLine => leads_on(code, place, 0, None),
         Instr::Set { value, ty, to } => is_cell_of(ty, value) && puts(code, place, 0, to, ty),
         Instr::Move { from, ty, to } => is_scalar(ty) && passes(code, place, 0, from, ty, to, ty),
-        Instr::Fetch { out, slot, ty, to }
+        Instr::Fetch { variable, ty, to }
         | Instr::FetchPart {
-            out,
-            slot,
+            variable,
             record: _,
             position: _,
             ty,
             to,
         }
-        | Instr::Designate { out, slot, ty, to } => is_fetch_fine(code, place, out, slot, ty, to),
+        | Instr::Designate { variable, ty, to } => is_fetch_fine(code, place, variable, ty, to),
         Instr::Locate {
-            out,
-            slot,
+            variable,
             record,
             at,
-        } => is_locate_fine(code, place, out, slot, record, at),
+        } => is_locate_fine(code, place, variable, record, at),
         Instr::Select { record, part, .. } => selects(code, place, record, part),
         Instr::TakePart { record, ty, to, .. } => is_scalar(ty)
             && takes_part(code, place, record, ty, to),

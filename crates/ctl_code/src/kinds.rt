@@ -2,9 +2,10 @@
 
 ghost use Rattle.std.specs.Prelude.{◌≡◌, ◌↔◌, ℕ, ◌<◌, ◌≤◌, [], ◌∷◌, ◌++◌, drop, length, reverse, slice_get, IsTrue, OnOk, MatchOption, List, Some};
 ghost use Rattle.ctl_code.specs.declared.kinds.Kind.{Kind};
+ghost use Rattle.ctl_code.specs.declared.kinds.Kind.TheVariants.{Default};
 ghost use Rattle.ctl_code.specs.Kinds.{below_newest, changed, stack_at, stack_in, stacks_in};
 ghost use Rattle.ctl_code.specs.Valid.{HaveNumbers, images_of, over_numbers};
-ghost use Rattle.ctl_code.specs.Windows.{HasSlot, depth, height, master_at, slots_at, variable_at};
+ghost use Rattle.ctl_code.specs.Windows.{HasSlot, OwnsSlot, depth, height, master_at, slots_at, variable_at};
 
 use crate::homes::{Declaration, Homes};
 use crate::images::has_images_on;
@@ -30,14 +31,20 @@ pub enum Kind {
         slots: usize,
         number: usize,
     },
+    /// a default expression that is evaluated: how many masters stand around the declaration of the record type that has the component, and
+    /// the number of this type (RM 3.8)
+    Default {
+        level: usize,
+        number: usize,
+    },
 }
 
 /// Where it is said how many slots a master has that stands around an instruction: the body has entered it, with so many, or it stands
-/// around the declaration of the body of this number (RM 6.1, 3.10.2).
+/// around this declaration, that of the body or that of the record type whose default is evaluated (RM 6.1, 3.8, 3.10.2).
 #[derive(Clone, Copy)]
 pub enum MasterAt {
     Entered(usize),
-    Around(usize),
+    Around(Declaration),
 }
 
 /// Tells whether both are one kind.
@@ -54,6 +61,9 @@ pub fn is_same_kind(left: Kind, right: Kind) -> bool
             number,
         } => {
             matches!(right, Kind::Body { level: other, slots: others, number: of_other } if other == level && others == slots && of_other == number)
+        }
+        Kind::Default { level, number } => {
+            matches!(right, Kind::Default { level: other, number: of_other } if other == level && of_other == number)
         }
     }
 }
@@ -184,7 +194,7 @@ impl Kinds {
     {
         match self.master_at(place, level) {
             MasterAt::Entered(slots) => slots,
-            MasterAt::Around(number) => homes.at(Declaration::Subprogram(number), level),
+            MasterAt::Around(of) => homes.at(of, level),
         }
     }
 
@@ -194,6 +204,43 @@ impl Kinds {
     {
         let depth = self.depth_at(place);
         out < depth && slot < self.slots_at(place, depth - 1 - out, homes)
+    }
+
+    /// Tells whether a default expression begins to be evaluated at a place, where at most so many masters stand around (RM 3.8).
+    pub fn is_default(&self, place: usize, masters: usize) -> bool
+        ensures { IsTrue result ↔ ((level : ℕ) × (number : ℕ) × (level ≤ masters) × (slice_get self.now place ≡ Some (Default level number ∷ []))) }
+    {
+        match self.before.get(place) {
+            Some(stack) => match self.stacks.top(*stack) {
+                Some((Kind::Default { level, .. }, below)) => level <= masters
+                    && self.stacks.top(below).is_none(),
+                _ => false,
+            },
+            None => false,
+        }
+    }
+
+    /// Answers the number of the record type whose default expression begins to be evaluated at a place; None where none does (RM 3.8).
+    pub fn default_at(&self, place: usize) -> Option<usize>
+        ensures { MatchOption result ((level number : ℕ) → slice_get self.now place ≡ Some (Default level number ∷ []) → ⊥) (λ number. (level : ℕ) × (slice_get self.now place ≡ Some (Default level number ∷ []))) }
+    {
+        match self.before.get(place) {
+            Some(stack) => match self.stacks.top(*stack) {
+                Some((Kind::Default { number, .. }, below)) if self.stacks.top(below).is_none() => {
+                    Some(number)
+                }
+                _ => None,
+            },
+            None => None,
+        }
+    }
+
+    /// Tells whether the newest master around the instruction at a place has this slot, and the body has entered it.
+    pub fn owns_slot(&self, place: usize, slot: usize) -> bool
+        ensures { IsTrue result ↔ OwnsSlot (stack_at self.now place) slot }
+    {
+        let stack = number_under(&self.stacks, self.before.as_slice(), place, 0);
+        self.stacks.owns_slot(stack, slot)
     }
 
     /// Answers how many masters stand around the instruction at a place.

@@ -1,13 +1,13 @@
 //! Whether record types are laid out well: their operations and the types of their components are in scope where they are, and those
 //! components that are finalized are told apart.
 
-ghost use Rattle.std.specs.Prelude.{◌≡◌, ◌↔◌, ℕ, ◌<◌, ◌≤◌, ◌*◌, [], ◌∷◌, length, slice_get, IfSome, IsNone, IsTrue, List, Some, if◌then◌else◌};
-ghost use Rattle.ctl_meaning.specs.Lists.{keep};
+ghost use Rattle.std.specs.Prelude.{◌≡◌, ◌↔◌, ℕ, ◌<◌, ◌≤◌, ◌*◌, ◌-◌, [], ◌∷◌, length, slice_get, IfSome, IsNone, IsTrue, List, Some, if◌then◌else◌};
+ghost use Rattle.ctl_meaning.specs.Lists.{item_or, keep};
 ghost use Rattle.ctl_code.specs.declared.code.Begun.{Begun as BegunOf};
 ghost use Rattle.ctl_code.specs.declared.code.Layout.{Layout as LayoutOf};
 ghost use Rattle.ctl_code.specs.Table as Table;
 ghost use Rattle.ctl_code.specs.Valid as valid;
-ghost use Rattle.ctl_code.specs.Valid.{AreBegunBy, AreInScope, IsBegunBy, IsDeclarable, IsInScope, IsLaid, IsStorageInScope, PositionsRise, told_before};
+ghost use Rattle.ctl_code.specs.Valid.{AreBegunBy, AreEvaluated, AreInScope, IsEvaluatedAt, IsBegunBy, IsDeclarable, IsInScope, IsLaid, IsStorageInScope, PositionsRise, told_before};
 
 use crate::around::{are_initials_within, are_operations_within};
 use crate::code::{Begun, Code, Initial, Layout, Parts};
@@ -45,6 +45,7 @@ fn is_begun_by(code: &Code, masters: usize, initial: Initial) -> bool
     match initial {
         Initial::Constant(_) => true,
         Initial::ByType(number) => is_declarable(code, masters, number),
+        Initial::Computed => true,
     }
 }
 
@@ -54,6 +55,53 @@ fn are_begun_by(code: &Code, layout: &Layout) -> bool
 {
     for component in &layout.begun {
         if !is_begun_by(code, layout.level, component.initial) {
+            return false;
+        }
+    }
+    true
+}
+
+/// Answers the place of this position, which counts from 1; 0 where there is none.
+#[tactic(auto, unfolding(ctl_meaning::specs::Lists::item_or))]
+fn place_at(places: &[usize], position: usize) -> usize
+    ensures { result ≡ item_or 0 (slice_get places.now (position - 1)) }
+{
+    match places.get(position.saturating_sub(1)) {
+        Some(place) => *place,
+        None => 0,
+    }
+}
+
+/// Answers the place of the code that evaluates the default of the component at a position of a record type; 0 where there is none.
+pub(crate) fn default_of(code: &Code, number: usize, position: usize) -> usize
+    ensures { result ≡ Table.default_of code.now number position }
+{
+    match code.defaults.get(number) {
+        Some(row) => place_at(row.places.as_slice(), position),
+        None => 0,
+    }
+}
+
+/// Tells whether the default expression of a component of a record type is evaluated where the table says, with some of so many masters
+/// around, or it has none that is (RM 3.8).
+fn is_evaluated(code: &Code, masters: usize, number: usize, component: Begun) -> bool
+    ensures { IsTrue result ↔ IsEvaluatedAt code.now masters (Table.default_of code.now number component.position) component.initial }
+{
+    match component.initial {
+        Initial::Computed => {
+            code.kinds
+                .is_default(default_of(code, number, component.position), masters)
+        }
+        _ => true,
+    }
+}
+
+/// Tells whether the defaults of the components of a record type are evaluated where the table says (RM 3.8).
+fn are_evaluated(code: &Code, number: usize, layout: &Layout) -> bool
+    ensures { IsTrue result ↔ AreEvaluated code.now layout.now.level number layout.now.begun.items }
+{
+    for component in &layout.begun {
+        if !is_evaluated(code, layout.level, number, *component) {
             return false;
         }
     }
@@ -89,7 +137,7 @@ fn is_finalized(code: &Code, initial: Initial) -> bool
     ensures { result ≡ valid.is_finalized code.now initial }
 {
     match initial {
-        Initial::Constant(_) => false,
+        Initial::Constant(_) | Initial::Computed => false,
         Initial::ByType(number) => !matches!(parts_of(code, number), Parts::Plain),
     }
 }
@@ -110,6 +158,7 @@ fn is_same_initial(initial: Initial, other: Initial) -> bool
     match (initial, other) {
         (Initial::Constant(value), Initial::Constant(of_other)) => value == of_other,
         (Initial::ByType(number), Initial::ByType(of_other)) => number == of_other,
+        (Initial::Computed, Initial::Computed) => true,
         _ => false,
     }
 }
@@ -191,6 +240,7 @@ fn is_laid(code: &Code, number: usize, layout: &Layout) -> bool
 {
     if !are_in_scope(code, layout.level, number)
         || !are_begun_by(code, layout)
+        || !are_evaluated(code, number, layout)
         || !has_units(layout)
         || !is_storage_in_scope(code, layout.level, number)
     {

@@ -3,6 +3,7 @@
 //! with as many slots, or nothing; a record type asks that of its operations and of the types of its components (RM 6.1, 3.10.2).
 
 ghost use Rattle.std.specs.Prelude.{◌≡◌, ◌<◌, ◌≤◌, ◌||◌, IfOk, length};
+ghost use Rattle.ctl_code.specs.declared.code.Initial.TheVariants.{Computed};
 ghost use Rattle.ctl_code.specs.Demands as spec;
 ghost use Rattle.ctl_code.specs.Demands.{AreAround, AreFine, IsAround, IsFineAt, IsMet, with_counts};
 ghost use Rattle.ctl_code.specs.Homes.{Raises};
@@ -13,11 +14,13 @@ ghost use Rattle.ctl_code.specs.Windows.{Counts, HasHome, HasHomeOf, HasSlot, Is
 use crate::code::{Code, Initial, Instr, Layout};
 use crate::homes::{Declaration, Homes};
 use crate::kinds::MasterAt;
+use crate::layouts::default_of;
 use ctl_program::types::{Ty, Var};
 use std::alloc::{AllocError, Global};
 
-/// What an instruction asks of the masters around its body: that the one so many further out has a slot, that those around a declaration stand
-/// there, that the collection of an access type and its pool have their slots, or two of these.
+/// What an instruction asks of the masters around its body, or around the record type whose default it evaluates: that the one so many
+/// further out has a slot, that the one of a variable has its slot, that those around a declaration stand there, that the collection of an
+/// access type and its pool have their slots, or two of these.
 #[derive(Clone, Copy)]
 pub enum Demand {
     Nothing,
@@ -25,6 +28,7 @@ pub enum Demand {
         out: usize,
         slot: usize,
     },
+    Variable(Var),
     Home(Declaration),
     Collection(usize),
     Allocated {
@@ -64,9 +68,9 @@ fn keep_slot(
     let level = depth - 1 - out;
     match code.kinds.master_at(place, level) {
         MasterAt::Entered(_) => Ok(false),
-        MasterAt::Around(number) => {
+        MasterAt::Around(outer) => {
             let slots = slot.checked_add(1).ok_or(AllocError)?;
-            homes.raise(Declaration::Subprogram(number), level, slots)
+            homes.raise(outer, level, slots)
         }
     }
 }
@@ -83,9 +87,9 @@ fn keep_level(
 {
     match code.kinds.master_at(place, level) {
         MasterAt::Entered(_) => Ok(false),
-        MasterAt::Around(number) => {
+        MasterAt::Around(outer) => {
             let slots = homes.at(of, level);
-            homes.raise(Declaration::Subprogram(number), level, slots)
+            homes.raise(outer, level, slots)
         }
     }
 }
@@ -188,11 +192,11 @@ fn demand_of(instr: &Instr) -> Demand
         Instr::FreePart { access, .. } => Demand::Collection(access),
         Instr::CopyBack { out, slot, .. }
         | Instr::TakeBlock { out, slot, .. }
-        | Instr::Fetch { out, slot, .. }
-        | Instr::Store { out, slot, .. }
-        | Instr::FetchPart { out, slot, .. }
-        | Instr::Locate { out, slot, .. }
-        | Instr::Designate { out, slot, .. } => Demand::Slot { out, slot },
+        | Instr::Store { out, slot, .. } => Demand::Slot { out, slot },
+        Instr::Fetch { variable, .. }
+        | Instr::FetchPart { variable, .. }
+        | Instr::Locate { variable, .. }
+        | Instr::Designate { variable, .. } => Demand::Variable(variable),
         _ => Demand::Nothing,
     }
 }
@@ -204,6 +208,7 @@ fn keep(code: &Code, homes: &mut Homes, place: usize, demand: Demand) -> Result<
     match demand {
         Demand::Nothing => Ok(false),
         Demand::Slot { out, slot } => keep_slot(code, homes, place, out, slot),
+        Demand::Variable(variable) => keep_variable(code, homes, place, variable),
         Demand::Home(of) => keep_home(code, homes, place, of),
         Demand::Collection(access) => keep_collection(code, homes, place, access),
         Demand::Allocated { access, of } => {
@@ -300,12 +305,40 @@ fn keep_operations(code: &Code, homes: &mut Homes, number: usize) -> Result<bool
     Ok(either(first, either(second, either(third, either(fourth, fifth)))))
 }
 
-/// Sees to it that the masters around the type of a component, if that is a record type, stand around the record type of a number.
-fn keep_initial(homes: &mut Homes, number: usize, initial: Initial) -> Result<bool, AllocError>
-    ensures { IfOk result (λ raised. Raises (λ counts. IsInitialWithin counts number initial) homes.old homes.new raised) }
+/// Sees to it that the masters around the record type whose default is evaluated at a place, if any is, stand around the record type of a
+/// number, which has the component by inheritance or declares it (RM 3.4, 3.8).
+fn keep_default(
+    code: &Code,
+    homes: &mut Homes,
+    number: usize,
+    place: usize,
+) -> Result<bool, AllocError>
+    ensures { IfOk result (λ raised. Raises (λ counts. IsInitialWithin (with_counts counts code.now) number place Computed) homes.old homes.new raised) }
+{
+    match code.kinds.default_at(place) {
+        Some(other) => keep_within(
+            homes,
+            Declaration::Record(number),
+            Declaration::Record(other),
+        ),
+        None => Ok(false),
+    }
+}
+
+/// Sees to it that the masters around the type of a component, if that is a record type, stand around the record type of a number; and those
+/// around the type from which it has the default that is evaluated at a place.
+fn keep_initial(
+    code: &Code,
+    homes: &mut Homes,
+    number: usize,
+    place: usize,
+    initial: Initial,
+) -> Result<bool, AllocError>
+    ensures { IfOk result (λ raised. Raises (λ counts. IsInitialWithin (with_counts counts code.now) number place initial) homes.old homes.new raised) }
 {
     match initial {
         Initial::Constant(_) => Ok(false),
+        Initial::Computed => keep_default(code, homes, number, place),
         Initial::ByType(other) => keep_within(
             homes,
             Declaration::Record(number),
@@ -315,12 +348,18 @@ fn keep_initial(homes: &mut Homes, number: usize, initial: Initial) -> Result<bo
 }
 
 /// Sees to it that the masters around the types of its components that begin with something stand around a record type.
-fn keep_initials(homes: &mut Homes, number: usize, layout: &Layout) -> Result<bool, AllocError>
-    ensures { IfOk result (λ raised. Raises (λ counts. AreInitialsWithin counts number layout.now.begun.items) homes.old homes.new raised) }
+fn keep_initials(
+    code: &Code,
+    homes: &mut Homes,
+    number: usize,
+    layout: &Layout,
+) -> Result<bool, AllocError>
+    ensures { IfOk result (λ raised. Raises (λ counts. AreInitialsWithin (with_counts counts code.now) number layout.now.begun.items) homes.old homes.new raised) }
 {
     let mut raised = false;
     for component in &layout.begun {
-        let more = keep_initial(homes, number, component.initial)?;
+        let place = default_of(code, number, component.position);
+        let more = keep_initial(code, homes, number, place, component.initial)?;
         raised = either(raised, more);
     }
     Ok(raised)
@@ -336,7 +375,7 @@ fn keep_layout(
     ensures { IfOk result (λ raised. Raises (λ counts. IsAround (with_counts counts code.now) number layout.now) homes.old homes.new raised) }
 {
     let first = keep_operations(code, homes, number)?;
-    let second = keep_initials(homes, number, layout)?;
+    let second = keep_initials(code, homes, number, layout)?;
     Ok(either(first, second))
 }
 

@@ -7,7 +7,7 @@ ghost use Rattle.ctl_code.specs.declared.kinds.Kind.TheVariants.{Operand};
 ghost use Rattle.ctl_code.specs.Kinds.{stack_at};
 ghost use Rattle.ctl_code.specs.Valid.{DropsPart, IsDeclarable, IsFine, Leads, Under};
 ghost use Rattle.ctl_code.specs.declared.homes.Declaration.TheVariants as DeclarationOf;
-ghost use Rattle.ctl_code.specs.Windows.{HasHome, HasSlot, depth, height};
+ghost use Rattle.ctl_code.specs.Windows.{HasHome, depth, height, OwnsSlot};
 
 use crate::around::has_home;
 use crate::code::Code;
@@ -79,11 +79,11 @@ pub(crate) fn is_giving_fine(code: &Code, place: usize, record: usize) -> bool
 pub(crate) fn is_pool_fine(code: &Code, place: usize, slot: usize, number: usize, at: usize) -> bool
     requires { place + 1 < 2 ^ 64 }
     ensures { let stack = stack_at code.now.kinds place in
-        IsTrue result ↔ (IsDeclarable code.now (depth stack) number × Under (Operand Count ∷ Operand Count ∷ []) stack (λ below. (at ≡ height below) × Leads code.now (place + 1) below) × HasSlot code.now.homes stack 0 slot × HasHome code.now.homes stack (DeclarationOf.Record number)) }
+        IsTrue result ↔ (IsDeclarable code.now (depth stack) number × Under (Operand Count ∷ Operand Count ∷ []) stack (λ below. (at ≡ height below) × Leads code.now (place + 1) below) × OwnsSlot stack slot × HasHome code.now.homes stack (DeclarationOf.Record number)) }
 {
     is_declarable(code, code.kinds.depth_at(place), number)
         && has_discriminants(code, place, at)
         && leads_on(code, place, 2, None)
-        && code.kinds.has_slot(place, 0, slot, &code.homes)
+        && code.kinds.owns_slot(place, slot)
         && has_home(code, place, Declaration::Record(number))
 }

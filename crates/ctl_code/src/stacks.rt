@@ -2,11 +2,12 @@
 
 ghost use Rattle.std.specs.Prelude.{◌≡◌, ◌↔◌, ◌+◌, ◌-◌, ◌<◌, ◌≤◌, ◌^◌, [], ◌∷◌, ◌++◌, drop, length, List, IsTrue, IfSome, MatchOption, OnErr, OnOk};
 ghost use Rattle.ctl_code.specs.declared.kinds.Kind.{Kind};
-ghost use Rattle.ctl_code.specs.declared.kinds.Kind.TheVariants.{Body};
+ghost use Rattle.ctl_code.specs.declared.kinds.Kind.TheVariants.{Body, Default};
 ghost use Rattle.ctl_code.specs.Kinds.{stack_in, with_top};
 ghost use Rattle.ctl_code.specs.Valid.{HaveNumbers, over_numbers};
-ghost use Rattle.ctl_code.specs.Windows.{depth, height, master_at, slot_over, variable_at};
+ghost use Rattle.ctl_code.specs.Windows.{depth, height, master_at, slot_over, variable_at, OwnsSlot};
 
+use crate::homes::Declaration;
 use crate::kinds::{Kind, MasterAt, is_same_kind};
 use ctl_program::types::Ty;
 use std::alloc::{AllocError, Global};
@@ -29,6 +30,7 @@ fn height_with(kind: Kind, below: usize) -> Option<usize>
         Kind::Operand(_) | Kind::RecordValue => below.checked_add(1),
         Kind::Block(slots) => below.checked_add(slots),
         Kind::Body { slots, .. } => below.checked_add(slots),
+        Kind::Default { .. } => Some(below),
     }
 }
 
@@ -40,6 +42,7 @@ fn depth_with(kind: Kind, below: usize) -> Option<usize>
         Kind::Operand(_) | Kind::RecordValue => Some(below),
         Kind::Block(_) => below.checked_add(1),
         Kind::Body { level, .. } => level.checked_add(1),
+        Kind::Default { level, .. } => Some(level),
     }
 }
 
@@ -60,9 +63,20 @@ fn master_in(own: usize, slots: usize, number: usize, level: usize) -> MasterAt
     ensures { (stack : List Kind) → result ≡ master_at (Body own slots number ∷ stack) level }
 {
     if level < own {
-        MasterAt::Around(number)
+        MasterAt::Around(Declaration::Subprogram(number))
     } else if level == own {
         MasterAt::Entered(slots)
+    } else {
+        MasterAt::Entered(0)
+    }
+}
+
+/// Answers the same where a default of the record type of this number is evaluated, which is declared in so many masters.
+fn master_around(own: usize, number: usize, level: usize) -> MasterAt
+    ensures { (stack : List Kind) → result ≡ master_at (Default own number ∷ stack) level }
+{
+    if level < own {
+        MasterAt::Around(Declaration::Record(number))
     } else {
         MasterAt::Entered(0)
     }
@@ -181,7 +195,7 @@ impl Stacks {
                 }
                 Kind::Operand(_) | Kind::RecordValue => {}
                 Kind::Block(_) => out -= 1,
-                Kind::Body { .. } => return None,
+                Kind::Body { .. } | Kind::Default { .. } => return None,
             }
             left = link.below;
         }
@@ -204,9 +218,26 @@ impl Stacks {
                     slots,
                     number,
                 } => return master_in(own, slots, number, level),
+                Kind::Default { level: own, number } => return master_around(own, number, level),
             }
         }
         MasterAt::Entered(0)
+    }
+
+    /// Tells whether the newest master has this slot, and the body has entered it.
+    pub fn owns_slot(&self, stack: usize, slot: usize) -> bool
+        ensures { IsTrue result ↔ OwnsSlot (stack_in self.now stack) slot }
+    {
+        let mut left = stack;
+        while let Some(link) = self.link(left) {
+            match link.kind {
+                Kind::Block(slots) | Kind::Body { slots, .. } => return slot < slots,
+                Kind::Operand(_) | Kind::RecordValue => {}
+                Kind::Default { .. } => return false,
+            }
+            left = link.below;
+        }
+        false
     }
 
     /// Answers the stack without so many of its newest.

@@ -40,6 +40,7 @@ use Rattle.ctl_gen.proofs.Values.{scalar_cells}
 use Rattle.ctl_gen.proofs.Place.{Laid, laid_front, laid_back}
 use Rattle.ctl_gen.proofs.Worlds.{Since}
 use Rattle.ctl_gen.proofs.Setting.{Setting, tools_with, IsSeen}
+use Rattle.ctl_gen.proofs.Entered.{IsAsLong}
 use Rattle.ctl_gen.proofs.Cells.{Any, by_code, here, landed, put_is, value_of}
 use Rattle.ctl_gen.proofs.Cells.{put_there as value_there}
 use Rattle.ctl_gen.proofs.Formals.{IsBackOf, Taken, back_found, backs_of, formal, keeps, kept_after, none_taken, one_taken, operands_and, operands_of, others_kept, part_of, same_kept, word_of}
@@ -181,13 +182,13 @@ module _ (ask : Ask) (k : Tables) (code : Code) (setting : Setting k code) (call
       ∙ ap (add 2) (copy_gives begins v d c l w)
 
   -- and the step that puts it
-  copy_step : (begins : CopyStart) (v : Var) (ty : Ty) (over : ℕ) (s : List Kind) (d : List ℕ) (place : ℕ) (ks : List Frame) (ops : List Word) (c : ℕ) (l : Log) (w : World) → Since k code w0 w → length d ≡ depth s → Laid code place (begins_code begins v ty s) →
+  copy_step : (begins : CopyStart) (v : Var) (ty : Ty) (over : ℕ) (s : List Kind) (d : List ℕ) (place : ℕ) (ks : List Frame) (ops : List Word) (c : ℕ) (l : Log) (w : World) → Since k code w0 w → IsAsLong d s → Laid code place (begins_code begins v ty s) →
       RunsTo ask code (OneFormal k code w0 d (Some (BackOf.Variable v))) 0 0 (at d place ks ops l w) c (put_there code d (place + length (begins_code begins v ty s)) (Some (BackOf.Variable v)) over ks ops) (Gives (Goes (formal (Scalar (begins_with begins d v w)) (Some (InVariable (master_of d v) v.slot)))) 2 c l w)
   unfolding opened_names opened_lists
   copy_step CopyStartOf.Actual v ty over s d place ks ops c l w fits long has =
       let g = InVariable (master_of d v) v.slot in
       last_step_to ask code (OneFormal k code w0 d (Some (BackOf.Variable v))) 0 0 _ c 2 (put_there code d (place + 1) (Some (BackOf.Variable v)) over ks ops) (Goes (formal (Scalar (value_of d v w)) (Some g))) l w (omega arith) (fits, (Scalar (value_of d v w), Some g, refl, refl))
-      (read_step ask k code bound w0 (local_at s v) v ty (new_operand s) s d place ks ops l w long has.0)
+      (read_step ask k code bound w0 (local_at s v) v ty (new_operand s) s d place ks ops l w refl long has.0)
   copy_step CopyStartOf.Beginning v ty over s d place ks ops c l w fits long has =
       let g = InVariable (master_of d v) v.slot in
       last_step_to ask code (OneFormal k code w0 d (Some (BackOf.Variable v))) 0 0 _ c 2 (put_there code d (place + 1) (Some (BackOf.Variable v)) over ks ops) (Goes (formal (Scalar 0) (Some g))) l w (omega arith) (fits, (Scalar 0, Some g, refl, refl))

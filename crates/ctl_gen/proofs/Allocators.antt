@@ -13,11 +13,11 @@ use Rattle.ctl_tree.specs.declared.ending.Stop.TheVariants.{UseAfterFree}
 use Rattle.ctl_tree.specs.declared.event.Event.TheVariants.{Allocate}
 use Rattle.ctl_tree.specs.declared.event.Owner.TheVariants as OwnerOf
 use Rattle.ctl_meaning.specs.World.{Place, InBlock, Allocated, Object, Collection, Slot, Log, World}
-use Rattle.ctl_meaning.specs.Lists.{opened_lists}
+use Rattle.ctl_meaning.specs.Lists.{last_of, opened_lists}
 use Rattle.ctl_meaning.specs.Activations.{master_of}
-use Rattle.ctl_meaning.specs.Ledger.{collection_at}
+use Rattle.ctl_meaning.specs.Ledger.{collection_at, master_in}
 use Rattle.ctl_meaning.specs.Pools.{block_pool_at}
-use Rattle.ctl_meaning.specs.Changes.{create_at, forget, home_of as origin_home, in_pools, join, new_object, object_at, owner_of, slot_at, write_cells}
+use Rattle.ctl_meaning.specs.Changes.{create_at, forget, home_master, home_of as origin_home, in_pools, join, new_object, object_at, owner_of, slot_at, write_cells}
 use Rattle.ctl_meaning.specs.Choice.{Ask, picked}
 use Rattle.ctl_meaning.specs.Outcome.{constraint_error, program_error, storage_error, ByRaise, Result, Goes, Leaves, Out, Gives, Stops, Act, Done, Fine, add, bind, on_goes, ◌>>=◌, done, nothing, raise, change, tell, told, look, either, on_some, opened_outcome}
 use Rattle.ctl_meaning.specs.Types.{Tables, begin_cells, cells_of, depth as table_depth, of_record, size_of}
@@ -38,12 +38,12 @@ use Rattle.ctl_code.specs.Steps.{moved, step}
 use Rattle.ctl_code.specs.Valid.{MayLie, storage_formals}
 use Rattle.ctl_layout.specs.Layout.{home_of}
 use Rattle.ctl_gen.proofs.Known.{IsPlainType, IsScalar, scalar_plain}
-use Rattle.ctl_gen.proofs.Parted.{GivesDefaults}
+use Rattle.ctl_gen.proofs.Given.{GivesEach}
 use Rattle.ctl_gen.proofs.Collections.{found_number, home, of_gathered}
 use Rattle.ctl_gen.proofs.Worlds.{Since, allocated_there, keeps_itself, origin_nested, since_allocate, since_forget, since_granted, since_join, since_on, since_written, still_of}
 use Rattle.ctl_gen.proofs.Scopes.{allocate_in, type_inside}
-use Rattle.ctl_gen.proofs.CreatedParts.{IsAround, parts_run, at_once_is}
-use Rattle.ctl_gen.proofs.Setting.{Setting, Allocates, Calls, IsGiven, IsServed, Made, ByDefault, Copied, made_type, made_value, MayAllocate, Told, allocator_steps, behind_allocator, by_allocator, enter_shows, returned_to, returns, tools_with}
+use Rattle.ctl_gen.proofs.CreatedParts.{IsAround, IsBornAmong, parts_run, at_once_is}
+use Rattle.ctl_gen.proofs.Setting.{Setting, Allocates, Calls, IsGiven, IsMadeAmong, IsServed, Made, ByDefault, Copied, made_type, made_value, MayAllocate, Told, allocator_steps, behind_allocator, by_allocator, enter_shows, returned_to, returns, tools_with}
 use Rattle.ctl_gen.proofs.Storage.{IsOwn, address_is, gives_place, gives_test, great_is, in_block, own_granted, plain_actuals, storage_is, tested_is, units_alike, user_is}
 use Rattle.ctl_gen.proofs.GivenValue.{as_value, for_set, given_is, joined_to, takes}
 use Rattle.ctl_gen.proofs.Finalize.{part_alike}
@@ -57,7 +57,7 @@ pub steps_enough : (m : Made) → 7 ≤ allocator_steps m
 steps_enough (ByDefault ty) = omega arith
 steps_enough (Copied t v) = omega arith
 
-module _ (ask : Ask) (k : Tables) (code : Code) (setting : Setting k code) (call : Call) (default : Default) (constants : GivesDefaults k default) (bound : ℕ) (calls : Calls ask k code setting bound call) where
+module _ (ask : Ask) (k : Tables) (code : Code) (setting : Setting k code) (call : Call) (default : Default) (defaults : GivesEach ask k code setting call default) (bound : ℕ) (calls : Calls ask k code setting bound call) where
   abbrev K : Tools
   K = tools_with ask k call default
 
@@ -70,7 +70,7 @@ module _ (ask : Ask) (k : Tables) (code : Code) (setting : Setting k code) (call
   -- the creation of its parts, by default or by a value
   abbrev fills : (m : Made) → IsPlainType k (made_type m) → Birth → ℕ → Act Done
   fills (ByDefault ty) plain birth n = initialize K birth (whole n) ty
-  fills (Copied t v) plain birth n = T.taking ask k code setting call default constants bound calls t plain birth n v
+  fills (Copied t v) plain birth n = T.taking ask k code setting call default defaults.constants bound calls t plain birth n v
 
   abbrev begins : (m : Made) → IsPlainType k (made_type m) → ℕ → Place → Act Done
   begins m plain set place c l w = fills m plain (birth_of (Allocated set place) w) w.ledger.next_object c l (with_member code set (made_type m) place w)
@@ -182,14 +182,14 @@ module _ (ask : Ask) (k : Tables) (code : Code) (setting : Setting k code) (call
         subst (Gets 1 3 (returns {A = Done} (Creating ByAllocator n t p ∷ ks) (Leaves (ByRaise e)) l w) c p ks) (sym (raised_is n e c l w))
         (last_step_to ask code (Allocates k code w0) 1 3 _ c 1 (returned_to (AfterFunction None p) ks) (Leaves (ByRaise e)) l (forget n w) (omega arith) (tt, since_forget k code n w0 w (since_on k code w0 w1 w fits1 told1.1)) refl)) y told1.0
 
-    -- a collection stands, and objects of a type may lie in it
-    abbrev MayStand : Ty → ℕ → Collection → World → Type 0
-    MayStand ty set x w = (collection_at set w.ledger ≡ Some x) × MayLie code (length (home x.master w.activations)) ty
+    -- a collection stands, objects of a type may lie in it, and its master is one of those that are seen
+    abbrev MayStand : List ℕ → Ty → ℕ → Collection → World → Type 0
+    MayStand d ty set x w = (collection_at set w.ledger ≡ Some x) × MayLie code (length (home x.master w.activations)) ty × IsMadeAmong (home x.master w.activations) d w
 
     -- the worlds with a new object for such a collection
-    member_fits : (ty : Ty) → IsPlainType k ty → (set : ℕ) (x : Collection) (place : Place) (w : World) → MayStand ty set x w → Since k code w0 w → Since k code w0 (with_member code set ty place w)
+    member_fits : (v : World) (d : List ℕ) (ty : Ty) → IsPlainType k ty → (set : ℕ) (x : Collection) (place : Place) (w : World) → MayStand d ty set x w → Since k code v w → Since k code v (with_member code set ty place w)
     unfolding collection_at
-    member_fits ty plain set x place w may fits = since_allocate k code ty (replicate (cells_for code ty) 0) set place x.master w0 w (x, may.0, refl) plain may.1 fits
+    member_fits v d ty plain set x place w may fits = since_allocate k code ty (replicate (cells_for code ty) 0) set place x.master v w (x, may.0, refl) plain may.1 fits
 
     -- it is there, and its type, if it is a record type, is declared around its operations
     member_around : (t set : ℕ) (place : Place) (w : World) → Since k code w0 w → Since k code w0 (with_member code set (Record t) place w) → IsAround code w.ledger.next_object t (with_member code set (Record t) place w)
@@ -197,6 +197,30 @@ module _ (ask : Ask) (k : Tables) (code : Code) (setting : Setting k code) (call
     member_around t set place w fits fits1 =
         let there = allocated_there k code (Record t) (replicate (code_size code t) 0) set place w fits.0 in
         (_, there, type_inside k code w.ledger.next_object (with_member code set (Record t) place w) _ t fits1.0 there refl)
+
+    -- a collection that stands still does since an earlier world, with the same masters around it
+    still_stands : (d : List ℕ) (ty : Ty) (set : ℕ) (x : Collection) (v w : World) → MayStand d ty set x v → Since k code v v → Since k code v w → (y : Collection) × MayStand d ty set y w × (home y.master w.activations ≡ home x.master v.activations)
+    unfolding collection_at
+    still_stands d ty set x v w may fits since =
+        let is = still_of k code set x.master v w fits.0 since.1 (x, may.0, refl) in
+        let old = (of_gathered v.ledger.next_collection v.ledger.next_master v.activations set x.master v.ledger.collections fits.0.collections (x, may.0, refl)).1 in
+        let home_is : home is.0.master w.activations ≡ home x.master v.activations = ap (λ i. home i w.activations) is.2 ∙ since.1.homes x.master old in
+        let young = may.2.0 in
+        let later = since.1.later in
+        let among : IsMadeAmong (home x.master v.activations) d w = (omega (arith, young, later), since.1.homes (last_of d) young ∙ may.2.1, may.2.2, may.2.3) in
+        (is.0, (is.1, subst (λ (e : List ℕ). MayLie code (length e) ty) (sym home_is) may.1, subst (λ (e : List ℕ). IsMadeAmong e d w) (sym home_is) among), home_is)
+
+    -- the defaults of a new object are evaluated among the masters around its operations
+    born_among : (t set : ℕ) (x : Collection) (place : Place) (p : Point) (ks : List Frame) (w : World) → MayStand p.display (Record t) set x w → Since k code w0 w → Since k code w (with_member code set (Record t) place w) → (inside : IsAround code w.ledger.next_object t (with_member code set (Record t) place w)) → IsBornAmong (birth_of (Allocated set place) w) (origin_home inside.0.origin (with_member code set (Record t) place w)) (Creating ByAllocator w.ledger.next_object t p ∷ ks) (with_member code set (Record t) place w)
+    unfolding birth_of origin_home home_master master_in new_object
+    born_among t set x place p ks w may fits since inside =
+        let w1 = with_member code set (Record t) place w in
+        let stand = still_stands p.display (Record t) set x w w1 may (fits.0, keeps_itself k code w) since in
+        let there = allocated_there k code (Record t) (replicate (code_size code t) 0) set place w fits.0 in
+        let same : inside.0 ≡ new_object w.ledger.next_object (Record t) (replicate (code_size code t) 0) (Allocated set place) = (let both = sym inside.1 ∙ there in cc both) in
+        let outer : origin_home inside.0.origin w1 ≡ home stand.0.master w1.activations = ap (λ (o : Object). origin_home o.origin w1) same ∙ ap (λ o. home (master_in o) w1.activations) stand.1.0 in
+        let born : origin_home (Allocated set place) w ≡ home x.master w.activations = ap (λ o. home (master_in o) w.activations) may.0 in
+        (born ∙ (sym stand.2 ∙ sym outer), subst (λ (e : List ℕ). IsMadeAmong e p.display w1) (sym outer) stand.1.2)
 
     -- the step of the creation, for a collection that is there
     abbrev creates : Made → ℕ → Place → Point → List Frame → World → Move
@@ -209,7 +233,7 @@ module _ (ask : Ask) (k : Tables) (code : Code) (setting : Setting k code) (call
       n = w.ledger.next_object
 
       abbrev Creates : (m : Made) → IsPlainType k (made_type m) → Type 0
-      Creates m plain = MayStand (made_type m) set x w → step ask code s0 ≡ moved l (creates m set place p ks w) → Gets 6 (allocator_steps m) s0 c0 p ks (bind (begins m plain set place c l w) (stands n))
+      Creates m plain = MayStand p.display (made_type m) set x w → step ask code s0 ≡ moved l (creates m set place p ks w) → Gets 6 (allocator_steps m) s0 c0 p ks (bind (begins m plain set place c l w) (stands n))
 
       -- of a record type by default: where nothing is executed for its creation it comes to life
       record_runs : (t : ℕ) (plain : IsPlainType k (Record t)) → Creates (ByDefault (Record t)) plain
@@ -220,7 +244,7 @@ module _ (ask : Ask) (k : Tables) (code : Code) (setting : Setting k code) (call
           w1 = with_member code set (Record t) place w
 
           fits1 : Since k code w0 w1
-          fits1 = member_fits (Record t) plain set x place w may fits
+          fits1 = member_fits w0 p.display (Record t) plain set x place w may fits
 
           fills_runs : step ask code s0 ≡ moved l (Table.begin_part code (newborn n t (OwnerOf.Collection set)) (Creating ByAllocator n t p ∷ ks) w1) → Gets 6 7 s0 c0 p ks (bind (begins (ByDefault (Record t)) plain set place c l w) (stands n))
           fills_runs go =
@@ -228,24 +252,24 @@ module _ (ask : Ask) (k : Tables) (code : Code) (setting : Setting k code) (call
               let s1 = gives (Filling (newborn n t (OwnerOf.Collection set)) (begun_of code t) (begun_of code t) ∷ mid) (Fine Complete) l w1 in
               one_step_to ask code (Allocates k code w0) 5 6 6 7 s0 s1 c0 c (returned_to (AfterFunction None p) ks) (bind (begins (ByDefault (Record t)) plain set place c l w) (stands n)) (omega arith) (omega arith) lo hi go
               (both_to ask code (λ r v. Told k code w1 (way_of r) v) (Allocates k code w0) 3 3 1 3 5 6 s1 c (returns mid) (returned_to (AfterFunction None p) ks) (begins (ByDefault (Record t)) plain set place c l w) (stands n) (omega arith) (omega arith) (omega arith)
-              (parts_run ask k code setting call default constants bound calls (suc (length k.records)) t (let within = slice_get_within k.records t plain.0 plain.1 in omega (arith, within)) plain (whole_spot n) (OwnerOf.Collection set) (birth_of (Allocated set place) w) refl w1 fits1.0 (member_around t set place w fits fits1) mid c l w1 le (fits1.0, keeps_itself k code w1))
+              (parts_run ask k code setting call default defaults bound calls (suc (length k.records)) t (let within = slice_get_within k.records t plain.0 plain.1 in omega (arith, within)) plain (whole_spot n) (OwnerOf.Collection set) (birth_of (Allocated set place) w) refl w1 fits1.0 (member_around t set place w fits fits1) mid (born_among t set x place p ks w may fits (member_fits w p.display (Record t) plain set x place w may (fits.0, keeps_itself k code w)) (member_around t set place w fits fits1)) c l w1 le (fits1.0, keeps_itself k code w1))
               (λ r c1 l1 w2 lo1 told1. stands_runs w1 n t p ks fits1 r c1 l1 w2 told1))
 
           empty : (once : Bool) → is_made_at_once (parts_of code t) (begun_of code t) ≡ once
               → step ask code s0 ≡ moved l (if once then come_to_life ByAllocator n (object_at n w1) p ks w1 else Table.begin_part code (newborn n t (OwnerOf.Collection set)) (Creating ByAllocator n t p ∷ ks) w1)
               → Gets 6 7 s0 c0 p ks (bind (begins (ByDefault (Record t)) plain set place c l w) (stands n))
           empty true is go =
-              subst (λ o. Gets 6 7 s0 c0 p ks (bind o (stands n))) (sym (at_once_is ask k code setting call default constants bound calls (length k.records) (birth_of (Allocated set place) w) (whole_spot n) t c l w1 plain is))
+              subst (λ o. Gets 6 7 s0 c0 p ks (bind o (stands n))) (sym (at_once_is ask k code setting call default defaults bound calls (length k.records) (birth_of (Allocated set place) w) (whole_spot n) t c l w1 plain is))
               (added_to ask code (Allocates k code w0) 0 1 3 6 7 s0 c0 (returned_to (AfterFunction None p) ks) (stands n (Goes tt) c l w1) (omega arith) (omega arith) (lives_on n p ks s0 c0 c l w1 lo hi fits1 go))
           empty false is go = fills_runs go
 
       -- of an elementary type: nothing is executed for its creation
-      at_once : (ty : Ty) (plain : IsPlainType k ty) → ((birth : Birth) → initialize K birth (whole n) ty ≡ nothing) → MayStand ty set x w → step ask code s0 ≡ moved l (come_to_life ByAllocator n (object_at n (with_member code set ty place w)) p ks (with_member code set ty place w)) → Gets 6 7 s0 c0 p ks (bind (begins (ByDefault ty) plain set place c l w) (stands n))
+      at_once : (ty : Ty) (plain : IsPlainType k ty) → ((birth : Birth) → initialize K birth (whole n) ty ≡ nothing) → MayStand p.display ty set x w → step ask code s0 ≡ moved l (come_to_life ByAllocator n (object_at n (with_member code set ty place w)) p ks (with_member code set ty place w)) → Gets 6 7 s0 c0 p ks (bind (begins (ByDefault ty) plain set place c l w) (stands n))
       unfolding opened_outcome
       at_once ty plain none may first =
           let w1 = with_member code set ty place w in
           subst (λ (f : Act Done). Gets 6 7 s0 c0 p ks (bind (f c l w1) (stands n))) (sym (none (birth_of (Allocated set place) w)))
-          (added_to ask code (Allocates k code w0) 0 1 3 6 7 s0 c0 (returned_to (AfterFunction None p) ks) (stands n (Goes tt) c l w1) (omega arith) (omega arith) (lives_on n p ks s0 c0 c l w1 lo hi (member_fits ty plain set x place w may fits) first))
+          (added_to ask code (Allocates k code w0) 0 1 3 6 7 s0 c0 (returned_to (AfterFunction None p) ks) (stands n (Goes tt) c l w1) (omega arith) (omega arith) (lives_on n p ks s0 c0 c l w1 lo hi (member_fits w0 p.display ty plain set x place w may fits) first))
 
       default_runs : (ty : Ty) (plain : IsPlainType k ty) → Creates (ByDefault ty) plain
       unfolding initialize of_record
@@ -262,8 +286,8 @@ module _ (ask : Ask) (k : Tables) (code : Code) (setting : Setting k code) (call
       unfolding birth_of owner_of
       copied_runs t v plain may first =
           let w1 = with_member code set (Record t) place w in
-          let fits1 = member_fits (Record t) plain set x place w may fits in
-          T.taken_runs ask k code setting call default constants bound calls t plain ByAllocator n (OwnerOf.Collection set) (birth_of (Allocated set place) w) refl p ks w1 fits1.0 (member_around t set place w fits fits1) (Allocates k code w0) (returned_to (AfterFunction None p) ks) (stands n)
+          let fits1 = member_fits w0 p.display (Record t) plain set x place w may fits in
+          T.taken_runs ask k code setting call default defaults.constants bound calls t plain ByAllocator n (OwnerOf.Collection set) (birth_of (Allocated set place) w) refl p ks w1 fits1.0 (member_around t set place w fits fits1) (Allocates k code w0) (returned_to (AfterFunction None p) ks) (stands n)
           (λ s1 d0 d l1 w2 lo1 hi1 fits2 go1. lives_on n p ks s1 d0 d l1 w2 lo1 hi1 (since_on k code w0 w1 w2 fits1 fits2) go1)
           (λ r c1 l1 w2 told1. stands_runs w1 n t p ks fits1 r c1 l1 w2 told1)
           v s0 c0 c l le lo hi first
@@ -272,20 +296,11 @@ module _ (ask : Ask) (k : Tables) (code : Code) (setting : Setting k code) (call
       begins_runs (ByDefault ty) plain = default_runs ty plain
       begins_runs (Copied t v) plain = copied_runs t v plain
 
-      created_runs : (m : Made) → IsPlainType k (made_type m) → MayStand (made_type m) set x w → step ask code s0 ≡ moved l (creates m set place p ks w)
+      created_runs : (m : Made) → IsPlainType k (made_type m) → MayStand p.display (made_type m) set x w → step ask code s0 ≡ moved l (creates m set place p ks w)
           → Gets 6 (allocator_steps m) s0 c0 p ks (bind (created K set (made_type m) (made_value m) place c l w) (on_goes completed))
       created_runs m plain may first = subst (Gets 6 (allocator_steps m) s0 c0 p ks) (sym (created_is m plain set place c l w)) (begins_runs m plain may first)
 
     -- At the address that a user's Allocate gave (13.11) ----------------------------------------------------
-
-    -- a collection that stands still does since an earlier world, with as many masters around it
-    still_stands : (ty : Ty) (set : ℕ) (x : Collection) (v w : World) → MayStand ty set x v → Since k code v v → Since k code v w → (y : Collection) × MayStand ty set y w
-    unfolding collection_at
-    still_stands ty set x v w may fits since =
-        let is = still_of k code set x.master v w fits.0 since.1 (x, may.0, refl) in
-        let old = (of_gathered v.ledger.next_collection v.ledger.next_master v.activations set x.master v.ledger.collections fits.0.collections (x, may.0, refl)).1 in
-        let home_is : home is.0.master w.activations ≡ home x.master v.activations = ap (λ i. home i w.activations) is.2 ∙ since.1.homes x.master old in
-        (is.0, (is.1, subst (λ (e : List ℕ). MayLie code (length e) ty) (sym home_is) may.1))
 
     -- the object begins at an address that passes its test
     abbrev places : Made → ℕ → ℕ → ℕ → Test → List Word → Here → Move
@@ -349,8 +364,8 @@ module _ (ask : Ask) (k : Tables) (code : Code) (setting : Setting k code) (call
 
     module _ (m : Made) (plain : IsPlainType k (made_type m)) where
       -- its collection stands
-      abbrev Stand : ℕ → Collection → World → Type 0
-      Stand = MayStand (made_type m)
+      abbrev Stand : List ℕ → ℕ → Collection → World → Type 0
+      Stand d = MayStand d (made_type m)
 
       -- so many storage units are requested (13.3)
       abbrev units : ℕ
@@ -363,7 +378,7 @@ module _ (ask : Ask) (k : Tables) (code : Code) (setting : Setting k code) (call
       abbrev makes : ℕ → Place → Act ℕ
       makes set = created K set (made_type m) (made_value m)
 
-      placed_runs : (set : ℕ) (x : Collection) (n a : ℕ) (test : Test) (d : List ℕ) (place : ℕ) (ks : List Frame) (ops : List Word) (s0 : State) (c : ℕ) (l : Log) (w : World) → c ≤ bound → Stand set x w → Since k code w0 w → step ask code s0 ≡ moved l (places m set n a test ops (here d place ks w))
+      placed_runs : (set : ℕ) (x : Collection) (n a : ℕ) (test : Test) (d : List ℕ) (place : ℕ) (ks : List Frame) (ops : List Word) (s0 : State) (c : ℕ) (l : Log) (w : World) → c ≤ bound → Stand d set x w → Since k code w0 w → step ask code s0 ≡ moved l (places m set n a test ops (here d place ks w))
           → Gets 6 (allocator_steps m) s0 c (point_at d (place + 1) ops) ks (bind (bind (bind (gives_test a test c l w) (on_goes (in_block n))) (on_goes (makes set))) (on_goes completed))
       unfolding opened_outcome
       placed_runs set x n a Passed d place ks ops s0 c l w le may fits first =
@@ -386,11 +401,11 @@ module _ (ask : Ask) (k : Tables) (code : Code) (setting : Setting k code) (call
           ∙ bind_bind o (λ r c l w. bind (bind (test r c l w) placed) made) (on_goes completed)
 
       -- from where the call leads
-      after_runs : (set n : ℕ) (x : Collection) (d : List ℕ) (place : ℕ) (ks : List Frame) (ops : List Word) (v : World) → Stand set x v → Since k code w0 v → IsServed code m place → (r : Result Returned) (c : ℕ) (l : Log) (w : World) → c ≤ bound → Told k code v (way_of r) w → Gets 6 (allocator_steps m) (returned_to (AfterProcedure 2 (point_at d (place + 1) (Scalar n ∷ Scalar set ∷ kept_over m ops))) ks r l w) c (point_at d (place + 1 + 1) ops) ks (after_allocate set n r c l w)
+      after_runs : (set n : ℕ) (x : Collection) (d : List ℕ) (place : ℕ) (ks : List Frame) (ops : List Word) (v : World) → Stand d set x v → Since k code w0 v → IsServed code m place → (r : Result Returned) (c : ℕ) (l : Log) (w : World) → c ≤ bound → Told k code v (way_of r) w → Gets 6 (allocator_steps m) (returned_to (AfterProcedure 2 (point_at d (place + 1) (Scalar n ∷ Scalar set ∷ kept_over m ops))) ks r l w) c (point_at d (place + 1 + 1) ops) ks (after_allocate set n r c l w)
       unfolding opened_outcome
       after_runs set n x d place ks ops v may fits served (Goes r) c l w le told1 =
           let since = told1.1 in
-          let stand = still_stands (made_type m) set x v w may (fits.0, keeps_itself k code v) since in
+          let stand = still_stands d (made_type m) set x v w may (fits.0, keeps_itself k code v) since in
           let a = first_value (drop 1 r.slots) in
           let s1 = at d (place + 1) ks (Scalar a ∷ Scalar (first_value r.slots) ∷ Scalar n ∷ Scalar set ∷ kept_over m ops) l w in
           subst (λ o. Gets 6 (allocator_steps m) s1 c (point_at d (place + 1 + 1) ops) ks (bind (bind (bind o (on_goes (in_block n))) (on_goes (makes set))) (on_goes completed)))
@@ -403,7 +418,7 @@ module _ (ask : Ask) (k : Tables) (code : Code) (setting : Setting k code) (call
           (λ e. raises 6 (allocator_steps m) e (point_at d (place + 1 + 1) ops) ks c l w (since_on k code w0 v w fits told1.1)) y told1.0
 
       -- from the step that calls it
-      user_runs : (set : ℕ) (x : Collection) (o : Object) (f : ℕ) (d : List ℕ) (place : ℕ) (ks : List Frame) (ops : List Word) (s0 : State) (c : ℕ) (l : Log) (w : World) → c ≤ bound → Stand set x w → Since k code w0 w → IsOwn k w (AllocateOf o f) → IsServed code m place → step ask code s0 ≡ moved l (Table.call_allocate code units set o f (kept_over m ops) (here d place ks w))
+      user_runs : (set : ℕ) (x : Collection) (o : Object) (f : ℕ) (d : List ℕ) (place : ℕ) (ks : List Frame) (ops : List Word) (s0 : State) (c : ℕ) (l : Log) (w : World) → c ≤ bound → Stand d set x w → Since k code w0 w → IsOwn k w (AllocateOf o f) → IsServed code m place → step ask code s0 ≡ moved l (Table.call_allocate code units set o f (kept_over m ops) (here d place ks w))
           → Gets 6 (allocator_steps m) s0 c (point_at d (place + 1 + 1) ops) ks (bind (bind (gives_place K units (AllocateOf o f) c l w) (on_goes (makes set))) (on_goes completed))
       unfolding opened_outcome
       user_runs set x o f d place ks ops s0 c l w le may fits own served first = by (nat_lt integer_last units) refl first
@@ -454,7 +469,7 @@ module _ (ask : Ask) (k : Tables) (code : Code) (setting : Setting k code) (call
       gone_runs p ks s0 c l w first = stop_step_to ask code (Allocates k code w0) 6 (allocator_steps m) s0 _ c 0 (returned_to (AfterFunction None p) ks) UseAfterFree l (let enough = steps_enough m in omega (arith, enough)) first refl refl
 
       -- from there, for a collection that stands
-      granted_runs : (set : ℕ) (x : Collection) (g : Grant) (d : List ℕ) (place : ℕ) (ks : List Frame) (ops : List Word) (s0 : State) (c : ℕ) (l : Log) (w : World) → c ≤ bound → Stand set x w → OnGrant (Stand set x) g → OnGrant (Since k code w0) g → IsOwn k w g → Since k code w0 w → IsServed code m place → step ask code s0 ≡ moved l (grants m set g ops (here d place ks w))
+      granted_runs : (set : ℕ) (x : Collection) (g : Grant) (d : List ℕ) (place : ℕ) (ks : List Frame) (ops : List Word) (s0 : State) (c : ℕ) (l : Log) (w : World) → c ≤ bound → Stand d set x w → OnGrant (Stand d set x) g → OnGrant (Since k code w0) g → IsOwn k w g → Since k code w0 w → IsServed code m place → step ask code s0 ≡ moved l (grants m set g ops (here d place ks w))
           → Gets 6 (allocator_steps m) s0 c (point_at d (behind_allocator place) ops) ks (bind (bind (gives_place K units g c l w) (on_goes (makes set))) (on_goes completed))
       unfolding opened_outcome
       granted_runs set x (Granted at1 w1) d place ks ops s0 c l w le may may1 fits1 own fits served first =
@@ -467,12 +482,12 @@ module _ (ask : Ask) (k : Tables) (code : Code) (setting : Setting k code) (call
           (first ∙ asked_is m set o f d place ks ops l w ∙ ap (λ i. moved l (Table.call_allocate code i set o f (kept_over m ops) (here d place ks w))) units_are)
 
       -- for this collection, if there is one
-      set_runs : (pool : Option Var) (set : ℕ) (o : Option Collection) (d : List ℕ) (place : ℕ) (ks : List Frame) (ops : List Word) (s0 : State) (c : ℕ) (l : Log) (w : World) → c ≤ bound → collection_at set w.ledger ≡ o → ((x : Collection) → o ≡ Some x → MayLie code (length (home x.master w.activations)) (made_type m)) → Since k code w0 w → IsServed code m place → step ask code s0 ≡ moved l (by_allocator code m pool o ops (here d place ks w))
+      set_runs : (pool : Option Var) (set : ℕ) (o : Option Collection) (d : List ℕ) (place : ℕ) (ks : List Frame) (ops : List Word) (s0 : State) (c : ℕ) (l : Log) (w : World) → c ≤ bound → collection_at set w.ledger ≡ o → ((x : Collection) → o ≡ Some x → MayLie code (length (home x.master w.activations)) (made_type m) × IsMadeAmong (home x.master w.activations) d w) → Since k code w0 w → IsServed code m place → step ask code s0 ≡ moved l (by_allocator code m pool o ops (here d place ks w))
           → Gets 6 (allocator_steps m) s0 c (point_at d (behind_allocator place) ops) ks (for_set K (made_type m) (made_value m) set d pool o c l w)
       unfolding refuses opened_outcome opened_names in_pools
       set_runs pool set None d place ks ops s0 c l w le is may fits served first = gone_runs (point_at d (behind_allocator place) ops) ks s0 c l w (first ∙ no_set m pool ops (here d place ks w) l)
       set_runs pool set (Some x) d place ks ops s0 c l w le is may fits served first =
-          subst (λ b. Gets 6 (allocator_steps m) s0 c p ks (bind (either (b && x.started) (raise program_error) (storage K d pool None units >>= makes set) c l w) (on_goes completed))) (sym (part_alike ask k code setting call default constants bound calls (made_type m) plain))
+          subst (λ b. Gets 6 (allocator_steps m) s0 c p ks (bind (either (b && x.started) (raise program_error) (storage K d pool None units >>= makes set) c l w) (on_goes completed))) (sym (part_alike ask k code setting call default defaults.constants bound calls (made_type m) plain))
           (by (is_refused code (made_type m) x) (first ∙ this_set m pool x ops (here d place ks w) l))
         where
           p : Point
@@ -485,8 +500,8 @@ module _ (ask : Ask) (k : Tables) (code : Code) (setting : Setting k code) (call
           by true go = raise_runs program_error p ks s0 c l w fits go
           by false go =
               subst (λ o. Gets 6 (allocator_steps m) s0 c p ks (bind (bind o (on_goes (makes set))) (on_goes completed))) (sym (storage_is ask k code setting call default pool d units c l w fits.0))
-              (granted_runs set x (grant code pool d units w) d place ks ops s0 c l w le (is, may x refl)
-              (granted_keeps (Stand set x) (λ n v h. h) code pool d units w (is, may x refl))
+              (granted_runs set x (grant code pool d units w) d place ks ops s0 c l w le (is, (may x refl).0, (may x refl).1)
+              (granted_keeps (Stand d set x) (λ n v h. h) code pool d units w (is, (may x refl).0, (may x refl).1))
               (since_granted k code pool d units w0 w fits) (own_granted k code setting pool d units w) fits served
               (go ∙ ap (λ i. moved l (grants m x.number (grant code pool d i w) ops (here d place ks w))) units_are ∙ ap (λ i. moved l (grants m i (grant code pool d units w) ops (here d place ks w))) number))
 

@@ -35,7 +35,7 @@ use Rattle.ctl_gen.proofs.Worlds.{IsNested, IsPlainSlot, plain_unset, Since, fit
 use Rattle.ctl_gen.proofs.Scopes.{IsCallable}
 use Rattle.ctl_gen.proofs.Setting.{Setting, Allocates, IsGiven, IsServed, Made, made_type, made_value, MayAllocate, EndsIn, allocator_steps, behind_allocator, by_allocator, returned_to, returns, IsTold, Told, Calls}
 use Rattle.ctl_gen.proofs.Known.{IsPlainType, IsScalar}
-use Rattle.ctl_gen.proofs.Parted.{GivesDefaults}
+use Rattle.ctl_gen.proofs.Given.{GivesEach}
 use Rattle.ctl_gen.proofs.Calls.{point_at}
 use Rattle.ctl_gen.proofs.Allocators.{allocator_runs, giver_runs}
 use Rattle.ctl_gen.proofs.Cells.{by_code, here}
@@ -101,7 +101,7 @@ behind_is Function (AfterBlock p) ends slots r ks l w = absurd ends
 behind_is Function (AfterProcedure copies p) ends slots r ks l w = absurd ends
 behind_is Function AfterBody ends slots r ks l w = absurd ends
 
-module _ (ask : Ask) (p : Meaning) (code : Code) (setting : Setting p.tables code) (bodies : (f : ℕ) (s : Subprogram) → slice_get setting.subprograms f ≡ Some s → Stands p.tables code f s) (meant : (f : ℕ) (s : Subprogram) → slice_get setting.subprograms f ≡ Some s → slice_get p.routines f ≡ Some (routine_of s)) (constants : (call : Names.Call) → GivesDefaults p.tables (default_in p.defaults (expression_tools ask p call))) (counted : (n bound : ℕ) → bound < n → (default : Default) (m : Member) → UpTo p.tables ask bound (finalize_begun (record { ask = ask; tables = p.tables; call = execution ask p n; default = default }) Collection m)) where
+module _ (ask : Ask) (p : Meaning) (code : Code) (setting : Setting p.tables code) (bodies : (f : ℕ) (s : Subprogram) → slice_get setting.subprograms f ≡ Some s → Stands p.tables code f s) (meant : (f : ℕ) (s : Subprogram) → slice_get setting.subprograms f ≡ Some s → slice_get p.routines f ≡ Some (routine_of s)) (defaults : (n : ℕ) → GivesEach ask p.tables code setting (execution ask p n) (default_in p.defaults (expression_tools ask p (execution ask p n)))) (counted : (n bound : ℕ) → bound < n → (default : Default) (m : Member) → UpTo p.tables ask bound (finalize_begun (record { ask = ask; tables = p.tables; call = execution ask p n; default = default }) Collection m)) where
   abbrev k : Tables
   k = p.tables
 
@@ -125,9 +125,9 @@ module _ (ask : Ask) (p : Meaning) (code : Code) (setting : Setting p.tables cod
       (λ e. no_step ask code (Told k code w0) 0 0 _ c 0 (returned_to after ks) (Leaves (ByRaise e)) l w (tt, fits.1) (behind_is kind after ends [] (Leaves (ByRaise e)) ks l w)) y fits.0
 
   -- a body, from the step that enters it
-  number_runs : (call : Names.Call) (bound : ℕ) → Calls ask k code setting bound call → (f : ℕ) (s : Subprogram) → slice_get setting.subprograms f ≡ Some s → (w0 : World) (env : List ℕ) (actuals : List Slot) (after : After) (ks : List Frame) (c0 c : ℕ) (l : Log) (w : World) (s0 : State) (kind : SubprogramKind) (count : ℕ) → EndsIn kind after → c ≤ bound → c ≤ c0 → c0 ≤ c + 1 → Since k code w0 w → IsCallable code kind (length env) f count → IsNested w env → Each IsPlainSlot actuals → step ask code s0 ≡ moved l (enter_body (slice_get code.entries.items f) [] env actuals after ks w) → Runs ask code (Told k code w0) 0 2 s0 c0 (returned_to after ks) (run_number p (tools_with ask p call) env actuals f c l w)
+  number_runs : (call : Names.Call) (bound : ℕ) → Calls ask k code setting bound call → GivesEach ask k code setting call (default_in p.defaults (expression_tools ask p call)) → (f : ℕ) (s : Subprogram) → slice_get setting.subprograms f ≡ Some s → (w0 : World) (env : List ℕ) (actuals : List Slot) (after : After) (ks : List Frame) (c0 c : ℕ) (l : Log) (w : World) (s0 : State) (kind : SubprogramKind) (count : ℕ) → EndsIn kind after → c ≤ bound → c ≤ c0 → c0 ≤ c + 1 → Since k code w0 w → IsCallable code kind (length env) f count → IsNested w env → Each IsPlainSlot actuals → step ask code s0 ≡ moved l (enter_body (slice_get code.entries.items f) [] env actuals after ks w) → Runs ask code (Told k code w0) 0 2 s0 c0 (returned_to after ks) (run_number p (tools_with ask p call) env actuals f c l w)
   unfolding run_number run_routine tools_with opened_outcome
-  number_runs call bound calls f s here w0 env actuals after ks c0 c l w s0 kind count ends le lo hi fits callable nested plain first =
+  number_runs call bound calls given f s here w0 env actuals after ks c0 c l w s0 kind count ends le lo hi fits callable nested plain first =
       let x : Stands k code f s = bodies f s here in
       let inner = λ (display : List ℕ). (body_of s.body).inside (tools_with ask p call) display 0 in
       let scope = callable.0 in
@@ -140,7 +140,7 @@ module _ (ask : Ask) (p : Meaning) (code : Code) (setting : Setting p.tables cod
       subst (λ o. Runs ask code (Told k code w0) 0 2 s0 c0 (returned_to after ks) o) (sym (ap (λ y. on_some y gone (run_routine (tools_with ask p call) env actuals) c l w) (meant f s here)))
       (subst (λ (b : SubprogramKind). Runs ask code (Told k code w0) 0 2 s0 c0 (returned_to after ks) (bind (in_master (tools_with ask p call) (take s.level env) (slots_for (body_of s.body) actuals) inner c l w) (on_goes (λ (y : Left). returned b y.slots y.result)))) (sym of_kind)
       (both ask code (Told k code w0) (Told k code w0) 0 2 0 0 0 2 s0 c0 (leaves after ks) (returned_to after ks) _ (on_goes (λ (y : Left). returned kind y.slots y.result)) (omega arith) (omega arith) (omega arith)
-      ((master_does ask k code setting call (default_in p.defaults (expression_tools ask p call)) (constants call) bound calls s.body).inside (s.level + 1, x.runs) x.before x.texts 0 (KindOf.Body s.level (master_code s.body).slots f) [] w0 (take s.level env) (slots_for (body_of s.body) actuals) after ks c0 c l w s0 x.place le lo hi fits long (nested_taken w.ledger.next_master w.activations 0 s.level env nested) (plain_slots s actuals plain) x.instructions (first ∙ entered f s x env actuals after ks l w))
+      ((master_does ask k code setting call (default_in p.defaults (expression_tools ask p call)) given bound calls s.body).inside (s.level + 1, x.runs) x.before x.texts 0 (KindOf.Body s.level (master_code s.body).slots f) [] w0 (take s.level env) (slots_for (body_of s.body) actuals) after ks c0 c l w s0 x.place le lo hi fits long (nested_taken w.ledger.next_master w.activations [] s.level env nested) (plain_slots s actuals plain) x.instructions (first ∙ entered f s x env actuals after ks l w))
       (λ r c1 l1 w1 lo1 fits1. behind_body w0 after ks kind ends r c1 l1 w1 fits1)))
 
   -- executions of less than so much on the clock behave
@@ -157,7 +157,7 @@ module _ (ask : Ask) (p : Meaning) (code : Code) (setting : Setting p.tables cod
   call_runs zero below (suc c) le f s here w0 v actuals after ks l w s0 kind count ends fits callable nested plain first = absurd (omega (arith, le))
   call_runs (suc n) below (suc c) le f s here w0 v actuals after ks l w s0 kind count ends fits callable nested plain first =
       added ask code (Told k code w0) 1 0 2 0 3 s0 (suc c) (returned_to after ks) _ (omega arith) (omega arith)
-      (number_runs (execution ask p (suc n)) n below f s here w0 v actuals after ks (suc c) c l w s0 kind count ends (omega (arith, le)) (omega arith) (omega arith) fits callable nested plain first)
+      (number_runs (execution ask p (suc n)) n below (defaults (suc n)) f s here w0 v actuals after ks (suc c) c l w s0 kind count ends (omega (arith, le)) (omega arith) (omega arith) fits callable nested plain first)
 
   -- an allocator has taken one before
   allocate_runs : (n : ℕ) → Below n → (access : ℕ) (m : Made) → IsPlainType k (made_type m) → (w0 : World) (d : List ℕ) (place : ℕ) (ks : List Frame) (ops : List Word) (c : ℕ) (l : Log) (w : World) (s0 : State) → c + 1 ≤ n → Since k code w0 w → MayAllocate code access (made_type m) d w → IsServed code m place → step ask code s0 ≡ moved l (by_allocator code m (pool_in (slice_get code.accesses.items access)) (set_seen (slice_get code.accesses.items access) d w) ops (here d place ks w)) → RunsTo ask code (Allocates k code w0) 6 (allocator_steps m) s0 c (returned_to (AfterFunction None (point_at d (behind_allocator place) ops)) ks) (execution ask p (suc n) (OfAllocator access (made_type m) None (made_value m)) d c l w)
@@ -165,7 +165,7 @@ module _ (ask : Ask) (p : Meaning) (code : Code) (setting : Setting p.tables cod
   allocate_runs zero below access m plain w0 d place ks ops c l w s0 le fits may served first = absurd (omega (arith, le))
   allocate_runs (suc n) below access m plain w0 d place ks ops c l w s0 le fits may served first =
       let inner = execution ask p (suc n) in
-      allocator_runs ask k code setting inner (default_in p.defaults (expression_tools ask p inner)) (constants inner) n below w0 m plain access (setting.accesses access) d place ks ops s0 c l w (omega (arith, le)) fits may served first
+      allocator_runs ask k code setting inner (default_in p.defaults (expression_tools ask p inner)) (defaults (suc n)) n below w0 m plain access (setting.accesses access) d place ks ops s0 c l w (omega (arith, le)) fits may served first
 
   -- and so has one whose object takes a value
   give_runs : (n : ℕ) → Below n → (access : ℕ) (of : Ty) → IsScalar of → (x : ℕ) (w0 : World) (d : List ℕ) (place : ℕ) (ks : List Frame) (ops : List Word) (c : ℕ) (l : Log) (w : World) (s0 : State) → c + 1 ≤ n → Since k code w0 w → MayAllocate code access of d w → IsGiven code of place → step ask code s0 ≡ moved l (by_new code of (pool_in (slice_get code.accesses.items access)) (set_seen (slice_get code.accesses.items access) d w) (Scalar x ∷ ops) (here d place ks w)) → RunsTo ask code (Allocates k code w0) 7 9 s0 c (returned_to (AfterFunction None (point_at d (behind_allocator place + 1) ops)) ks) (execution ask p (suc n) (OfAllocator access of None (Some (x ∷ []))) d c l w)
@@ -173,7 +173,7 @@ module _ (ask : Ask) (p : Meaning) (code : Code) (setting : Setting p.tables cod
   give_runs zero below access of scalar x w0 d place ks ops c l w s0 le fits may given first = absurd (omega (arith, le))
   give_runs (suc n) below access of scalar x w0 d place ks ops c l w s0 le fits may given first =
       let inner = execution ask p (suc n) in
-      giver_runs ask k code setting inner (default_in p.defaults (expression_tools ask p inner)) (constants inner) n below w0 access (setting.accesses access) of scalar x d place ks ops s0 c l w (omega (arith, le)) fits may given first
+      giver_runs ask k code setting inner (default_in p.defaults (expression_tools ask p inner)) (defaults (suc n)) n below w0 access (setting.accesses access) of scalar x d place ks ops s0 c l w (omega (arith, le)) fits may given first
 
   all_below : (n : ℕ) → Below n
   all_below zero = tt
@@ -187,4 +187,4 @@ module _ (ask : Ask) (p : Meaning) (code : Code) (setting : Setting p.tables cod
   -- the main procedure, which is declared in no master and has no formals
   pub main_runs : (main : ℕ) (s : Subprogram) → slice_get setting.subprograms main ≡ Some s → IsCallable code Procedure 0 main 0 → slice_get code.instructions.items 0 ≡ Some (InstrOf.Start main) → (clock : ℕ) → Runs ask code (Told k code empty_world) 0 2 start clock (returns []) (run_meaning p main ask clock)
   unfolding run_meaning tools
-  main_runs main s here callable has clock = number_runs (execution ask p (suc clock)) clock (all_below (suc clock)) main s here empty_world [] [] AfterBody [] clock clock empty_log empty_world start Procedure 0 tt (omega arith) (omega arith) (omega arith) (fits_empty k code, keeps_itself k code empty_world) callable tt tt (by_code ask code [] 0 [] [] empty_log empty_world (InstrOf.Start main) has)
+  main_runs main s here callable has clock = number_runs (execution ask p (suc clock)) clock (all_below (suc clock)) (defaults (suc clock)) main s here empty_world [] [] AfterBody [] clock clock empty_log empty_world start Procedure 0 tt (omega arith) (omega arith) (omega arith) (fits_empty k code, keeps_itself k code empty_world) callable tt tt (by_code ask code [] 0 [] [] empty_log empty_world (InstrOf.Start main) has)

@@ -19,7 +19,7 @@ use Rattle.ctl_code.specs.declared.kinds.Kind.{Kind}
 use Rattle.ctl_code.specs.States.{Word, Point, After, AfterProcedure, Frame, State}
 use Rattle.ctl_code.specs.Table.{call_body, enter_body, with_values}
 use Rattle.ctl_code.specs.Steps.{moved, step}
-use Rattle.ctl_code.specs.Valid.{IsCalled, IsInScope, over_numbers}
+use Rattle.ctl_code.specs.Valid.{IsCalled, over_numbers}
 use Rattle.ctl_code.specs.Windows.{depth, height}
 use Rattle.ctl_code.proofs.Keeping.{words_of}
 use Rattle.ctl_layout.specs.Around.{Line}
@@ -124,8 +124,10 @@ module _ (ask : Ask) (k : Tables) (code : Code) (setting : Setting k code) (call
 
       callable : IsCallable code kind (length d) f (length xs)
       callable =
-          let same : depth (with_actuals xs s) ≡ length d = depth_with xs s ∙ sym long.2 in
-          (subst (λ n. IsInScope code n (Some f)) same called.0, called.1)
+          let same = depth_with xs s in
+          let most = long.2.0 in
+          let high = called.0.2 in
+          ((called.0.0, called.0.1, omega (arith, same, most, high)), called.1)
 
   -- where no copy goes back, nothing more is done
   pub nothing_back : (w0 : World) (xs : List ActualCode) (d : List ℕ) (c : ℕ) (after : List Word → After) (ks : List Frame) (ops : List Word) (next : Result Returned → Log → World → State) → goes_back xs ≡ false → ((r : Result Returned) (l : Log) (w : World) → Told k code w0 (way_of r) w → returned_to (after ops) ks r l w ≡ next r l w) → GoesOn w0 0 c after xs d ks ops next
@@ -227,7 +229,9 @@ module _ (ask : Ask) (k : Tables) (code : Code) (setting : Setting k code) (call
       let lines = taking_actuals (InstrOf.Call f (length xs) (copies_of xs)) xs base in
       let behind = copies_code xs s in
       let h = seen sees in
-      let seen_over : IsSeen w0 d base = (h.0, h.1, h.2 ∙ sym (depth_over n s)) in
+      let long = sees.long in
+      let over = depth_over n s in
+      let seen_over : IsSeen w0 d base = (h.0, h.1, (omega (arith, long, over), λ entered. long ∙ sym over)) in
       let front = laid_front code place (before ++ lines) behind has in
       let place0 = place + length before in
       let place1 = place0 + length lines in

@@ -1,5 +1,5 @@
 -- The displays of masters, and collections: each belongs to a master, and with it the objects that are allocated for it (4.8, 7.6.1).
-use Rattle.std.proofs.Common.{◌≡◌, ℕ, zero, suc, ◌+◌, ◌<◌, ◌≤◌, List, [], ◌∷◌, ◌++◌, length, Some, Bool, true, false, refl, sym, ap, ◌∙◌, subst, arith}
+use Rattle.std.proofs.Common.{◌≡◌, ℕ, zero, suc, ◌<◌, ◌≤◌, List, [], ◌∷◌, ◌++◌, length, Some, Bool, true, false, refl, sym, ap, ◌∙◌, subst, append_assoc, arith}
 use Rattle.std.specs.Prelude.{if◌then◌else◌, nat_eq, not, ◌||◌, map, take, slice_get}
 use Rattle.std.proofs.lemmas.Bool.{eqb-true, eq-eqb, ne_eqb}
 use Rattle.ctl_meaning.specs.World.{Origin, Declared, Allocated, Collection, Content, Nothing, Holds, Binds, Copies, Gathers, Slot, Activation, World}
@@ -65,39 +65,39 @@ home_gone m (a ∷ as') = one (nat_eq a.master m) refl (home_gone m as')
 
 -- Nested masters --------------------------------------------------------------------------------------
 
--- the display of a master that has not been left has so many masters
-abbrev pub HasLevel : ℕ → List ℕ → Type 0
-HasLevel level d = 1 ≤ length d → length d ≡ level
+-- the display of a master that has not been left is this one
+abbrev pub HasDisplay : List ℕ → List ℕ → Type 0
+HasDisplay whole d = 1 ≤ length d → d ≡ whole
 
--- behind so many masters, these are nested in one another: each is older than the next one, and its own display is as long as this one is up
--- to it, unless it has been left
-abbrev pub AreNested : ℕ → List Activation → ℕ → List ℕ → Type 0
-AreNested next as' n [] = Unit {0}
-AreNested next as' n (m ∷ ms) = (m < next) × HasLevel (n + 1) (home m as') × AreNested next as' (n + 1) ms
+-- behind these masters, those are nested in one another: each is older than the next one, and sees all up to itself, unless it has been left
+abbrev pub AreNested : ℕ → List Activation → List ℕ → List ℕ → Type 0
+AreNested next as' before [] = Unit {0}
+AreNested next as' before (m ∷ ms) = (m < next) × HasDisplay (before ++ m ∷ []) (home m as') × AreNested next as' (before ++ m ∷ []) ms
 
-pub nested_in : (next next1 : ℕ) (as' bs : List Activation) → next ≤ next1 → ((m level : ℕ) → m < next → HasLevel level (home m as') → HasLevel level (home m bs)) → (n : ℕ) (d : List ℕ) → AreNested next as' n d → AreNested next1 bs n d
-nested_in next next1 as' bs le kept n [] h = tt
-nested_in next next1 as' bs le kept n (m ∷ ms) h = let old = h.0 in (omega (arith, old, le), kept m (n + 1) h.0 h.1, nested_in next next1 as' bs le kept (n + 1) ms h.2)
+pub nested_in : (next next1 : ℕ) (as' bs : List Activation) → next ≤ next1 → ((m : ℕ) (whole : List ℕ) → m < next → HasDisplay whole (home m as') → HasDisplay whole (home m bs)) → (before d : List ℕ) → AreNested next as' before d → AreNested next1 bs before d
+nested_in next next1 as' bs le kept before [] h = tt
+nested_in next next1 as' bs le kept before (m ∷ ms) h = let old = h.0 in (omega (arith, old, le), kept m (before ++ m ∷ []) h.0 h.1, nested_in next next1 as' bs le kept (before ++ m ∷ []) ms h.2)
 
 -- where the displays are the same
-pub nested_alike : (next next1 : ℕ) (as' bs : List Activation) → next ≤ next1 → ((m : ℕ) → m < next → home m bs ≡ home m as') → (n : ℕ) (d : List ℕ) → AreNested next as' n d → AreNested next1 bs n d
-nested_alike next next1 as' bs le same n d h = nested_in next next1 as' bs le (λ m level old has. subst (HasLevel level) (sym (same m old)) has) n d h
+pub nested_alike : (next next1 : ℕ) (as' bs : List Activation) → next ≤ next1 → ((m : ℕ) → m < next → home m bs ≡ home m as') → (before d : List ℕ) → AreNested next as' before d → AreNested next1 bs before d
+nested_alike next next1 as' bs le same before d h = nested_in next next1 as' bs le (λ m whole old has. subst (HasDisplay whole) (sym (same m old)) has) before d h
 
-pub nested_taken : (next : ℕ) (as' : List Activation) (n i : ℕ) (d : List ℕ) → AreNested next as' n d → AreNested next as' n (take i d)
-nested_taken next as' n zero d h = tt
-nested_taken next as' n (suc i) [] h = tt
-nested_taken next as' n (suc i) (m ∷ ms) h = (h.0, h.1, nested_taken next as' (n + 1) i ms h.2)
+pub nested_taken : (next : ℕ) (as' : List Activation) (before : List ℕ) (i : ℕ) (d : List ℕ) → AreNested next as' before d → AreNested next as' before (take i d)
+nested_taken next as' before zero d h = tt
+nested_taken next as' before (suc i) [] h = tt
+nested_taken next as' before (suc i) (m ∷ ms) h = (h.0, h.1, nested_taken next as' (before ++ m ∷ []) i ms h.2)
 
 -- one more inside them
-pub nested_and : (next : ℕ) (as' : List Activation) (n : ℕ) (d : List ℕ) (m : ℕ) → m < next → length (home m as') ≡ n + length d + 1 → AreNested next as' n d → AreNested next as' n (d ++ m ∷ [])
-nested_and next as' n [] m old long h = (old, (λ any. omega (arith, long)), tt)
-nested_and next as' n (x ∷ ms) m old long h = (h.0, h.1, nested_and next as' (n + 1) ms m old (omega (arith, long)) h.2)
+pub nested_and : (next : ℕ) (as' : List Activation) (before d : List ℕ) (m : ℕ) → m < next → home m as' ≡ before ++ (d ++ m ∷ []) → AreNested next as' before d → AreNested next as' before (d ++ m ∷ [])
+nested_and next as' before [] m old is h = (old, (λ any. is), tt)
+nested_and next as' before (x ∷ ms) m old is h = (h.0, h.1, nested_and next as' (before ++ x ∷ []) ms m old (is ∙ sym (append_assoc before (x ∷ []) (ms ++ m ∷ []))) h.2)
 
-pub nested_at : (next : ℕ) (as' : List Activation) (n i : ℕ) (d : List ℕ) → i < length d → AreNested next as' n d → HasLevel (n + i + 1) (home (item_or 0 (slice_get d i)) as')
+-- one of them sees those up to it
+pub nested_at : (next : ℕ) (as' : List Activation) (before : List ℕ) (i : ℕ) (d : List ℕ) → i < length d → AreNested next as' before d → HasDisplay (before ++ take (suc i) d) (home (item_or 0 (slice_get d i)) as')
 unfolding item_or
-nested_at next as' n i [] less h = absurd (omega (arith, less))
-nested_at next as' n zero (m ∷ ms) less h = λ any. let level = h.1 any in omega (arith, level)
-nested_at next as' n (suc i) (m ∷ ms) less h = λ any. let level = nested_at next as' (n + 1) i ms (omega (arith, less)) h.2 any in omega (arith, level)
+nested_at next as' before i [] less h = absurd (omega (arith, less))
+nested_at next as' before zero (m ∷ ms) less h = h.1
+nested_at next as' before (suc i) (m ∷ ms) less h = λ any. nested_at next as' (before ++ m ∷ []) i ms (omega (arith, less)) h.2 any ∙ append_assoc before (m ∷ []) (take (suc i) ms)
 
 -- Collections -----------------------------------------------------------------------------------------
 

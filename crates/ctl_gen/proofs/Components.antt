@@ -9,7 +9,7 @@ use Rattle.ctl_program.specs.declared.expression.Step.{Step}
 use Rattle.ctl_tree.specs.declared.ending.Stop.TheVariants.{UseAfterFree}
 use Rattle.ctl_meaning.specs.World.{Object, Log, World}
 use Rattle.ctl_meaning.specs.Objects.{cells_at, first_cells}
-use Rattle.ctl_meaning.specs.Changes.{object_at, slot_at, write_cells}
+use Rattle.ctl_meaning.specs.Changes.{object_at, write_cells}
 use Rattle.ctl_meaning.specs.Choice.{Ask}
 use Rattle.ctl_meaning.specs.Outcome.{ByRaise, Result, Goes, Leaves, Out, Act, Done, add, bind, on_goes, ◌>>=◌, done, change, ticked, on_some, opened_outcome}
 use Rattle.ctl_meaning.specs.Types.{Tables, cells_of}
@@ -22,9 +22,7 @@ use Rattle.ctl_code.specs.declared.kinds.Kind.{Kind}
 use Rattle.ctl_code.specs.declared.kinds.Kind.TheVariants.{Operand}
 use Rattle.ctl_code.specs.States.{Word, Located, Cells, Frame, State}
 use Rattle.ctl_code.specs.Steps.{moved, step}
-use Rattle.ctl_code.specs.Table.{by_fetch_part, fetch_from, fetched, holder_at, offset_of, on_top, put, store_into, stored, word_of}
-use Rattle.ctl_code.specs.Windows.{depth}
-use Rattle.ctl_layout.specs.Around.{out_to}
+use Rattle.ctl_code.specs.Table.{by_fetch_part, fetch_from, fetched, holder_at, offset_of, on_top, put, store_into, stored}
 use Rattle.ctl_layout.specs.declared.right.Right.TheVariants as RightOf
 use Rattle.ctl_layout.specs.Parts.{Start, OfVariable, OfValue, OfRecord, Reached, are_followed, component_code, located_code, taken_code}
 use Rattle.ctl_layout.specs.Values.{ValueCode, held, value_type}
@@ -33,7 +31,7 @@ use Rattle.ctl_gen.proofs.Known.{IsScalar}
 use Rattle.ctl_gen.proofs.Place.{Laid, laid_front, laid_back}
 use Rattle.ctl_gen.proofs.Worlds.{Since, Kept, since_written}
 use Rattle.ctl_gen.proofs.Setting.{IsSeen, seen, tools_with}
-use Rattle.ctl_gen.proofs.Cells.{Any, OneCell, Stays, by_code, here, landed, landed_leaves, out_is, put_there, taking_is, waiting}
+use Rattle.ctl_gen.proofs.Cells.{Any, OneCell, Stays, by_code, here, landed, landed_leaves, put_there, taking_is, waiting}
 use Rattle.ctl_gen.proofs.Values.{one_cell, scalar_cells}
 use Rattle.ctl_gen.proofs.Expressions as X
 use Rattle.ctl_gen.proofs.Expressions.{Value, held_holds, held_then}
@@ -82,13 +80,12 @@ module _ (ask : Ask) (k : Tables) (code : Code) (call : Call) (default : Default
           by (Some y) go = last_step_to ask code (OneCell Fits Any) 8 8 s0 c (last.ticks + 0) (landed to d (place + 1) ks ops) (Goes (cells_at (p.offset + offset) 1 y)) l w (omega arith) (fits, (scalar_of (cells_at (p.offset + offset) 1 y), one_cell (drop (p.offset + offset) y.cells), tt)) (go ∙ put_there to (cells_at (p.offset + offset) 1 y) d place ks ops l w)
 
       -- a component of what a variable holds itself
-      fetches_it : (v : Var) (to : Cell) (ty : Ty) (s : List Kind) (d : List ℕ) (place : ℕ) (ks : List Frame) (ops : List Word) (c : ℕ) (l : Log) (w : World) → Fits w → length d ≡ depth s → slice_get code.instructions.items place ≡ Some (InstrOf.FetchPart (out_to s v) v.slot t position ty to) → Gets 8 8 (at d place ks ops l w) c (landed to.named d (place + 1) ks ops) (bind (object_found (holds (content_of d v w)) c l w) fetching)
+      fetches_it : (v : Var) (to : Cell) (ty : Ty) (s : List Kind) (d : List ℕ) (place : ℕ) (ks : List Frame) (ops : List Word) (c : ℕ) (l : Log) (w : World) → Fits w → slice_get code.instructions.items place ≡ Some (InstrOf.FetchPart v t position ty to) → Gets 8 8 (at d place ks ops l w) c (landed to.named d (place + 1) ks ops) (bind (object_found (holds (content_of d v w)) c l w) fetching)
       unfolding opened_outcome
-      fetches_it v to ty s d place ks ops c l w fits long has =
+      fetches_it v to ty s d place ks ops c l w fits has =
           by (holds (content_of d v w))
-          (by_code ask code d place ks ops l w (InstrOf.FetchPart (out_to s v) v.slot t position ty to) has
-          ∙ ap (λ j. moved l (by_fetch_part j (holder_at d (out_to s v) v.slot w) to.named ops (here d place ks w))) last.there
-          ∙ ap (λ m. moved l (by_fetch_part offset (word_of (slot_at m v.slot w).content) to.named ops (here d place ks w))) (out_is d s v long)
+          (by_code ask code d place ks ops l w (InstrOf.FetchPart v t position ty to) has
+          ∙ ap (λ j. moved l (by_fetch_part j (holder_at d v w) to.named ops (here d place ks w))) last.there
           ∙ ap (λ o. moved l (by_fetch_part offset o to.named ops (here d place ks w))) (held_word (content_of d v w)))
         where
           by : (o : Option RecordOperand) → step ask code (at d place ks ops l w) ≡ moved l (by_fetch_part offset (option_map word o) to.named ops (here d place ks w)) → Gets 8 8 (at d place ks ops l w) c (landed to.named d (place + 1) ks ops) (bind (object_found o c l w) fetching)
@@ -123,7 +120,7 @@ module _ (ask : Ask) (k : Tables) (code : Code) (call : Call) (default : Default
       reads : (b : Start) (ss : List Step) → Starts ask k code bound w0 b given → are_followed b ss ≡ true → ss ≡ steps → (to : Cell) (ty : Ty) (s : List Kind) (d : List ℕ) (place : ℕ) (ks : List Frame) (ops : List Word) (c : ℕ) (l : Log) (w : World) → c ≤ bound → Fits w → IsSeen w0 d s → Laid code place (component_code b ss t position ty to s) → Gets 8 8 (at d place ks ops l w) c (landed to.named d (place + length (component_code b ss t position ty to s)) ks ops) (bind (find_by K given ss b d c l w) fetching)
       reads (OfVariable v) [] begun led same to ty s d place ks ops c l w le fits long has =
           subst (λ o. Gets 8 8 (at d place ks ops l w) c (landed to.named d (place + 1) ks ops) (bind o fetching)) (sym (finds_object K v d c l w))
-          (fetches_it v to ty s d place ks ops c l w fits long.2 has.0)
+          (fetches_it v to ty s d place ks ops c l w fits has.0)
       reads (OfVariable v) (x ∷ more) begun led same to ty s d place ks ops c l w le fits long has = takes (OfVariable v) (x ∷ more) begun led same to ty s d place ks ops c l w le fits long has
       reads (OfValue form lines) ss begun led same to ty s d place ks ops c l w le fits long has = takes (OfValue form lines) ss begun led same to ty s d place ks ops c l w le fits long has
       reads (OfRecord u form lines) ss begun led same to ty s d place ks ops c l w le fits long has = takes (OfRecord u form lines) ss begun led same to ty s d place ks ops c l w le fits long has

@@ -35,7 +35,7 @@ use Rattle.ctl_gen.proofs.Sources.{Reads}
 use Rattle.ctl_gen.proofs.Parts.{OfCells, OfObject, RecordOperand, word}
 use Rattle.ctl_gen.proofs.PartValues.{given_is, taken, taken_from, value_then}
 use Rattle.ctl_gen.proofs.Worlds.{Since, Kept, since_on}
-use Rattle.ctl_gen.proofs.Parted.{GivesDefaults}
+use Rattle.ctl_gen.proofs.Given.{GivesEach}
 use Rattle.ctl_gen.proofs.Setting.{Setting, Calls, Sees, seen, tools_with}
 use Rattle.ctl_gen.proofs.Cells.{by_code, here}
 use Rattle.ctl_gen.proofs.Place.{laid_front, laid_back}
@@ -44,7 +44,7 @@ use Rattle.ctl_gen.proofs.Follow.{way_of, Runs, Target, added, arrives, at, land
 use Rattle.ctl_gen.proofs.Declare as D
 use Rattle.ctl_gen.proofs.TakenValues as T
 
-module _ (ask : Ask) (k : Tables) (code : Code) (setting : Setting k code) (call : Call) (default : Default) (constants : GivesDefaults k default) (t : ℕ) (r : RecordType) (record_is : slice_get k.records t ≡ Some r) (plain : IsPlain k t r) where
+module _ (ask : Ask) (k : Tables) (code : Code) (setting : Setting k code) (call : Call) (default : Default) (defaults : GivesEach ask k code setting call default) (t : ℕ) (r : RecordType) (record_is : slice_get k.records t ≡ Some r) (plain : IsPlain k t r) where
   abbrev K : Tools
   K = tools_with ask k call default
 
@@ -52,10 +52,10 @@ module _ (ask : Ask) (k : Tables) (code : Code) (setting : Setting k code) (call
   plain_type = (r, record_is, plain)
 
   abbrev standing : ℕ → ℕ → Out Done → Out Done
-  standing = D.standing ask k code setting call default constants t r record_is plain
+  standing = D.standing ask k code setting call default defaults t r record_is plain
 
   abbrev stands : ℕ → ℕ → Result Done → Act Done
-  stands = D.stands ask k code setting call default constants t r record_is plain
+  stands = D.stands ask k code setting call default defaults t r record_is plain
 
   -- What the declaration means -----------------------------------------------------------------------
 
@@ -66,7 +66,7 @@ module _ (ask : Ask) (k : Tables) (code : Code) (setting : Setting k code) (call
   module _ (bound : ℕ) (calls : Calls ask k code setting bound call) where
     -- the new object takes it
     abbrev taking : ℕ → World → ℕ → List ℕ → Act Done
-    taking m w = T.taking ask k code setting call default constants bound calls t plain_type (birth_of (Declared m) w)
+    taking m w = T.taking ask k code setting call default defaults.constants bound calls t plain_type (birth_of (Declared m) w)
 
     declare_is : (slot : ℕ) (d : List ℕ) (v : List ℕ) (c : ℕ) (l : Log) (w : World) → declaring slot d v c l w ≡ bind (taking (last_of d) w w.ledger.next_object v c l (with_object code d slot t w)) (stands w.ledger.next_object (last_of d))
     unfolding declare fill opened_outcome
@@ -74,8 +74,8 @@ module _ (ask : Ask) (k : Tables) (code : Code) (setting : Setting k code) (call
         let n = w.ledger.next_object in
         let m = last_of d in
         ap (λ cells. standing n m (taking m w n v c l (set_slot m slot (holding (Holds n)) (create (Record t) cells (Declared m) w))))
-        (D.begin_cells_is ask k code setting call default constants t r record_is plain ∙ ap (λ i. replicate i 0) (sym (setting.sizes t plain.laid.is)))
-        ∙ D.standing_is ask k code setting call default constants t r record_is plain n m (taking m w n v c l (with_object code d slot t w))
+        (D.begin_cells_is ask k code setting call default defaults t r record_is plain ∙ ap (λ i. replicate i 0) (sym (setting.sizes t plain.laid.is)))
+        ∙ D.standing_is ask k code setting call default defaults t r record_is plain n m (taking m w n v c l (with_object code d slot t w))
 
     -- What its code does -----------------------------------------------------------------------------
 
@@ -88,12 +88,12 @@ module _ (ask : Ask) (k : Tables) (code : Code) (setting : Setting k code) (call
         let m = last_of d in
         let w1 = with_object code d slot t w in
         let p : Point = record { display = d; place = place + 1; operands = ops } in
-        let fits1 = D.created_fits ask k code setting call default constants t r record_is plain slot s w0 d w declarable fits sees in
-        let around = D.created_around ask k code setting call default constants t r record_is plain slot w0 d w fits fits1 in
+        let fits1 = D.created_fits ask k code setting call default defaults t r record_is plain slot s w0 d w declarable fits sees in
+        let around = D.created_around ask k code setting call default defaults t r record_is plain slot w0 d w fits fits1 in
         subst (Runs ask code (Kept k code w0) 6 8 s0 c (arrives e d (place + 1) ks ops)) (sym (declare_is slot d v c l w))
-        (T.taken_runs ask k code setting call default constants bound calls t plain_type ByDeclaration n (OwnerOf.Master m) (birth_of (Declared m) w) refl p ks w1 fits1.0 around (λ x u. Kept k code w0 (way_of x) u) (arrives e d (place + 1) ks ops) (stands n m)
-        (λ s1 c0 c1 l1 w2 lo hi fits2 first. D.lives_on ask k code setting call default constants t r record_is plain w0 n e p ks s1 c0 c1 l1 w2 lo hi (since_on k code w0 w1 w2 fits1 fits2) first)
-        (λ x c1 l1 w2 told. D.stands_runs ask k code setting call default constants t r record_is plain bound calls w0 w1 n e p ks fits1 x c1 l1 w2 told)
+        (T.taken_runs ask k code setting call default defaults.constants bound calls t plain_type ByDeclaration n (OwnerOf.Master m) (birth_of (Declared m) w) refl p ks w1 fits1.0 around (λ x u. Kept k code w0 (way_of x) u) (arrives e d (place + 1) ks ops) (stands n m)
+        (λ s1 c0 c1 l1 w2 lo hi fits2 first. D.lives_on ask k code setting call default defaults t r record_is plain w0 n e p ks s1 c0 c1 l1 w2 lo hi (since_on k code w0 w1 w2 fits1 fits2) first)
+        (λ x c1 l1 w2 told. D.stands_runs ask k code setting call default defaults t r record_is plain bound calls w0 w1 n e p ks fits1 x c1 l1 w2 told)
         v s0 c c l le (omega arith) (omega arith) go)
 
     -- over the part whose value it is, or that value

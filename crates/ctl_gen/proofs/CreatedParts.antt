@@ -1,38 +1,46 @@
--- The creation of a part by default: its components in a chosen order, each by its constant or by its own record type, and then its own
+-- The creation of a part by default: its components in a chosen order, each by its default or by its own record type, and then its own
 -- Initialize. Where one of them raises, what is complete of the part is finalized (3.8, 7.6, 7.6.1).
 use Rattle.std.proofs.Common.{◌≡◌, ℕ, zero, suc, ◌+◌, ◌<◌, ◌≤◌, List, [], ◌∷◌, ◌++◌, length, Option, Some, None, true, false, refl, sym, ap, ◌∙◌, subst, arith, inr}
 use Rattle.std.specs.Prelude.{slice_get, is_some}
+use Rattle.std.proofs.lemmas.List.{take_all}
+use Rattle.ctl_program.specs.declared.types.Ty.{Ty}
 use Rattle.ctl_program.specs.declared.types.Ty.TheVariants.{Record}
 use Rattle.ctl_program.specs.declared.operators.SubprogramKind.TheVariants.{Procedure}
 use Rattle.ctl_tree.specs.declared.ending.Stop.TheVariants.{UseAfterFree}
 use Rattle.ctl_tree.specs.declared.event.Event.{Event}
 use Rattle.ctl_tree.specs.declared.event.Event.TheVariants as EventOf
 use Rattle.ctl_tree.specs.declared.event.Owner.{Owner}
-use Rattle.ctl_meaning.specs.World.{Object, Binds, holding, Log, World}
-use Rattle.ctl_meaning.specs.Lists.{pull_item, pull_rest}
-use Rattle.ctl_meaning.specs.Changes.{object_at, write_cells, home_of}
+use Rattle.ctl_meaning.specs.World.{Object, Origin, Declared, Binds, holding, Log, World}
+use Rattle.ctl_meaning.specs.Lists.{last_of, pull_item, pull_rest}
+use Rattle.ctl_meaning.specs.Changes.{object_at, write_cells, home_master, home_of}
 use Rattle.ctl_meaning.specs.Choice.{Ask, picked}
 use Rattle.ctl_meaning.specs.Outcome.{Way, ByRaise, Result, Goes, Leaves, Out, Gives, Stops, Cut, Act, Done, Tried, Fine, Raised, add, after_pick, ticked, bind, on_goes, ◌>>=◌, ◌>>◌, nothing, tell, show, look, change, told, attempt, when, either, on_some, opened_outcome}
 use Rattle.ctl_meaning.specs.Types.{Tables, Placed, is_controlled, operation, of_record}
 use Rattle.ctl_meaning.specs.Names.{OfSubprogram, Call, Default, Tools, gone, write_part, Returned, opened_names}
 use Rattle.ctl_meaning.specs.Finalization.{Spot, no_component, component_at, part_of, call_operation, opened_finalization}
-use Rattle.ctl_meaning.specs.Adjustment.{Birth, adjust, adjust_record, lives}
+use Rattle.ctl_meaning.specs.Adjustment.{Birth, adjust, adjust_record, birth_of, lives}
 use Rattle.ctl_meaning.specs.Initialization as M
 use Rattle.ctl_meaning.specs.Initialization.{paths_of, begun_with, begin_next, begin_each, begin_component, own_initialize, unless_failed, clean_up, begun, initialize_part, parts_to_begin}
 use Rattle.ctl_code.specs.declared.code.Begun.{Begun}
 use Rattle.ctl_code.specs.declared.code.Code.{Code}
 use Rattle.ctl_code.specs.declared.code.Initial.{Initial}
-use Rattle.ctl_code.specs.declared.code.Initial.TheVariants.{Constant, ByType}
+use Rattle.ctl_code.specs.declared.code.Initial.TheVariants.{Constant, ByType, Computed}
 use Rattle.ctl_code.specs.declared.code.Parts.{Parts}
 use Rattle.ctl_code.specs.declared.code.Parts.TheVariants.{Plain, Within, Controlled}
-use Rattle.ctl_code.specs.States.{Complete, Giving, AfterBody, Frame, Newborn, Filling, Initializing, State}
+use Rattle.ctl_code.specs.States.{Complete, Giving, AfterBody, Point, Maker, Frame, Newborn, Creating, Filling, Evaluating, Initializing, State}
 use Rattle.ctl_code.specs.Table as Table
-use Rattle.ctl_code.specs.Table.{begun_in, begun_of, birth, complete_of, completed, component_of, controlled_of, fail, initialize_by, initialize_own, is_one_of, operation_of, part_at, parts_of, showing, take_default, is_made_at_once}
+use Rattle.ctl_code.specs.Table.{begun_in, begun_of, birth, complete_of, completed, component_of, controlled_of, created_in, default_of, fail, initialize_by, initialize_own, is_one_of, operation_of, part_at, parts_of, showing, take_default, is_made_at_once}
 use Rattle.ctl_code.specs.Steps.{moved, step, stepped}
 use Rattle.ctl_code.specs.Valid.{AreBegunBy, IsBegunBy, IsDeclarable, IsValid, PositionsRise}
+use Rattle.ctl_layout.specs.Layout.{evaluation}
+use Rattle.ctl_layout.specs.Values.{value_code}
 use Rattle.ctl_code.proofs.Declarable.{layout_of}
 use Rattle.ctl_gen.proofs.Known.{IsPlainType}
-use Rattle.ctl_gen.proofs.Parted.{AgreesOn, AreBegun, BeginsBy, GivesDefaults, begun_length, begun_pulled, begun_rest, is_itself}
+use Rattle.ctl_gen.proofs.Given.{GivesEach}
+use Rattle.ctl_gen.proofs.Evaluation.{evaluation_runs}
+use Rattle.ctl_gen.proofs.Collections.{home}
+use Rattle.ctl_gen.proofs.Place.{Laid}
+use Rattle.ctl_gen.proofs.Parted.{AgreesOn, AreBegun, BeginsBy, IsComputed, begun_length, begun_pulled, begun_rest, is_itself}
 use Rattle.ctl_gen.proofs.Picks.{picked_less, rest_length}
 use Rattle.ctl_gen.proofs.Plain.{scalar_of_record}
 use Rattle.ctl_gen.proofs.Worlds.{Fits, Since, since_written, still_home, origin_nested}
@@ -41,8 +49,8 @@ use Rattle.ctl_gen.proofs.Complete.{AreSame, Progress, behind, begins, complete_
 use Rattle.ctl_gen.proofs.FinalizedParts.{call_is}
 use Rattle.ctl_gen.proofs.FailedParts.{Fallen, all_complete, failed_runs}
 use Rattle.ctl_gen.proofs.KeptPaths.{are_complete}
-use Rattle.ctl_gen.proofs.Setting.{Setting, tools_with, returns, Told, Calls, enter_shows}
-use Rattle.ctl_gen.proofs.Follow.{by_raise, gives, way_of, Runs, add_none, added, bind_add, bind_bind, both, end_step, one_step, stop_step, weaker, within}
+use Rattle.ctl_gen.proofs.Setting.{IsMadeAmong, Setting, tools_with, returns, Told, Calls, enter_shows}
+use Rattle.ctl_gen.proofs.Follow.{by_raise, at, gives, way_of, Runs, add_none, added, bind_add, bind_bind, both, end_step, one_step, stop_step, weaker, within}
 
 -- Joined constructs -----------------------------------------------------------------------------------
 
@@ -88,7 +96,19 @@ new_part s t owner = record { spot = s; type = t; owner = owner }
 abbrev pub IsAround : Code → ℕ → ℕ → World → Type 0
 IsAround code n t w = (o : Object) × (object_at n w ≡ Some o) × IsDeclarable code (length (home_of o.origin w)) t
 
-module _ (ask : Ask) (k : Tables) (code : Code) (setting : Setting k code) (call : Call) (default : Default) (constants : GivesDefaults k default) (bound : ℕ) (calls : Calls ask k code setting bound call) where
+-- its defaults mean what they do in these masters, which are the first of those that are seen where these frames create it
+abbrev pub IsBornAmong : Birth → List ℕ → List Frame → World → Type 0
+IsBornAmong born outer ks w = (born.home ≡ outer) × IsMadeAmong outer (created_in ks) w
+
+-- so it is where an object is declared (3.3.1)
+pub declared_among : (code : Code) (by : Maker) (n t : ℕ) (p : Point) (ks : List Frame) (x : Object) (v w : World) (inside : IsAround code n t w) → object_at n w ≡ Some x → x.origin ≡ Declared (last_of p.display) → home (last_of p.display) v.activations ≡ p.display → last_of p.display < w.ledger.next_master → home (last_of p.display) w.activations ≡ p.display → IsBornAmong (birth_of (Declared (last_of p.display)) v) (home_of inside.0.origin w) (Creating by n t p ∷ ks) w
+unfolding birth_of home_of home_master
+declared_among code by n t p ks x v w inside there origin before old now =
+    let same : inside.0 ≡ x = (let both : Some inside.0 ≡ Some x = sym inside.1 ∙ there in cc both) in
+    let outer : home_of inside.0.origin w ≡ p.display = ap (λ (y : Object). home_of y.origin w) same ∙ (ap (λ (z : Origin). home_of z w) origin ∙ now) in
+    (before ∙ sym outer, subst (λ (e : List ℕ). IsMadeAmong e p.display w) (sym outer) (old, now, omega arith, sym (take_all (length p.display) p.display (omega arith))))
+
+module _ (ask : Ask) (k : Tables) (code : Code) (setting : Setting k code) (call : Call) (default : Default) (defaults : GivesEach ask k code setting call default) (bound : ℕ) (calls : Calls ask k code setting bound call) where
   abbrev K : Tools
   K = tools_with ask k call default
 
@@ -99,7 +119,7 @@ module _ (ask : Ask) (k : Tables) (code : Code) (setting : Setting k code) (call
       → step ask code s0 ≡ moved l (fail s (complete_of code t left) e ks w) → Runs ask code (Told k code w0) 0 0 s0 c (returns ks) (clean_up K s t paths e c l w)
   clean_up_runs s t left paths e w0 ks c l w s0 plain le fits0 inside fits same first =
       weaker ask code (Fallen k code w0) (Told k code w0) 0 0 s0 c (returns ks) (clean_up K s t paths e c l w) told_of
-      (failed_runs ask k code setting call default constants bound calls w0 inside.0 fits0 s t paths left e ks c l w s0 inside.1 plain inside.2 (are_complete K s t left paths same) le fits first)
+      (failed_runs ask k code setting call default defaults.constants bound calls w0 inside.0 fits0 s t paths left e ks c l w s0 inside.1 plain inside.2 (are_complete K s t left paths same) le fits first)
     where
       told_of : (y : Option Way) (v : World) → Fallen k code w0 y v → Told k code w0 y v
       told_of None v h = absurd h.0
@@ -108,7 +128,7 @@ module _ (ask : Ask) (k : Tables) (code : Code) (setting : Setting k code) (call
   -- parts of the first so many types are created as the meaning says
   abbrev pub PartsRun : ℕ → Type 0
   PartsRun m =
-      (t : ℕ) → t < m → IsPlainType k (Record t) → (s : Spot) (owner : Owner) (born : Birth) → born.owner ≡ owner → (w0 : World) → Fits k code w0 → IsAround code s.object t w0 → (ks : List Frame) (c : ℕ) (l : Log) (w : World) → c ≤ bound → Since k code w0 w
+      (t : ℕ) → t < m → IsPlainType k (Record t) → (s : Spot) (owner : Owner) (born : Birth) → born.owner ≡ owner → (w0 : World) → Fits k code w0 → (inside : IsAround code s.object t w0) → (ks : List Frame) → IsBornAmong born (home_of inside.0.origin w0) ks w0 → (c : ℕ) (l : Log) (w : World) → c ≤ bound → Since k code w0 w
       → Runs ask code (Told k code w0) 3 3 (gives (Filling (new_part s t owner) (begun_of code t) (begun_of code t) ∷ ks) (Fine Complete) l w) c (returns ks) (initialize_part K born m s t c l w)
 
   -- What the creation means -----------------------------------------------------------------------------
@@ -179,6 +199,14 @@ module _ (ask : Ask) (k : Tables) (code : Code) (setting : Setting k code) (call
       by None = refl
       by (Some z) = refl
 
+  -- and what one comes to whose default is evaluated: its value goes into its cell
+  default_is : (m : ℕ) (born : Birth) (s : Spot) (t : ℕ) (p : Placed) (offset c : ℕ) (l : Log) (w : World) → offset ≡ p.offset → BeginsBy k default t p Computed → begin_component K born (initialize_part K born m) s t p c l w ≡ bind (bind (default t p.position born.home c l w) (on_goes (λ x. write_part s.object (s.offset + offset) x))) (on_goes (λ _. nothing))
+  unfolding begin_component opened_names opened_outcome adjust
+  default_is m born s t p offset c l w place h =
+      ap (λ b. either b (λ c1 l1 w1. bind (bind (default t p.position born.home c1 l1 w1) (on_goes (λ x. write_part s.object (s.offset + p.offset) x))) (on_goes (λ _. of_record nothing (adjust_record K (Some born) (component_at s p)) p.ty))) (of_record nothing (initialize_part K born m (component_at s p)) p.ty) c l w) h.0
+      ∙ (ap (λ a. bind (bind (default t p.position born.home c l w) (on_goes (λ x. write_part s.object (s.offset + p.offset) x))) (on_goes (λ _. a))) (scalar_of_record nothing (adjust_record K (Some born) (component_at s p)) p.ty h.1)
+      ∙ ap (λ i. bind (bind (default t p.position born.home c l w) (on_goes (λ x. write_part s.object (s.offset + i) x))) (on_goes (λ _. nothing))) (sym place))
+
   -- and what one of a record type comes to
   record_is : (m : ℕ) (born : Birth) (s : Spot) (t : ℕ) (p : Placed) (u offset position c : ℕ) (l : Log) (w : World) → offset ≡ p.offset → position ≡ p.position → BeginsBy k default t p (ByType u) → begin_component K born (initialize_part K born m) s t p c l w ≡ initialize_part K born m (component_of s offset position) u c l w
   unfolding begin_component component_at of_record opened_outcome
@@ -222,7 +250,7 @@ module _ (ask : Ask) (k : Tables) (code : Code) (setting : Setting k code) (call
   at_once_is m born s t c l w plain once = part_is m born s t c l w ∙ by (initialized_parts k t) (begun_of code t) (parts_of code t) agrees.begun agrees.itself once
     where
       agrees : AgreesOn k code default t
-      agrees = setting.agrees default constants t plain
+      agrees = setting.agrees default defaults.constants t plain
 
       by : (left : List Placed) (items : List Begun) (q : Parts) → AreBegun k default t left items → is_controlled k t ≡ is_itself q → is_made_at_once q items ≡ true → bind (each m born s t (length left) left [] c l w) (after born s t) ≡ Gives (Goes tt) 0 c l w
       by [] [] Plain are itself once = each_over m born s t c [] [] l w ∙ ap (add 0) (none_is born s t [] c l w itself)
@@ -320,7 +348,7 @@ module _ (ask : Ask) (k : Tables) (code : Code) (setting : Setting k code) (call
         → step ask code (gives (Filling (new_part s t owner) (b ∷ bs) incomplete ∷ ks) (Fine Complete) l w) ≡ stepped code (gives (Filling (new_part s t owner) (b ∷ bs) incomplete ∷ ks) (Fine Complete) l w) o
     fill_step count incomplete l w b bs o long is = ap (λ j. stepped code (gives (Filling (new_part s t owner) (b ∷ bs) incomplete ∷ ks) (Fine Complete) l w) (picked ask j l)) long ∙ ap (stepped code (gives (Filling (new_part s t owner) (b ∷ bs) incomplete ∷ ks) (Fine Complete) l w)) is
 
-    module _ (agrees : AgreesOn k code default t) (m : ℕ) (parts : PartsRun m) (old : t < suc m) where
+    module _ (agrees : AgreesOn k code default t) (m : ℕ) (parts : PartsRun m) (old : t < suc m) (among : IsBornAmong born (home_of inside.0.origin w0) ks w0) where
       -- the types of components are declared where the whole is
       abbrev AreAround : List Begun → Type 0
       AreAround items = AreBegunBy code (length (home_of inside.0.origin w0)) items
@@ -358,6 +386,19 @@ module _ (ask : Ask) (k : Tables) (code : Code) (setting : Setting k code) (call
           (clean_up_runs s t items paths e w0 ks c1 l1 w1 _ plain (omega (arith, lo, le)) fits0 inside told1.1 (complete_paths K s k default t (initialized_parts k t) left items paths h.2 h.4) refl))))
           v told1.0
 
+      -- the evaluation of a default, for the frames that create the object
+      default_runs : (q : ℕ) (ty : Ty) (x : IsComputed k t q ty) (offset position : ℕ) → position ≡ q → (mid : List Frame) (c : ℕ) (l : Log) (w : World) → c ≤ bound → Since k code w0 w
+          → Runs ask code (Told k code w0) 0 0 (at (created_in ks) (default_of code t position) (Evaluating s.object offset ∷ mid) [] l w) c (returns mid) (bind (bind (default t q (created_in ks) c l w) (on_goes (write_part s.object offset))) (on_goes (λ _. nothing)))
+      default_runs q ty x offset position number mid c l w le fits =
+          let d = created_in ks in
+          let outer = home_of inside.0.origin w0 in
+          let has = setting.defaults t q ty x in
+          let low = has.around (length outer) inside.2 in
+          let few = among.1.2 in
+          evaluation_runs ask k code w0 bound has.level has.number (value_code x.expression) ty (default t q) (defaults.values bound calls t q ty x w0) s.object offset mid d (default_of code t position) c l w le fits
+          (among.1.0, among.1.1, (omega (arith, low, few), λ entered. absurd entered))
+          (subst (λ i. Laid code (default_of code t i) (evaluation has.level has.number (value_code x.expression) ty)) (sym number) has.laid)
+
       -- the one that is chosen, from the step that begins it
       chosen_runs : (count i : ℕ) (left : List Placed) (items : List Begun) (paths : List (List ℕ)) (y : Begun) → Others count → Stands count i left items paths → (c : ℕ) (l : Log) (w : World) → c ≤ bound → Since k code w0 w
           → (place position : ℕ) → place ≡ (pull_item no_component i left).offset → position ≡ (pull_item no_component i left).position → (j : Initial) → BeginsBy k default t (pull_item no_component i left) j → IsBegunBy code (length (home_of inside.0.origin w0)) j
@@ -383,7 +424,21 @@ module _ (ask : Ask) (k : Tables) (code : Code) (setting : Setting k code) (call
           subst (λ o. Runs ask code (Told k code w0) 30 30 s0 c (returns ks) (bind o (one_more m born s t count i left paths))) (sym (record_is m born s t (pull_item no_component i left) u place position c l w offset number begins_by))
           (one_step ask code (Told k code w0) 20 20 30 30 s0 s1 c c (returns ks) (bind (initialize_part K born m part u c l w) (one_more m born s t count i left paths)) (omega arith) (omega arith) (omega arith) (omega arith) first
           (both ask code (Told k code w0) (Told k code w0) 3 3 3 3 20 20 s1 c (returns mid) (returns ks) (initialize_part K born m part u c l w) (one_more m born s t count i left paths) (omega arith) (omega arith) (omega arith)
-          (parts u (omega (arith, older, old)) begins_by.3 part owner born owned w0 fits0 (inside.0, inside.1, declared) mid c l w le fits)
+          (parts u (omega (arith, older, old)) begins_by.3 part owner born owned w0 fits0 (inside.0, inside.1, declared) mid among c l w le fits)
+          (after_one count i left items paths y others h c le)))
+      chosen_runs count i left items paths y others h c l w le fits place position offset number Computed begins_by declared s0 first =
+          let p = pull_item no_component i left in
+          let x = begins_by.2 in
+          let outer = home_of inside.0.origin w0 in
+          let d = created_in ks in
+          let mid = Filling (new_part s t owner) (pull_rest i items) items ∷ ks in
+          let s1 = at d (default_of code t position) (Evaluating s.object (s.offset + place) ∷ mid) [] l w in
+          let becomes : Out (List ℕ) → Out Done = λ o. bind (bind o (on_goes (write_part s.object (s.offset + place)))) (on_goes (λ _. nothing)) in
+          let seen : default t p.position born.home c l w ≡ default t p.position d c l w = ap (λ e. default t p.position e c l w) (among.0 ∙ among.1.3) ∙ defaults.alike t p.position p.ty x (length outer) d inside.2 c l w in
+          subst (λ o. Runs ask code (Told k code w0) 30 30 s0 c (returns ks) (bind o (one_more m born s t count i left paths))) (sym (default_is m born s t p place c l w offset begins_by ∙ ap becomes seen))
+          (one_step ask code (Told k code w0) 20 20 30 30 s0 s1 c c (returns ks) (bind (becomes (default t p.position d c l w)) (one_more m born s t count i left paths)) (omega arith) (omega arith) (omega arith) (omega arith) first
+          (both ask code (Told k code w0) (Told k code w0) 0 0 3 3 20 20 s1 c (returns mid) (returns ks) (becomes (default t p.position d c l w)) (one_more m born s t count i left paths) (omega arith) (omega arith) (omega arith)
+          (default_runs p.position p.ty x (s.offset + place) position number mid c l w le fits)
           (after_one count i left items paths y others h c le)))
 
       each_runs : (count : ℕ) → Others count
@@ -422,9 +477,9 @@ module _ (ask : Ask) (k : Tables) (code : Code) (setting : Setting k code) (call
   -- Parts of parts --------------------------------------------------------------------------------------
 
   pub parts_run : (m : ℕ) → PartsRun m
-  parts_run zero t less plain s owner born owned w0 fits0 inside ks c l w le fits = absurd (omega (arith, less))
-  parts_run (suc m) t less plain s owner born owned w0 fits0 inside ks c l w le fits =
-      let agrees = setting.agrees default constants t plain in
+  parts_run zero t less plain s owner born owned w0 fits0 inside ks among c l w le fits = absurd (omega (arith, less))
+  parts_run (suc m) t less plain s owner born owned w0 fits0 inside ks among c l w le fits =
+      let agrees = setting.agrees default defaults.constants t plain in
       subst (Runs ask code (Told k code w0) 3 3 (gives (Filling (new_part s t owner) (begun_of code t) (begun_of code t) ∷ ks) (Fine Complete) l w) c (returns ks)) (sym (part_is m born s t c l w))
-      (each_runs t plain s owner born owned w0 fits0 inside ks agrees m (parts_run m) less (length (initialized_parts k t)) c l w (initialized_parts k t) (begun_of code t) (begun_of code t) [] le refl agrees.begun (begun_inside code setting.valid (length (home_of inside.0.origin w0)) t inside.2)
+      (each_runs t plain s owner born owned w0 fits0 inside ks agrees m (parts_run m) less among (length (initialized_parts k t)) c l w (initialized_parts k t) (begun_of code t) (begun_of code t) [] le refl agrees.begun (begun_inside code setting.valid (length (home_of inside.0.origin w0)) t inside.2)
       (begins K s (initialized_parts k t) (begun_of code t) (positions_rise code setting.valid (length (home_of inside.0.origin w0)) t inside.2)) fits)

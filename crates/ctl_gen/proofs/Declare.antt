@@ -3,14 +3,15 @@ use Rattle.std.proofs.Common.{◌≡◌, ℕ, suc, ◌+◌, ◌<◌, ◌≤◌, 
 use Rattle.std.specs.Prelude.{replicate, slice_get, nat_eq, if◌then◌else◌}
 use Rattle.std.proofs.lemmas.Bool.{eqb-true, eq-eqb}
 use Rattle.std.proofs.lemmas.Option.{slice_get_within}
+use Rattle.ctl_program.specs.declared.types.Ty.{Ty}
 use Rattle.ctl_program.specs.declared.types.Ty.TheVariants.{Record}
 use Rattle.ctl_program.specs.declared.types.RecordType.{RecordType}
 use Rattle.ctl_tree.specs.declared.ending.Stop.TheVariants.{UseAfterFree}
 use Rattle.ctl_tree.specs.declared.event.Owner.TheVariants as OwnerOf
-use Rattle.ctl_meaning.specs.World.{Object, Declared, Single, Holds, holding, Log, World}
+use Rattle.ctl_meaning.specs.World.{Object, Origin, Declared, Single, Holds, holding, Log, World}
 use Rattle.ctl_meaning.specs.Lists.{first_with, last_of, opened_lists}
 use Rattle.ctl_meaning.specs.Objects.{object_in}
-use Rattle.ctl_meaning.specs.Changes.{object_at, create, set_slot, add_layer, owner_of, opened_changes}
+use Rattle.ctl_meaning.specs.Changes.{object_at, new_object, create, set_slot, add_layer, home_of, owner_of, opened_changes}
 use Rattle.ctl_meaning.specs.Choice.{Ask, picked}
 use Rattle.ctl_meaning.specs.Outcome.{ByRaise, Result, Goes, Leaves, Out, Gives, Act, Done, Fine, add, bind, on_goes, nothing, change, on_some, opened_outcome}
 use Rattle.ctl_meaning.specs.Types.{Tables, Composite, begin_cells, cells_of, depth, of_record}
@@ -27,12 +28,12 @@ use Rattle.ctl_code.specs.Valid.{IsDeclarable}
 use Rattle.ctl_code.specs.Table.{begun_of, come_to_life, size_of, with_object, is_made_at_once, parts_of, begin_part}
 use Rattle.ctl_code.specs.Steps.{moved, step}
 use Rattle.ctl_gen.proofs.Known.{IsPlain}
-use Rattle.ctl_gen.proofs.Parted.{GivesDefaults}
+use Rattle.ctl_gen.proofs.Given.{GivesEach}
 use Rattle.ctl_gen.proofs.Each.{Each}
 use Rattle.ctl_gen.proofs.Collections.{home}
 use Rattle.ctl_gen.proofs.Worlds.{Since, Kept, keeps_itself, keeps_on, since_create, since_slot, since_layer}
 use Rattle.ctl_gen.proofs.Scopes.{type_inside}
-use Rattle.ctl_gen.proofs.CreatedParts.{IsAround, new_part, parts_run, at_once_is}
+use Rattle.ctl_gen.proofs.CreatedParts.{IsAround, IsBornAmong, declared_among, new_part, parts_run, at_once_is}
 use Rattle.ctl_gen.proofs.Setting.{Setting, tools_with, returns, Told, Sees, Calls}
 use Rattle.ctl_gen.proofs.Cells.{by_code}
 use Rattle.ctl_gen.proofs.Place.{Laid}
@@ -48,7 +49,12 @@ found_newest n (o ∷ os) x h is = by (nat_eq o.number n) refl (found_newest n o
     by true same rest = absurd (let e = eqb-true o.number n same in let lt = h.0 in omega (arith, e, lt))
     by false same rest = rest
 
-module _ (ask : Ask) (k : Tables) (code : Code) (setting : Setting k code) (call : Call) (default : Default) (constants : GivesDefaults k default) (t : ℕ) (r : RecordType) (here : slice_get k.records t ≡ Some r) (plain : IsPlain k t r) where
+-- a new object has this origin
+pub new_origin : (n : ℕ) (ty : Ty) (cells : List ℕ) (x : Origin) → (new_object n ty cells x).origin ≡ x
+unfolding new_object
+new_origin n ty cells x = refl
+
+module _ (ask : Ask) (k : Tables) (code : Code) (setting : Setting k code) (call : Call) (default : Default) (defaults : GivesEach ask k code setting call default) (t : ℕ) (r : RecordType) (here : slice_get k.records t ≡ Some r) (plain : IsPlain k t r) where
   abbrev K : Tools
   K = tools_with ask k call default
 
@@ -90,6 +96,10 @@ module _ (ask : Ask) (k : Tables) (code : Code) (setting : Setting k code) (call
 
       deep : 1 ≤ length (home (last_of d) w.activations)
       deep = subst (λ (x : List ℕ). 1 ≤ length x) (sym same) sees.deep
+
+  pub created_there : (slot : ℕ) (w0 : World) (d : List ℕ) (w : World) → Since k code w0 w → object_at w.ledger.next_object (with_object code d slot t w) ≡ Some (new_object w.ledger.next_object (Record t) (replicate (size_of code t) 0) (Declared (last_of d)))
+  unfolding opened_changes object_in
+  created_there slot w0 d w fits = found_newest w.ledger.next_object w.objects _ fits.0.numbers refl
 
   -- it is there, and its type is declared around its operations
   pub created_around : (slot : ℕ) (w0 : World) (d : List ℕ) (w : World) → Since k code w0 w → Since k code w0 (with_object code d slot t w) → IsAround code w.ledger.next_object t (with_object code d slot t w)
@@ -156,6 +166,12 @@ module _ (ask : Ask) (k : Tables) (code : Code) (setting : Setting k code) (call
         created : Out Done
         created = initialize_part K born (suc (length k.records)) (whole_spot n) t c l w1
 
+        -- its defaults are evaluated where it is declared
+        among : IsBornAmong born (home_of (created_around slot w0 d w fits fits1).0.origin w1) (Creating ByDeclaration n t p ∷ ks) w1
+        among =
+            let old : last_of d < w1.ledger.next_master = omega (arith, sees.old, fits1.1.later) in
+            declared_among code ByDeclaration n t p ks _ w w1 (created_around slot w0 d w fits fits1) (created_there slot w0 d w fits) (new_origin n (Record t) (replicate (size_of code t) 0) (Declared (last_of d))) (fits.1.homes (last_of d) sees.old ∙ sees.home) old (fits1.1.homes (last_of d) sees.old ∙ sees.home)
+
         -- where something is executed for its creation
         begins : step ask code s0 ≡ moved l (begin_part code (new_part (whole_spot n) t (OwnerOf.Master (last_of d))) (Creating ByDeclaration n t p ∷ ks) w1) → Runs ask code (Kept k code w0) 5 7 s0 c next (bind created (stands n (last_of d)))
         begins go =
@@ -163,13 +179,13 @@ module _ (ask : Ask) (k : Tables) (code : Code) (setting : Setting k code) (call
             let s1 = gives (Filling (new_part (whole_spot n) t (OwnerOf.Master (last_of d))) (begun_of code t) (begun_of code t) ∷ mid) (Fine Complete) l w1 in
             one_step ask code (Kept k code w0) 4 6 5 7 s0 s1 c c next (bind created (stands n (last_of d))) (omega arith) (omega arith) (omega arith) (omega arith) go
             (both ask code (Told k code w1) (Kept k code w0) 3 3 1 3 4 6 s1 c (returns mid) next created (stands n (last_of d)) (omega arith) (omega arith) (omega arith)
-            (parts_run ask k code setting call default constants bound calls (suc (length k.records)) t (let within = slice_get_within k.records t r here in omega (arith, within)) (r, here, plain) (whole_spot n) (OwnerOf.Master (last_of d)) born refl w1 fits1.0 (created_around slot w0 d w fits fits1) mid c l w1 le (fits1.0, keeps_itself k code w1))
+            (parts_run ask k code setting call default defaults bound calls (suc (length k.records)) t (let within = slice_get_within k.records t r here in omega (arith, within)) (r, here, plain) (whole_spot n) (OwnerOf.Master (last_of d)) born refl w1 fits1.0 (created_around slot w0 d w fits fits1) mid among c l w1 le (fits1.0, keeps_itself k code w1))
             (λ x c1 l1 w2 lo told1. stands_runs w0 w1 n e p ks fits1 x c1 l1 w2 told1))
 
         by : (once : Bool) → is_made_at_once (parts_of code t) (begun_of code t) ≡ once
             → step ask code s0 ≡ moved l (if once then come_to_life ByDeclaration n (object_at n w1) p ks w1 else begin_part code (new_part (whole_spot n) t (OwnerOf.Master (last_of d))) (Creating ByDeclaration n t p ∷ ks) w1)
             → Runs ask code (Kept k code w0) 5 7 s0 c next (bind created (stands n (last_of d)))
         by true is go =
-            subst (λ o. Runs ask code (Kept k code w0) 5 7 s0 c next (bind o (stands n (last_of d)))) (sym (at_once_is ask k code setting call default constants bound calls (length k.records) born (whole_spot n) t c l w1 (r, here, plain) is))
+            subst (λ o. Runs ask code (Kept k code w0) 5 7 s0 c next (bind o (stands n (last_of d)))) (sym (at_once_is ask k code setting call default defaults bound calls (length k.records) born (whole_spot n) t c l w1 (r, here, plain) is))
             (added ask code (Kept k code w0) 0 1 3 5 7 s0 c next (stands n (last_of d) (Goes tt) c l w1) (omega arith) (omega arith) (lives_on w0 n e p ks s0 c c l w1 (omega arith) (omega arith) fits1 go))
         by false is go = begins go

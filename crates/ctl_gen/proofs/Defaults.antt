@@ -1,7 +1,7 @@
 -- The components that default initialization begins, beside those that the layout names: each takes its constant, or begins by its own
 -- record type (3.8, 7.6); and those that have a controlled part (7.6.1).
 use Rattle.std.proofs.Common.{◌≡◌, ℕ, zero, suc, ◌+◌, ◌<◌, List, [], ◌∷◌, Option, Some, None, Bool, true, false, refl, sym, ap, ◌∙◌, subst, arith, inl, inr}
-use Rattle.std.specs.Prelude.{slice_get, is_none, is_some, not, if◌then◌else◌, ◌||◌}
+use Rattle.std.specs.Prelude.{slice_get, is_some, not, if◌then◌else◌, ◌||◌}
 use Rattle.ctl_program.specs.declared.expression.Expr.{Expr}
 use Rattle.ctl_program.specs.declared.types.Ty.{Ty}
 use Rattle.ctl_program.specs.declared.types.Ty.TheVariants.{Record}
@@ -14,24 +14,20 @@ use Rattle.ctl_meaning.specs.Types.{Tables, Placed, cells_of, has_controlled, ha
 use Rattle.ctl_meaning.specs.Names.{Default}
 use Rattle.ctl_code.specs.declared.code.Begun.{Begun}
 use Rattle.ctl_code.specs.declared.code.Initial.{Initial}
-use Rattle.ctl_code.specs.declared.code.Initial.TheVariants.{Constant, ByType}
+use Rattle.ctl_code.specs.declared.code.Initial.TheVariants.{ByType}
 use Rattle.ctl_code.specs.declared.code.Layout.{Layout}
 use Rattle.ctl_code.specs.declared.code.Code.{Code}
 use Rattle.ctl_code.specs.Table.{begun_in, controlled_in, has_part, parts_in}
 use Rattle.ctl_layout.specs.Layout.{AreLayouts}
-use Rattle.ctl_layout.specs.Records.{constant_at, constant_in, constant_of, have_constants, may_default}
-use Rattle.ctl_layout.specs.Defaults.{are_none, begun_before, begun_from, by_type, finalized_by, initial_by, initial_of, is_begun, is_finalized_by, parts_by, type_if}
+use Rattle.ctl_layout.specs.Layout.{computed, computed_in, computed_unless}
+use Rattle.ctl_layout.specs.Records.{constant_at, constant_in, constant_of, run_default}
+use Rattle.ctl_layout.specs.Defaults.{are_none, begun_before, begun_from, by_type, finalized_by, initial_by, initial_in, initial_of, is_begun, is_finalized_by, parts_by, type_if}
 use Rattle.ctl_gen.proofs.Depths.{any_alike, controlled_laid, default_laid, scalar_of_record}
-use Rattle.ctl_gen.proofs.Known.{both_true, AreParts, IsLaid, IsOfPlain, IsPart, IsPlain, IsScalar, part_plain}
+use Rattle.ctl_gen.proofs.Known.{AreParts, IsLaid, IsOfPlain, IsPart, IsPlain, IsScalar, part_plain, default_of_scalar, default_unset}
 use Rattle.ctl_gen.proofs.Layouts.{at, controlled_are, no_type, sized}
 pub use Rattle.ctl_gen.proofs.Parted.{GivesConstant, GivesDefaults}
-use Rattle.ctl_gen.proofs.Parted.{Agree, AgreesOn, AreBegun, BeginsBy, HasPart, HaveParts, is_itself}
+use Rattle.ctl_gen.proofs.Parted.{Agree, AgreesOn, AreBegun, BeginsBy, IsComputed, HasPart, HaveParts, is_itself}
 use Rattle.ctl_gen.proofs.Plain.{placed_laid, root_tagged}
-
--- an expression that must be a constant is one
-constant_there : (o : Option ℕ) → is_some o ≡ true → (n : ℕ) × (o ≡ Some n)
-constant_there None e = absurd (cc)
-constant_there (Some n) e = (n, refl)
 
 -- Those of a list that begin with something, and of those the ones with a controlled part ----------
 
@@ -113,28 +109,23 @@ module _ (k : Tables) (code : Code) (laid : AreLayouts [] code.layouts.items k.r
     begins : is_begun (slice_get code.layouts.items t) ≡ (has_controlled k (Record t) || has_default k (Record t))
 
   abbrev TellsAt : ℕ → Type 0
-  TellsAt t = (cs : List Component) → IsLaid k.records t cs → have_constants cs ≡ true → Tells t
+  TellsAt t = (cs : List Component) → IsLaid k.records t cs → Tells t
 
   -- the type of a component
   told_part : (t : ℕ) → ((u : ℕ) → u < t → TellsAt u) → (c : Component) (x : IsOfPlain k.records t c) → Tells x.number
-  told_part t before c x = let y = part_plain k t c x in before x.number x.less y.2.components y.2.laid y.2.constants
-
-  abbrev Finds : Option Expr → Type 0
-  Finds o = (is_none o || is_some (constant_in o)) ≡ true
+  told_part t before c x = let y = part_plain k t c x in before x.number x.less y.2.components y.2.laid
 
   -- a scalar component begins with its default
-  scalar_begins : (o : Option Expr) → Finds o → (z : Option Initial) → z ≡ None → is_some (initial_by (constant_in o) z) ≡ is_some o
-  scalar_begins None may z none = ap is_some none
-  scalar_begins (Some e) may z none =
-      let found = constant_there (constant_at e) may in
-      ap (λ o. is_some (initial_by o z)) found.1
+  scalar_begins : (o : Option Expr) → (z : Option Initial) → z ≡ None → is_some (initial_by o z) ≡ is_some o
+  scalar_begins None z none = ap is_some none
+  scalar_begins (Some e) z none = refl
 
-  scalar_plain : (o : Option Expr) → (z : Option Initial) → z ≡ None → has_finalized xs (initial_by (constant_in o) z) ≡ false
+  scalar_plain : (o : Option Expr) → (z : Option Initial) → z ≡ None → has_finalized xs (initial_by o z) ≡ false
   scalar_plain None z none = ap (has_finalized xs) none
   scalar_plain (Some e) z none = by (constant_at e)
     where
-      by : (o : Option ℕ) → has_finalized xs (initial_by o z) ≡ false
-      by None = ap (has_finalized xs) none
+      by : (o : Option ℕ) → is_finalized_by xs (initial_in o) ≡ false
+      by None = refl
       by (Some n) = refl
 
   none_scalar : (c : Component) → IsScalar c.ty → (has_controlled k c.ty ≡ false) × (has_default k c.ty ≡ false)
@@ -159,36 +150,36 @@ module _ (k : Tables) (code : Code) (laid : AreLayouts [] code.layouts.items k.r
           over false = refl
 
   module _ (t : ℕ) (before : (c : Component) (x : IsOfPlain k.records t c) → Tells x.number) where
-    begins_is : (c : Component) → IsPart k.records t c → Finds c.default → is_some (initial_of xs c) ≡ ((is_some c.default || has_controlled k c.ty) || has_default k c.ty)
-    begins_is c (inl scalar) may =
+    begins_is : (c : Component) → IsPart k.records t c → is_some (initial_of xs c) ≡ ((is_some c.default || has_controlled k c.ty) || has_default k c.ty)
+    begins_is c (inl scalar) =
         let none = none_scalar c scalar in
-        scalar_begins c.default may (by_type xs c.ty) (no_type xs c.ty scalar)
+        ap (λ o. is_some (initial_by o (by_type xs c.ty))) (default_of_scalar c scalar)
+        ∙ scalar_begins c.default (by_type xs c.ty) (no_type xs c.ty scalar)
         ∙ sym (ap (λ b. (is_some c.default || has_controlled k c.ty) || b) none.1 ∙ (ap (λ b. (is_some c.default || b) || false) none.0 ∙ over (is_some c.default)))
       where
         over : (b : Bool) → ((b || false) || false) ≡ b
         over true = refl
         over false = refl
-    begins_is c (inr x) may =
-        ap (λ o. is_some (initial_by (constant_in o) (by_type xs c.ty))) x.unset
+    begins_is c (inr x) =
+        ap (λ o. is_some (initial_by o (by_type xs c.ty))) (default_unset c x.unset)
         ∙ (ap (λ ty. is_some (by_type xs ty)) x.ty
         ∙ (if_begun x.number (is_begun (slice_get xs x.number))
         ∙ ((before c x).begins
         ∙ sym (ap (λ ty. (is_some c.default || has_controlled k ty) || has_default k ty) x.ty ∙ ap (λ o. (is_some o || has_controlled k (Record x.number)) || has_default k (Record x.number)) x.unset))))
 
     finalized_is : (c : Component) → IsPart k.records t c → has_finalized xs (initial_of xs c) ≡ has_controlled k c.ty
-    finalized_is c (inl scalar) = scalar_plain c.default (by_type xs c.ty) (no_type xs c.ty scalar) ∙ sym (none_scalar c scalar).0
+    finalized_is c (inl scalar) = scalar_plain (run_default c) (by_type xs c.ty) (no_type xs c.ty scalar) ∙ sym (none_scalar c scalar).0
     finalized_is c (inr x) =
-        ap (λ o. has_finalized xs (initial_by (constant_in o) (by_type xs c.ty))) x.unset
+        ap (λ o. has_finalized xs (initial_by o (by_type xs c.ty))) (default_unset c x.unset)
         ∙ (ap (λ ty. has_finalized xs (by_type xs ty)) x.ty
         ∙ (if_finalized x.number (slice_get xs x.number) refl
         ∙ ((before c x).part ∙ ap (has_controlled k) (sym x.ty))))
 
-    all_begin : (cs : List Component) → AreParts k.records t cs → have_constants cs ≡ true → any_of (λ (c : Component). is_some (initial_of xs c)) cs ≡ any_of (λ (c : Component). (is_some c.default || has_controlled k c.ty) || has_default k c.ty) cs
+    all_begin : (cs : List Component) → AreParts k.records t cs → any_of (λ (c : Component). is_some (initial_of xs c)) cs ≡ any_of (λ (c : Component). (is_some c.default || has_controlled k c.ty) || has_default k c.ty) cs
     unfolding any_of
-    all_begin [] parts constants = refl
-    all_begin (c ∷ cs) parts constants =
-        let h = both_true (may_default c) (have_constants cs) constants in
-        ap (λ b. b || any_of (λ (x : Component). is_some (initial_of xs x)) cs) (begins_is c parts.0 h.0) ∙ ap (λ b. ((is_some c.default || has_controlled k c.ty) || has_default k c.ty) || b) (all_begin cs parts.1 h.1)
+    all_begin [] parts = refl
+    all_begin (c ∷ cs) parts =
+        ap (λ b. b || any_of (λ (x : Component). is_some (initial_of xs x)) cs) (begins_is c parts.0) ∙ ap (λ b. ((is_some c.default || has_controlled k c.ty) || has_default k c.ty) || b) (all_begin cs parts.1)
 
   -- what the layout of a type says of its components
   layout_says : (t : ℕ) (cs : List Component) → IsLaid k.records t cs → begun_in (slice_get xs t) ≡ begun_from xs (cells_of k) 1 0 cs
@@ -218,7 +209,7 @@ module _ (k : Tables) (code : Code) (laid : AreLayouts [] code.layouts.items k.r
       }
 
   tells_by : (t : ℕ) (r : RecordType) → slice_get k.records t ≡ Some r → ((u : ℕ) → u < t → TellsAt u) → TellsAt t
-  tells_by t r here before cs is constants =
+  tells_by t r here before cs is =
       let x = known t r here cs is in
       let type = told_part t before in
       let some : not (are_none x.layout.controlled.items) ≡ any_of (λ (c : Component). has_controlled k c.ty) cs =
@@ -230,7 +221,7 @@ module _ (k : Tables) (code : Code) (laid : AreLayouts [] code.layouts.items k.r
       let begun : not (are_none x.layout.begun.items) ≡ (any_of (λ (c : Component). has_controlled k c.ty) cs || has_default k (Record t)) =
       ap (λ ys. not (are_none ys)) x.begun
       ∙ (any_begun xs (cells_of k) 1 0 cs
-      ∙ (all_begin t type cs is.parts constants
+      ∙ (all_begin t type cs is.parts
       ∙ (either_of (λ c. has_controlled k c.ty) (λ c. has_default k c.ty) cs ∙ ap (λ b. any_of (λ (c : Component). has_controlled k c.ty) cs || b) (sym (default_laid k t cs is)))))
       in
       record {
@@ -248,8 +239,8 @@ module _ (k : Tables) (code : Code) (laid : AreLayouts [] code.layouts.items k.r
       absorbed a false d false e = refl
 
   tells_within : (n t : ℕ) → t < n → TellsAt t
-  tells_within zero t lt cs is constants = absurd (omega (arith, lt))
-  tells_within (suc n) t lt cs is constants = let r = is.here in tells_by t r.0 r.1 (λ u less. tells_within n u (omega (arith, less, lt))) cs is constants
+  tells_within zero t lt cs is = absurd (omega (arith, lt))
+  tells_within (suc n) t lt cs is = let r = is.here in tells_by t r.0 r.1 (λ u less. tells_within n u (omega (arith, less, lt))) cs is
 
   tells : (t : ℕ) → TellsAt t
   tells t = tells_within (suc t) t (omega arith)
@@ -270,12 +261,15 @@ module _ (k : Tables) (code : Code) (laid : AreLayouts [] code.layouts.items k.r
     begun_more p n c (Some i) true ps ys e how rest = (record { position = refl; offset = refl; how = how i refl }, rest)
     begun_more p n c (Some i) false ps ys e how rest = absurd (cc)
 
-    by_constant : (p n : ℕ) (c : Component) (i : Initial) → (o : Option Expr) → c.default ≡ o → IsScalar c.ty → Finds o → ((v : ℕ) → constant_in o ≡ Some v → GivesConstant default t p v) → (z : Option Initial) → z ≡ None → initial_by (constant_in o) z ≡ Some i → BeginsBy k default t (placed_at p n c (is_some c.default)) i
-    by_constant p n c i None is scalar may gives z none e = absurd (let bad : None ≡ Some i = sym none ∙ e in cc)
-    by_constant p n c i (Some y) is scalar may gives z none e =
-        let found = constant_there (constant_at y) may in
-        let same : Constant found.0 ≡ i = (let e1 : Some (Constant found.0) ≡ Some i = sym (ap (λ o. initial_by o z) found.1) ∙ e in cc e1) in
-        subst (BeginsBy k default t (placed_at p n c (is_some c.default))) same (ap is_some is, scalar, gives found.0 found.1)
+    by_default : (p n : ℕ) (c : Component) (i : Initial) → (o : Option Expr) → c.default ≡ o → IsScalar c.ty → ((v : ℕ) → constant_in o ≡ Some v → GivesConstant default t p v) → ((y : Expr) → computed_in o ≡ Some y → IsComputed k t p c.ty) → (z : Option Initial) → z ≡ None → initial_by o z ≡ Some i → BeginsBy k default t (placed_at p n c (is_some c.default)) i
+    by_default p n c i None is scalar gives computes z none e = absurd (let bad : None ≡ Some i = sym none ∙ e in cc)
+    by_default p n c i (Some y) is scalar gives computes z none e =
+        let same : initial_in (constant_at y) ≡ i = cc e in
+        subst (BeginsBy k default t (placed_at p n c (is_some c.default))) same (by (constant_at y) refl)
+      where
+        by : (o : Option ℕ) → constant_at y ≡ o → BeginsBy k default t (placed_at p n c (is_some c.default)) (initial_in o)
+        by (Some v) at = (ap is_some is, scalar, gives v at)
+        by None at = (ap is_some is, scalar, computes y (ap (computed_unless y) at))
 
     by_its_type : (p n : ℕ) (c : Component) (i : Initial) (x : IsOfPlain k.records t c) → (b : Bool) → is_begun (slice_get xs x.number) ≡ b → type_if x.number b ≡ Some i → BeginsBy k default t (placed_at p n c (is_some c.default)) i
     by_its_type p n c i x false is e = absurd (cc)
@@ -283,21 +277,23 @@ module _ (k : Tables) (code : Code) (laid : AreLayouts [] code.layouts.items k.r
         let same : ByType x.number ≡ i = cc e in
         subst (BeginsBy k default t (placed_at p n c (is_some c.default))) same (ap is_some x.unset, x.ty, x.less, part_plain k t c x)
 
-    begins_so : (p n : ℕ) (c : Component) → IsPart k.records t c → Finds c.default → ((v : ℕ) → constant_of c ≡ Some v → GivesConstant default t p v) → (i : Initial) → initial_of xs c ≡ Some i → BeginsBy k default t (placed_at p n c (is_some c.default)) i
-    begins_so p n c (inl scalar) may gives i e = by_constant p n c i c.default refl scalar may gives (by_type xs c.ty) (no_type xs c.ty scalar) e
-    begins_so p n c (inr x) may gives i e =
+    begins_so : (p n : ℕ) (c : Component) → IsPart k.records t c → ((v : ℕ) → constant_of c ≡ Some v → GivesConstant default t p v) → ((y : Expr) → computed c ≡ Some y → IsComputed k t p c.ty) → (i : Initial) → initial_of xs c ≡ Some i → BeginsBy k default t (placed_at p n c (is_some c.default)) i
+    begins_so p n c (inl scalar) gives computes i e =
+        let own = default_of_scalar c scalar in
+        by_default p n c i c.default refl scalar gives (λ y is. computes y (ap computed_in own ∙ is)) (by_type xs c.ty) (no_type xs c.ty scalar) (sym (ap (λ o. initial_by o (by_type xs c.ty)) own) ∙ e)
+    begins_so p n c (inr x) gives computes i e =
         by_its_type p n c i x (is_begun (slice_get xs x.number)) refl
-        (ap (by_type xs) (sym x.ty) ∙ (sym (ap (λ o. initial_by (constant_in o) (by_type xs c.ty)) x.unset) ∙ e))
+        (ap (by_type xs) (sym x.ty) ∙ (sym (ap (λ o. initial_by o (by_type xs c.ty)) (default_unset c x.unset)) ∙ e))
 
-    begun_parts : (p n : ℕ) (cs : List Component) → AreParts k.records t cs → have_constants cs ≡ true → ((i : ℕ) (x : Component) (v : ℕ) → slice_get cs i ≡ Some x → constant_of x ≡ Some v → GivesConstant default t (p + i) v) → AreBegun k default t (keep (is_initialized k) (placed_from k p n cs)) (begun_from xs (cells_of k) p n cs)
+    begun_parts : (p n : ℕ) (cs : List Component) → AreParts k.records t cs → ((i : ℕ) (x : Component) (v : ℕ) → slice_get cs i ≡ Some x → constant_of x ≡ Some v → GivesConstant default t (p + i) v) → ((i : ℕ) (x : Component) (y : Expr) → slice_get cs i ≡ Some x → computed x ≡ Some y → IsComputed k t (p + i) x.ty) → AreBegun k default t (keep (is_initialized k) (placed_from k p n cs)) (begun_from xs (cells_of k) p n cs)
     unfolding placed_from is_initialized keep
-    begun_parts p n [] parts constants gives = tt
-    begun_parts p n (c ∷ cs) parts constants gives =
-        let h = both_true (may_default c) (have_constants cs) constants in
+    begun_parts p n [] parts gives computes = tt
+    begun_parts p n (c ∷ cs) parts gives computes =
         let first : p + 0 ≡ p = omega arith in
-        let rest = begun_parts (p + 1) (n + cells_of k c.ty) cs parts.1 h.1 (λ i x v here is. let later : p + suc i ≡ p + 1 + i = omega arith in subst (λ q. GivesConstant default t q v) later (gives (suc i) x v here is)) in
-        begun_more p n c (initial_of xs c) ((is_some c.default || has_controlled k c.ty) || has_default k c.ty) _ _ (begins_is t (told_type t) c parts.0 h.0)
-        (begins_so p n c parts.0 h.0 (λ v e. subst (λ q. GivesConstant default t q v) first (gives 0 c v refl e))) rest
+        let rest = begun_parts (p + 1) (n + cells_of k c.ty) cs parts.1 (λ i x v here is. let later : p + suc i ≡ p + 1 + i = omega arith in subst (λ q. GivesConstant default t q v) later (gives (suc i) x v here is))
+        (λ i x y here is. let later : p + suc i ≡ p + 1 + i = omega arith in subst (λ q. IsComputed k t q x.ty) later (computes (suc i) x y here is)) in
+        begun_more p n c (initial_of xs c) ((is_some c.default || has_controlled k c.ty) || has_default k c.ty) _ _ (begins_is t (told_type t) c parts.0)
+        (begins_so p n c parts.0 (λ v e. subst (λ q. GivesConstant default t q v) first (gives 0 c v refl e)) (λ y e. subst (λ q. IsComputed k t q c.ty) first (computes 0 c y refl e))) rest
 
   -- one more component with a controlled part
   parts_more : (t p n : ℕ) (c : Component) (o : Option Initial) (b : Bool) (ps : List Placed) (ys : List Begun) → has_finalized xs o ≡ b → ((i : Initial) → o ≡ Some i → is_finalized_by xs i ≡ true → HasPart k t (placed_at p n c (is_some c.default)) (record { position = p; offset = n; initial = i })) → HaveParts k t ps (finalized_by xs ys) → HaveParts k t (if b then placed_at p n c (is_some c.default) ∷ ps else ps) (finalized_by xs (begun_before p n o ys))
@@ -312,10 +308,10 @@ module _ (k : Tables) (code : Code) (laid : AreLayouts [] code.layouts.items k.r
   has_type t p n c i x true is e = record { position = refl; offset = refl; number = x.number; initial = (let same : ByType x.number ≡ i = cc e in sym same); ty = x.ty; less = x.less; plain = part_plain k t c x }
 
   has_so : (t p n : ℕ) (c : Component) → IsPart k.records t c → (i : Initial) → initial_of xs c ≡ Some i → is_finalized_by xs i ≡ true → HasPart k t (placed_at p n c (is_some c.default)) (record { position = p; offset = n; initial = i })
-  has_so t p n c (inl scalar) i e part = absurd (let bad : true ≡ false = sym part ∙ (ap (has_finalized xs) (sym e) ∙ scalar_plain c.default (by_type xs c.ty) (no_type xs c.ty scalar)) in cc)
+  has_so t p n c (inl scalar) i e part = absurd (let bad : true ≡ false = sym part ∙ (ap (has_finalized xs) (sym e) ∙ scalar_plain (run_default c) (by_type xs c.ty) (no_type xs c.ty scalar)) in cc)
   has_so t p n c (inr x) i e part =
       has_type t p n c i x (is_begun (slice_get xs x.number)) refl
-      (ap (by_type xs) (sym x.ty) ∙ (sym (ap (λ o. initial_by (constant_in o) (by_type xs c.ty)) x.unset) ∙ e))
+      (ap (by_type xs) (sym x.ty) ∙ (sym (ap (λ o. initial_by o (by_type xs c.ty)) (default_unset c x.unset)) ∙ e))
 
   parts_have : (t p n : ℕ) (cs : List Component) → AreParts k.records t cs → HaveParts k t (keep (λ (q : Placed). has_controlled k q.ty) (placed_from k p n cs)) (finalized_by xs (begun_from xs (cells_of k) p n cs))
   unfolding placed_from keep
@@ -330,13 +326,14 @@ module _ (k : Tables) (code : Code) (laid : AreLayouts [] code.layouts.items k.r
         begun =
             subst (λ ys. AreBegun k default t (keep (is_initialized k) (placed k t)) ys) (sym (ap begun_in x.there ∙ x.begun))
             (subst (λ ps. AreBegun k default t (keep (is_initialized k) ps) (begun_from xs (cells_of k) 1 0 cs)) (sym (placed_laid k t cs plain.laid))
-            (begun_parts default t 1 0 cs plain.laid.parts plain.constants (λ i y v at is. let p : i + 1 ≡ 1 + i = omega arith in subst (λ q. GivesConstant default t q v) p (given t r here plain i y v at is))));
+            (begun_parts default t 1 0 cs plain.laid.parts (λ i y v at is. let p : i + 1 ≡ 1 + i = omega arith in subst (λ q. GivesConstant default t q v) p (given t r here plain i y v at is))
+            (λ i y e at is. let p : 1 + i ≡ i + 1 = omega arith in record { components = cs; laid = plain.laid; index = i; component = y; there = at; place = p; expression = e; is = is; of = refl })));
         controlled =
             subst (λ ys. HaveParts k t (keep (λ (q : Placed). has_controlled k q.ty) (placed k t)) ys) (sym (ap controlled_in x.there ∙ x.controlled))
             (subst (λ ps. HaveParts k t (keep (λ (q : Placed). has_controlled k q.ty) ps) (finalized_by xs (begun_from xs (cells_of k) 1 0 cs))) (sym (placed_laid k t cs plain.laid))
             (parts_have t 1 0 cs plain.laid.parts));
         itself = root_tagged k t x.r x.here ∙ (itself_is x.r.root x.layout.controlled.items ∙ sym (ap (λ o. is_itself (parts_in o)) x.there ∙ ap is_itself x.parts));
-        has = sym (tells t cs plain.laid plain.constants).part;
+        has = sym (tells t cs plain.laid).part;
       }
 
   pub agrees : (default : Default) → GivesDefaults k default → Agree k code default

@@ -6,7 +6,6 @@ use Rattle.ctl_program.specs.declared.types.Var.{Var}
 use Rattle.ctl_program.specs.declared.expression.Actual.TheOpen.{Expr-F}
 use Rattle.ctl_tree.specs.declared.ending.Stop.TheVariants.{UseAfterFree}
 use Rattle.ctl_meaning.specs.World.{Log, World}
-use Rattle.ctl_meaning.specs.Changes.{slot_at}
 use Rattle.ctl_meaning.specs.Choice.{Ask}
 use Rattle.ctl_meaning.specs.Outcome.{Goes, Act, add, bind, on_goes, done, opened_outcome}
 use Rattle.ctl_meaning.specs.Types.{Tables}
@@ -17,15 +16,14 @@ use Rattle.ctl_code.specs.declared.code.Code.{Code}
 use Rattle.ctl_code.specs.declared.code.Instr.TheVariants as InstrOf
 use Rattle.ctl_code.specs.declared.kinds.Kind.{Kind}
 use Rattle.ctl_code.specs.States.{Word, Frame}
-use Rattle.ctl_code.specs.Table.{by_designate, put, word_of}
+use Rattle.ctl_code.specs.Table.{by_designate, put}
 use Rattle.ctl_code.specs.Steps.{moved, step}
-use Rattle.ctl_layout.specs.Around.{out_to}
 use Rattle.ctl_layout.specs.Values.{designating}
 use Rattle.ctl_gen.proofs.Worlds.{Since}
 use Rattle.ctl_gen.proofs.Setting.{tools_with}
 use Rattle.ctl_gen.proofs.Parts.{RecordOperand, content_of, found_at, held, held_word, object_found, same_object, var_found, word}
 use Rattle.ctl_gen.proofs.Expressions.{Value}
-use Rattle.ctl_gen.proofs.Cells.{Any, OneCell, by_code, here, landed, out_is, put_is}
+use Rattle.ctl_gen.proofs.Cells.{Any, OneCell, by_code, here, landed, put_is}
 use Rattle.ctl_gen.proofs.Follow.{RunsTo, at, last_step_to, stop_step_to}
 
 module _ (ask : Ask) (k : Tables) (code : Code) (call : Call) (default : Default) (bound : ℕ) (w0 : World) (v : Var) where
@@ -55,8 +53,7 @@ module _ (ask : Ask) (k : Tables) (code : Code) (call : Call) (default : Default
       out = numbered (held (content_of d v w)) c l w;
       is = means d c l w;
       runs = runs to ty s d place ks ops c l w fits (held (content_of d v w))
-          (by_code ask code d place ks ops l w (InstrOf.Designate (out_to s v) v.slot ty to) has.0
-          ∙ ap (λ m. moved l (by_designate (word_of (slot_at m v.slot w).content) to.named ops (here d place ks w))) (out_is d s v long.2)
+          (by_code ask code d place ks ops l w (InstrOf.Designate v ty to) has.0
           ∙ ap (λ o. moved l (by_designate o to.named ops (here d place ks w))) (held_word (content_of d v w)));
     };
     constant = λ n is d c l w. absurd (cc);

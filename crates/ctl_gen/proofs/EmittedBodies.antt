@@ -1,15 +1,17 @@
 -- What the emitter makes of the bodies of a program, one after another, is their layout.
-use Rattle.std.proofs.Common.{◌≡◌, ℕ, ◌+◌, List, [], ◌∷◌, ◌++◌, length, None, refl, ap, ◌∙◌, append_assoc}
+use Rattle.std.proofs.Common.{◌≡◌, ℕ, suc, ◌+◌, List, [], ◌∷◌, ◌++◌, length, None, refl, sym, ap, ◌∙◌, append_assoc, append-nil, arith}
+use Rattle.std.proofs.lemmas.List.{length-map, map-append}
 use Rattle.ctl_program.specs.declared.program.Checked.{Checked}
 use Rattle.ctl_program.specs.declared.program.Subprogram.{Subprogram}
 use Rattle.ctl_code.specs.declared.code.Entry.{Entry}
+use Rattle.ctl_code.specs.declared.code.Instr.{Instr}
 use Rattle.ctl_code.specs.declared.code.Instr.TheVariants.{Start}
 use Rattle.ctl_code.specs.declared.kinds.Kind.{Kind}
 use Rattle.ctl_code.specs.declared.kinds.Kind.TheVariants.{Body}
 use Rattle.ctl_code.specs.Kinds.{below_newest}
-use Rattle.ctl_layout.specs.Around.{OutOfMaster}
+use Rattle.ctl_layout.specs.Around.{Line, OutOfMaster}
 use Rattle.ctl_gen.specs.Emitted.{Emitted, appended, around, lined, none_emitted, one, standing, stated}
-use Rattle.ctl_layout.specs.Layout.{bodies, body_code, entries_from, entry_at, instructions_of, kinds_of, master_code, numbered, program_code}
+use Rattle.ctl_layout.specs.Layout.{all_defaults, behind_bodies, bodies, body_code, entries_from, entry_at, instructions_of, kinds_of, master_code, nowhere, numbered, program_code}
 use Rattle.ctl_gen.proofs.Emission.{count_more, nothing, stands, stands_before, stands_behind, standing_is, texts_more}
 use Rattle.ctl_gen.proofs.EmittedStatements.{next_statement}
 
@@ -60,14 +62,26 @@ nothing_stands f s e0 e1 a h = standing_is ((body_code f s).code (around None e0
 pub all_emitted : (main f : ℕ) (ss : List Subprogram) (e : Emitted) → stated (bodies f []) None e ≡ stated (bodies 0 ss) None (begun main) → e ≡ stated (bodies 0 ss) None (begun main)
 all_emitted main f ss e h = nothing e ∙ h
 
-pub all_instructions : (p : Checked) (e : Emitted) → e ≡ stated (bodies 0 p.subprograms) None (begun p.main) → e.instructions ≡ instructions_of (program_code p)
-unfolding appended
-all_instructions p e h = ap (λ (x : Emitted). x.instructions) h
+-- the defaults of the record types behind them
+abbrev pub IsWhole : Checked → Emitted → Type 0
+IsWhole p e = e ≡ appended (all_defaults 0 p.records) [] [] (stated (bodies 0 p.subprograms) None (begun p.main))
 
-pub all_texts : (p : Checked) (e : Emitted) → e ≡ stated (bodies 0 p.subprograms) None (begun p.main) → e.texts ≡ (bodies 0 p.subprograms).texts
-unfolding appended
-all_texts p e h = ap (λ (x : Emitted). x.texts) h
+abbrev Behind : Checked → List Line
+Behind p = (bodies 0 p.subprograms).code nowhere 0
 
-pub all_kinds : (p : Checked) (e : Emitted) → e ≡ stated (bodies 0 p.subprograms) None (begun p.main) → e.notes.before ≡ kinds_of (program_code p)
+pub all_instructions : (p : Checked) (e : Emitted) → IsWhole p e → e.instructions ≡ instructions_of (program_code p)
 unfolding appended
-all_kinds p e h = ap (λ (x : Emitted). x.notes.before) h
+all_instructions p e h = ap (λ (x : Emitted). x.instructions) h ∙ ap (λ (is : List Instr). Start p.main ∷ is) (sym (map-append (λ (x : Line). x.0) (Behind p) (all_defaults 0 p.records)))
+
+pub all_texts : (p : Checked) (e : Emitted) → IsWhole p e → e.texts ≡ (bodies 0 p.subprograms).texts
+unfolding appended
+all_texts p e h = ap (λ (x : Emitted). x.texts) h ∙ append-nil (bodies 0 p.subprograms).texts
+
+pub all_kinds : (p : Checked) (e : Emitted) → IsWhole p e → e.notes.before ≡ kinds_of (program_code p)
+unfolding appended
+all_kinds p e h = ap (λ (x : Emitted). x.notes.before) h ∙ ap (λ (ks : List (List Kind)). [] ∷ ks) (sym (map-append (λ (x : Line). x.1) (Behind p) (all_defaults 0 p.records)))
+
+-- the first default begins behind the bodies
+pub behind_them : (p : Checked) (e : Emitted) → e ≡ stated (bodies 0 p.subprograms) None (begun p.main) → length e.instructions ≡ behind_bodies p
+unfolding appended
+behind_them p e h = ap (λ (x : Emitted). length x.instructions) h ∙ ap suc (length-map (Behind p) (λ (x : Line). x.0)) ∙ (let one : suc (length (Behind p)) ≡ 1 + length (Behind p) = omega arith in one)

@@ -32,7 +32,7 @@ use Rattle.ctl_layout.specs.Values.{actual_code}
 use Rattle.ctl_gen.proofs.Known.{both_true, plain_if}
 use Rattle.ctl_layout.proofs.TreeLayers.{handler_roll, arm_roll, master_roll, statement_roll}
 use Rattle.ctl_gen.proofs.Setting.{Setting, Calls, tools_with}
-use Rattle.ctl_gen.proofs.Parted.{GivesDefaults}
+use Rattle.ctl_gen.proofs.Given.{GivesEach}
 use Rattle.ctl_gen.proofs.Worlds.{Kept}
 use Rattle.ctl_gen.proofs.Cells.{by_code}
 use Rattle.ctl_gen.proofs.Expressions.{Value}
@@ -61,25 +61,25 @@ use Rattle.ctl_gen.proofs.Follow.{arrives, last_step, lands}
 use Rattle.ctl_gen.proofs.Statements as S
 use Rattle.ctl_gen.proofs.Handlers as H
 
-module _ (ask : Ask) (k : Tables) (code : Code) (setting : Setting k code) (call : Names.Call) (default : Default) (constants : GivesDefaults k default) (bound : ℕ) (calls : Calls ask k code setting bound call) where
+module _ (ask : Ask) (k : Tables) (code : Code) (setting : Setting k code) (call : Names.Call) (default : Default) (defaults : GivesEach ask k code setting call default) (bound : ℕ) (calls : Calls ask k code setting bound call) where
   abbrev K : Tools
   K = tools_with ask k call default
 
   abbrev Performs : StatementCode → Doing → Type 0
-  Performs = S.Performs ask k code setting call default constants bound calls
+  Performs = S.Performs ask k code setting call default defaults bound calls
 
   abbrev pub Does : Stmt → Type 0
   Does s = Performs (statement_code s) (exec s)
 
   abbrev Guards : Arm → Type 0
-  Guards a = S.Guards ask k code setting call default constants bound calls (arm_code a) (arm_of a)
+  Guards a = S.Guards ask k code setting call default defaults bound calls (arm_code a) (arm_of a)
 
   abbrev Handles : Handler → Type 0
-  Handles h = H.Handles ask k code setting call default constants bound calls (handler_code h) (handler_of h)
+  Handles h = H.Handles ask k code setting call default defaults bound calls (handler_code h) (handler_of h)
 
   -- a master of this version, whose code does what it means
   abbrev pub IsMaster : Master → Type 0
-  IsMaster m = S.Mastered ask k code setting call default constants bound calls (master_code m) (body_of m)
+  IsMaster m = S.Mastered ask k code setting call default defaults bound calls (master_code m) (body_of m)
 
   abbrev StmtToo : Type 0
   StmtToo = (s : Stmt) × Does s
@@ -105,17 +105,17 @@ module _ (ask : Ask) (k : Tables) (code : Code) (setting : Setting k code) (call
   abbrev bare_master : Master-F StmtToo ArmToo HandlerToo MasterToo → Master-F Stmt Arm Handler Master
   bare_master = map-Master StmtToo ArmToo HandlerToo MasterToo Stmt Arm Handler Master (λ e. e.0) (λ e. e.0) (λ e. e.0) (λ e. e.0)
 
-  statements_too : (xs : List StmtToo) → S.EachPerforms ask k code setting call default constants bound calls (map statement_code (map (λ x. x.0) xs)) (map exec (map (λ x. x.0) xs))
+  statements_too : (xs : List StmtToo) → S.EachPerforms ask k code setting call default defaults bound calls (map statement_code (map (λ x. x.0) xs)) (map exec (map (λ x. x.0) xs))
   statements_too [] = tt
   statements_too (x ∷ xs) = (x.1, statements_too xs)
 
-  arms_too : (xs : List ArmToo) → S.EachGuards ask k code setting call default constants bound calls (map arm_code (map (λ x. x.0) xs)) (map arm_of (map (λ x. x.0) xs))
+  arms_too : (xs : List ArmToo) → S.EachGuards ask k code setting call default defaults bound calls (map arm_code (map (λ x. x.0) xs)) (map arm_of (map (λ x. x.0) xs))
   arms_too [] = tt
   arms_too (x ∷ xs) = (x.1, arms_too xs)
 
   -- statements in turn
   each_does : (xs : List StmtToo) → Performs (all (map statement_code (map (λ x. x.0) xs))) (λ j env caught. do_each j env caught (map exec (map (λ x. x.0) xs)))
-  each_does xs = S.all_run ask k code setting call default constants bound calls (map statement_code (map (λ x. x.0) xs)) (map exec (map (λ x. x.0) xs)) (statements_too xs)
+  each_does xs = S.all_run ask k code setting call default defaults bound calls (map statement_code (map (λ x. x.0) xs)) (map exec (map (λ x. x.0) xs)) (statements_too xs)
 
   -- a value, in the worlds since any
   means : (e : Expr) → (value_code e).runs k.records ≡ true → (w0 : World) → Value ask k code bound w0 (value_code e) (eval e K)
@@ -175,23 +175,23 @@ module _ (ask : Ask) (k : Tables) (code : Code) (setting : Setting k code) (call
       let first = begun x refl (part_begun k.records x h.0) in
       let second = source_begins y from.given from.by (part_begun k.records y g.0) in
       subst (λ (find1 : List ℕ → Act Found). DoesIn 0 ask k code bound (λ a. record_code x t y a.stack) (λ d caught. ticked (find1 d >>= (λ f. m.source K d >>= assign_found K d t f)))) (sym (composite_leads K x act find to))
-      (record_does ask k code setting call default constants t known bound calls x act y from.given first second to.walked from.walked h.0 g.0 (m.source K) from.ticks from.finds)
+      (record_does ask k code setting call default defaults.constants t known bound calls x act y from.given first second to.walked from.walked h.0 g.0 (m.source K) from.ticks from.finds)
 
   free_does : (access : ℕ) (o : Option Reached) (act : List ℕ → Act (List ℕ)) (find : Naming) → ((x : Reached) → o ≡ Some x → Reaches K x act (find Elementary K)) → Begins o act → Performs (free_code access o) (free_object_of access find)
   unfolding free_object_of
   free_does access (Some (Result b)) act find reaches begun runs n texts = absurd (cc)
   free_does access None act find reaches begun runs n texts = absurd (cc)
-  free_does access (Some (Variable v)) act find reaches begun runs n texts = variable_freed_does ask k code setting call default constants bound calls access v (find Elementary K) (reaches (Variable v) refl)
+  free_does access (Some (Variable v)) act find reaches begun runs n texts = variable_freed_does ask k code setting call default defaults.constants bound calls access v (find Elementary K) (reaches (Variable v) refl)
   free_does access (Some (Object b steps)) act find reaches begun runs n texts =
       let x = Object b steps in
       let g = reaches x refl in
       let lies = setting.places.first any_type in
-      part_freed_does ask k code setting call default constants bound calls access b act (begun x refl (both_true _ _ runs.1).0) steps any_type first_position (agree_part k code setting.places x runs.1) (itself code lies) g.0 (find Elementary K) (itself_ends K code lies act steps b (find Elementary K) g.1)
+      part_freed_does ask k code setting call default defaults.constants bound calls access b act (begun x refl (both_true _ _ runs.1).0) steps any_type first_position (agree_part k code setting.places x runs.1) (itself code lies) g.0 (find Elementary K) (itself_ends K code lies act steps b (find Elementary K) g.1)
   free_does access (Some (Part b steps t position)) act find reaches begun runs n texts =
       let x = Part b steps t position in
       let g = reaches x refl in
       let agree = agree_run k code setting.places b steps t runs.1 in
-      part_freed_does ask k code setting call default constants bound calls access b act (begun x refl (both_true _ _ runs.1).0) steps t position agree.0 (selected k code t position (agree.1 position)) g.0 (find Elementary K) (selector_ends K code t position (agree.1 position) act steps b (find Elementary K) g.1)
+      part_freed_does ask k code setting call default defaults.constants bound calls access b act (begun x refl (both_true _ _ runs.1).0) steps t position agree.0 (selected k code t position (agree.1 position)) g.0 (find Elementary K) (selector_ends K code t position (agree.1 position) act steps b (find Elementary K) g.1)
 
   -- the library's Allocate of a pool that a variable is, whose address a variable takes, or a component or a whole object (13.11)
   block_taken : (o q : Option Reached) (act held : List ℕ → Act (List ℕ)) (pool address : Naming) (size alignment : Expr) → ((x : Reached) → o ≡ Some x → Leads K x act pool) → ((x : Reached) → q ≡ Some x → Reaches K x held (address Elementary K)) → Begins q held → Performs (library_allocate o q (value_code size) (value_code alignment)) (call_allocate pool address (eval size) (eval alignment))
@@ -278,7 +278,7 @@ module _ (ask : Ask) (k : Tables) (code : Code) (setting : Setting k code) (call
 
   stmt_rolled : (y : Stmt-F StmtToo ArmToo HandlerToo MasterToo) → Does (roll-Stmt (bare_stmt y))
   unfolding null_doing put put_line new_line raise_new raise_again loop_plainly loop_while loop_for opened_outcome
-  stmt_rolled Stmt-F.Null = does Stmt-F.Null _ _ (statement_roll Stmt-F.Null) (exec_roll Stmt-F.Null) (λ runs n texts a w0 d place ks ops c l w le fits sees has. S.still_there ask k code setting call default constants bound calls 1 (lands a place) w0 d place ks ops c l w fits)
+  stmt_rolled Stmt-F.Null = does Stmt-F.Null _ _ (statement_roll Stmt-F.Null) (exec_roll Stmt-F.Null) (λ runs n texts a w0 d place ks ops c l w le fits sees has. S.still_there ask k code setting call default defaults bound calls 1 (lands a place) w0 d place ks ops c l w fits)
   stmt_rolled (Stmt-F.Assign x e) = does (Stmt-F.Assign x e) _ _ (statement_roll (Stmt-F.Assign x e)) (exec_roll (Stmt-F.Assign x e)) (assign_does (reached_by x) (given_by x K) (eval_name x) e (name_finds K x) (begins x))
   stmt_rolled (Stmt-F.Put ps) = does (Stmt-F.Put ps) _ _ (statement_roll (Stmt-F.Put ps)) (exec_roll (Stmt-F.Put ps)) (λ runs n texts. print_runs ask k code setting call default bound calls false ps runs.1 n texts)
   stmt_rolled (Stmt-F.PutLine ps) = does (Stmt-F.PutLine ps) _ _ (statement_roll (Stmt-F.PutLine ps)) (exec_roll (Stmt-F.PutLine ps)) (λ runs n texts. print_runs ask k code setting call default bound calls true ps runs.1 n texts)
@@ -289,7 +289,7 @@ module _ (ask : Ask) (k : Tables) (code : Code) (setting : Setting k code) (call
   stmt_rolled (Stmt-F.Return o) = does (Stmt-F.Return o) _ _ (statement_roll (Stmt-F.Return o)) (exec_roll (Stmt-F.Return o)) (return_does o)
   stmt_rolled (Stmt-F.If arms others) =
       let y = Stmt-F.If (map (λ e. e.0) arms) (map (λ e. e.0) others) in
-      does y _ _ (statement_roll y) (exec_roll y) (S.branches_run ask k code setting call default constants bound calls _ _ _ _ (arms_too arms) (statements_too others))
+      does y _ _ (statement_roll y) (exec_roll y) (S.branches_run ask k code setting call default defaults bound calls _ _ _ _ (arms_too arms) (statements_too others))
   stmt_rolled (Stmt-F.Loop body) =
       let y = Stmt-F.Loop (map (λ e. e.0) body) in
       does y _ _ (statement_roll y) (exec_roll y) (λ runs n texts. loop_runs ask k code bound (λ a. (all (map statement_code (map (λ e. e.0) body))).code a n) (λ v caught. do_each K v caught (map exec (map (λ e. e.0) body))) (each_does body runs n texts))
@@ -306,7 +306,7 @@ module _ (ask : Ask) (k : Tables) (code : Code) (setting : Setting k code) (call
       let h = both_true _ _ runs.1 in
       let g = both_true _ _ h.1 in
       for_runs ask k code setting.valid bound x way (value_code low) (value_code high) (eval low K) (eval high K) (means low h.0) (means high g.0) (λ a. (all (map statement_code (map (λ z. z.0) body))).code a n) (λ v caught. do_each K v caught (map exec (map (λ z. z.0) body))) (each_does body (runs.0, g.1) n texts))
-  stmt_rolled (Stmt-F.Block m) = does (Stmt-F.Block m.0) _ _ (statement_roll (Stmt-F.Block m.0)) (exec_roll (Stmt-F.Block m.0)) (S.block_runs ask k code setting call default constants bound calls (master_code m.0) (body_of m.0) m.1)
+  stmt_rolled (Stmt-F.Block m) = does (Stmt-F.Block m.0) _ _ (statement_roll (Stmt-F.Block m.0)) (exec_roll (Stmt-F.Block m.0)) (S.block_runs ask k code setting call default defaults bound calls (master_code m.0) (body_of m.0) m.1)
   stmt_rolled (Stmt-F.AssignRecord x t a) = does (Stmt-F.AssignRecord x t a) _ _ (statement_roll (Stmt-F.AssignRecord x t a)) (exec_roll (Stmt-F.AssignRecord x t a)) (record_assign_does (reached_by x) t (sourced a) (given_by x K) (eval_name x) (supply a) (name_leads K x) (begins x) (source_means K a))
   stmt_rolled (Stmt-F.Call f xs) = does (Stmt-F.Call f xs) _ _ (statement_roll (Stmt-F.Call f xs)) (exec_roll (Stmt-F.Call f xs)) (called_does f xs)
   stmt_rolled (Stmt-F.Nothing x) = does (Stmt-F.Nothing x) _ _ (statement_roll (Stmt-F.Nothing x)) (exec_roll (Stmt-F.Nothing x)) (nothing_called (reached_by x) (given_by x K) (eval_name x) (name_leads K x) (begins x))
@@ -318,24 +318,24 @@ module _ (ask : Ask) (k : Tables) (code : Code) (setting : Setting k code) (call
 
   arm_rolled : (y : Arm-F StmtToo ArmToo HandlerToo MasterToo) → Guards (roll-Arm (bare_arm y))
   arm_rolled y =
-      subst (λ z. S.Guards ask k code setting call default constants bound calls z (arm_of (roll-Arm (bare_arm y)))) (sym (arm_roll (bare_arm y)))
-      (subst (λ m. S.Guards ask k code setting call default constants bound calls (record { test = value_code y.test; body = all (map statement_code (map (λ x. x.0) y.body)) }) m) (sym (guarding_roll (bare_arm y)))
-      (S.guard_runs ask k code setting call default constants bound calls (value_code y.test) (eval y.test) (map statement_code (map (λ x. x.0) y.body)) (map exec (map (λ x. x.0) y.body)) (means y.test) (statements_too y.body)))
+      subst (λ z. S.Guards ask k code setting call default defaults bound calls z (arm_of (roll-Arm (bare_arm y)))) (sym (arm_roll (bare_arm y)))
+      (subst (λ m. S.Guards ask k code setting call default defaults bound calls (record { test = value_code y.test; body = all (map statement_code (map (λ x. x.0) y.body)) }) m) (sym (guarding_roll (bare_arm y)))
+      (S.guard_runs ask k code setting call default defaults bound calls (value_code y.test) (eval y.test) (map statement_code (map (λ x. x.0) y.body)) (map exec (map (λ x. x.0) y.body)) (means y.test) (statements_too y.body)))
 
-  handlers_too : (hs : List HandlerToo) → H.EachHandles ask k code setting call default constants bound calls (map handler_code (map (λ x. x.0) hs)) (map handler_of (map (λ x. x.0) hs))
+  handlers_too : (hs : List HandlerToo) → H.EachHandles ask k code setting call default defaults bound calls (map handler_code (map (λ x. x.0) hs)) (map handler_of (map (λ x. x.0) hs))
   handlers_too [] = tt
   handlers_too (h ∷ hs) = (h.1, handlers_too hs)
 
   handler_rolled : (y : Handler-F StmtToo ArmToo HandlerToo MasterToo) → Handles (roll-Handler (bare_handler y))
   handler_rolled y =
-      subst (λ z. H.Handles ask k code setting call default constants bound calls z (handler_of (roll-Handler (bare_handler y)))) (sym (handler_roll (bare_handler y)))
-      (subst (λ m. H.Handles ask k code setting call default constants bound calls (record { choices = y.choices; body = all (map statement_code (map (λ x. x.0) y.body)) }) m) (sym (handling_roll (bare_handler y)))
-      (H.handler_does ask k code setting call default constants bound calls y.choices (map statement_code (map (λ x. x.0) y.body)) (map exec (map (λ x. x.0) y.body)) (statements_too y.body)))
+      subst (λ z. H.Handles ask k code setting call default defaults bound calls z (handler_of (roll-Handler (bare_handler y)))) (sym (handler_roll (bare_handler y)))
+      (subst (λ m. H.Handles ask k code setting call default defaults bound calls (record { choices = y.choices; body = all (map statement_code (map (λ x. x.0) y.body)) }) m) (sym (handling_roll (bare_handler y)))
+      (H.handler_does ask k code setting call default defaults bound calls y.choices (map statement_code (map (λ x. x.0) y.body)) (map exec (map (λ x. x.0) y.body)) (statements_too y.body)))
 
   -- statements, and their handlers if there are any
-  closes : (body : List StmtToo) (handlers : List HandlerToo) → S.Closes ask k code setting call default constants bound calls (handled (all (map statement_code (map (λ x. x.0) body))) (map handler_code (map (λ x. x.0) handlers))) (S.with_handlers (map exec (map (λ x. x.0) body)) (map handler_of (map (λ x. x.0) handlers)))
-  closes body [] = S.plain_closes ask k code setting call default constants bound calls (map statement_code (map (λ x. x.0) body)) (map exec (map (λ x. x.0) body)) (statements_too body)
-  closes body (h ∷ hs) = H.handled_closes ask k code setting call default constants bound calls (map statement_code (map (λ x. x.0) body)) (map exec (map (λ x. x.0) body)) (statements_too body) (handler_code h.0) (map handler_code (map (λ x. x.0) hs)) (handler_of h.0) (map handler_of (map (λ x. x.0) hs)) (handlers_too (h ∷ hs))
+  closes : (body : List StmtToo) (handlers : List HandlerToo) → S.Closes ask k code setting call default defaults bound calls (handled (all (map statement_code (map (λ x. x.0) body))) (map handler_code (map (λ x. x.0) handlers))) (S.with_handlers (map exec (map (λ x. x.0) body)) (map handler_of (map (λ x. x.0) handlers)))
+  closes body [] = S.plain_closes ask k code setting call default defaults bound calls (map statement_code (map (λ x. x.0) body)) (map exec (map (λ x. x.0) body)) (statements_too body)
+  closes body (h ∷ hs) = H.handled_closes ask k code setting call default defaults bound calls (map statement_code (map (λ x. x.0) body)) (map exec (map (λ x. x.0) body)) (statements_too body) (handler_code h.0) (map handler_code (map (λ x. x.0) hs)) (handler_of h.0) (map handler_of (map (λ x. x.0) hs)) (handlers_too (h ∷ hs))
 
   master_rolled : (y : Master-F StmtToo ArmToo HandlerToo MasterToo) → IsMaster (roll-Master (bare_master y))
   unfolding within
@@ -343,9 +343,9 @@ module _ (ask : Ask) (k : Tables) (code : Code) (setting : Setting k code) (call
       let same = master_roll (bare_master y) in
       let means = body_roll (bare_master y) in
       let statements = handled (all (map statement_code (map (λ x. x.0) y.body))) (map handler_code (map (λ x. x.0) y.handlers)) in
-      subst (λ z. S.Mastered ask k code setting call default constants bound calls z (body_of (roll-Master (bare_master y)))) (sym same)
-      (subst (λ b. S.Mastered ask k code setting call default constants bound calls (record { slots = y.slots; inside = inside (all_items (map item_code y.items)) statements }) b) (sym means)
-      (record { slots = refl; inside = S.master_runs ask k code setting call default constants bound calls y.items statements (S.with_handlers (map exec (map (λ x. x.0) y.body)) (map handler_of (map (λ x. x.0) y.handlers))) (closes y.body y.handlers) }))
+      subst (λ z. S.Mastered ask k code setting call default defaults bound calls z (body_of (roll-Master (bare_master y)))) (sym same)
+      (subst (λ b. S.Mastered ask k code setting call default defaults bound calls (record { slots = y.slots; inside = inside (all_items (map item_code y.items)) statements }) b) (sym means)
+      (record { slots = refl; inside = S.master_runs ask k code setting call default defaults bound calls y.items statements (S.with_handlers (map exec (map (λ x. x.0) y.body)) (map handler_of (map (λ x. x.0) y.handlers))) (closes y.body y.handlers) }))
 
   -- Whole trees ---------------------------------------------------------------------------------------
 

@@ -31,7 +31,7 @@ use Rattle.ctl_code.specs.declared.kinds.Kind.TheVariants as KindOf
 use Rattle.ctl_code.specs.States.{Word, Scalar, Frame, State}
 use Rattle.ctl_code.specs.Table.{by_result, by_binary, by_decision, cell_at}
 use Rattle.ctl_code.specs.Steps.{moved, step}
-use Rattle.ctl_code.specs.Windows.{depth, height}
+use Rattle.ctl_code.specs.Windows.{height}
 use Rattle.ctl_layout.specs.Parts as Parts
 use Rattle.ctl_layout.specs.declared.right.Right.{Right}
 use Rattle.ctl_layout.specs.declared.right.Right.TheVariants as RightOf
@@ -44,6 +44,7 @@ use Rattle.ctl_gen.proofs.Place.{Laid, laid_front, laid_back}
 use Rattle.ctl_gen.proofs.Cells.{here, by_code, landed, landed_leaves, put_is, waiting, Stays, held_in, taking_is, value_of, cell_is, OneCell, Any}
 use Rattle.ctl_gen.proofs.Worlds.{Since}
 use Rattle.ctl_gen.proofs.Setting.{IsSeen}
+use Rattle.ctl_gen.proofs.Entered.{IsAsLong, entered_there}
 use Rattle.ctl_gen.proofs.Worth.{both_cell, then_paid}
 use Rattle.ctl_gen.proofs.Follow.{RunsTo, at, transferred, added_to, within_to, one_step_to, last_step_to, no_step_to, arriving_to, weaker_to, bind_add}
 
@@ -104,9 +105,9 @@ module _ (ask : Ask) (k : Tables) (code : Code) (bound : ℕ) (w0 : World) where
       ∙ ap (λ n. add 1 (add 1 (read_found n (InVariable (master_of d x) x.slot) c l w))) (scalar_cells k ty scalar)
 
   -- a variable of this window, or of a body around, goes where it is wanted
-  pub read_step : (at' : Option ℕ) (v : Var) (ty : Ty) (to : Cell) (s : List Kind) (d : List ℕ) (place : ℕ) (ks : List Frame) (ops : List Word) (l : Log) (w : World) → length d ≡ depth s → slice_get code.instructions.items place ≡ Some (read_from at' v ty to s) → step ask code (at d place ks ops l w) ≡ landed to.named d (place + 1) ks ops (Goes (value_of d v w ∷ [])) l w
-  read_step (Some n) v ty to s d place ks ops l w long has = by_code ask code d place ks ops l w (InstrOf.Move (local_cell s v n) ty to) has ∙ put_is to.named (cell_at d (out_to s v) v.slot w) d place ks ops l w ∙ ap (λ x. landed to.named d (place + 1) ks ops (Goes (x ∷ [])) l w) (cell_is d s v w long)
-  read_step None v ty to s d place ks ops l w long has = by_code ask code d place ks ops l w (InstrOf.Fetch (out_to s v) v.slot ty to) has ∙ put_is to.named (cell_at d (out_to s v) v.slot w) d place ks ops l w ∙ ap (λ x. landed to.named d (place + 1) ks ops (Goes (x ∷ [])) l w) (cell_is d s v w long)
+  pub read_step : (at' : Option ℕ) (v : Var) (ty : Ty) (to : Cell) (s : List Kind) (d : List ℕ) (place : ℕ) (ks : List Frame) (ops : List Word) (l : Log) (w : World) → local_at s v ≡ at' → IsAsLong d s → slice_get code.instructions.items place ≡ Some (read_from at' v ty to s) → step ask code (at d place ks ops l w) ≡ landed to.named d (place + 1) ks ops (Goes (value_of d v w ∷ [])) l w
+  read_step (Some n) v ty to s d place ks ops l w there long has = by_code ask code d place ks ops l w (InstrOf.Move (local_cell s v n) ty to) has ∙ put_is to.named (cell_at d (out_to s v) v.slot w) d place ks ops l w ∙ ap (λ x. landed to.named d (place + 1) ks ops (Goes (x ∷ [])) l w) (cell_is d s v w (long.1 (entered_there s (out_to s v) v.slot n there)))
+  read_step None v ty to s d place ks ops l w there long has = by_code ask code d place ks ops l w (InstrOf.Fetch v ty to) has ∙ put_is to.named (value_of d v w) d place ks ops l w
 
   pub read_value : (x : Var) (find : List ℕ → Act Found) → Uses x find → (ty : Ty) → IsScalar ty → Value (read (Some (Parts.Variable x)) ty) (λ d. ticked (find d >>= read_found (cells_of k ty)))
   unfolding opened_outcome
@@ -114,7 +115,7 @@ module _ (ask : Ask) (k : Tables) (code : Code) (bound : ℕ) (w0 : World) where
     begins = λ to t s d place ks ops c l w le fits long has. record {
       out = Gives (Goes (value_of d x w ∷ [])) 1 c l w;
       is = reads_it x find uses ty scalar d c l w;
-      runs = last_step_to ask code (OneCell Fits Any) 8 8 _ c 1 (landed to.named d (place + 1) ks ops) (Goes (value_of d x w ∷ [])) l w (omega arith) (fits, (value_of d x w, refl, tt)) (read_step (local_at s x) x t to s d place ks ops l w long.2 has.0);
+      runs = last_step_to ask code (OneCell Fits Any) 8 8 _ c 1 (landed to.named d (place + 1) ks ops) (Goes (value_of d x w ∷ [])) l w (omega arith) (fits, (value_of d x w, refl, tt)) (read_step (local_at s x) x t to s d place ks ops l w refl long.2 has.0);
     };
     constant = λ n is d c l w. absurd (cc);
     variable = λ y is d c l w. let same : x ≡ y = cc in reads_it x find uses ty scalar d c l w ∙ ap (λ (z : Var). Gives (Goes (value_of d z w ∷ [])) 2 c l w) same;
@@ -160,16 +161,16 @@ module _ (ask : Ask) (k : Tables) (code : Code) (bound : ℕ) (w0 : World) where
       same (Leaves y) l1 w1 = refl
 
   -- a variable: what is true of the world stays so
-  variable_holds : (x : ValueCode) (act : List ℕ → Act (List ℕ)) → Value x act → (v : Var) → x.right ≡ RightOf.Variable v → (P : World → Type 0) (at' : Option ℕ) (ty : Ty) (s : List Kind) (d : List ℕ) (place : ℕ) (ks : List Frame) (ops : List Word) (c : ℕ) (l : Log) (w : World) → c ≤ bound → Fits w → P w → IsSeen w0 d s → Laid code place (in_cell at' v x ty s).code → Holds (in_cell at' v x ty s) (λ n w1. Stays (in_cell at' v x ty s).cell.named n d w1 × P w1) act d place ks ops c l w
+  variable_holds : (x : ValueCode) (act : List ℕ → Act (List ℕ)) → Value x act → (v : Var) → x.right ≡ RightOf.Variable v → (P : World → Type 0) (at' : Option ℕ) (ty : Ty) (s : List Kind) (d : List ℕ) (place : ℕ) (ks : List Frame) (ops : List Word) (c : ℕ) (l : Log) (w : World) → c ≤ bound → Fits w → P w → local_at s v ≡ at' → IsSeen w0 d s → Laid code place (in_cell at' v x ty s).code → Holds (in_cell at' v x ty s) (λ n w1. Stays (in_cell at' v x ty s).cell.named n d w1 × P w1) act d place ks ops c l w
   unfolding add
-  variable_holds x act value v is P (Some n) ty s d place ks ops c l w le fits true_of long has =
+  variable_holds x act value v is P (Some n) ty s d place ks ops c l w le fits true_of there long has =
       let e : place ≡ place + 0 = omega arith in
       record {
         out = Gives (Goes (value_of d v w ∷ [])) 1 c l w;
         is = value.variable v is d c l w;
-        runs = no_step_to ask code (OneCell Fits (λ m w1. Stays (Variable (out_to s v) v.slot) m d w1 × P w1)) 8 8 _ c 1 (held_in (Variable (out_to s v) v.slot) d (place + 0) ks ops) (Goes (value_of d v w ∷ [])) l w (fits, (value_of d v w, refl, (cell_is d s v w long.2, true_of))) (ap (λ p. at d p ks ops l w) e);
+        runs = no_step_to ask code (OneCell Fits (λ m w1. Stays (Variable (out_to s v) v.slot) m d w1 × P w1)) 8 8 _ c 1 (held_in (Variable (out_to s v) v.slot) d (place + 0) ks ops) (Goes (value_of d v w ∷ [])) l w (fits, (value_of d v w, refl, (cell_is d s v w (long.2.1 (entered_there s (out_to s v) v.slot n there)), true_of))) (ap (λ p. at d p ks ops l w) e);
       }
-  variable_holds x act value v is P None ty s d place ks ops c l w le fits true_of long has =
+  variable_holds x act value v is P None ty s d place ks ops c l w le fits true_of there long has =
       let y = evaluated_holds x act value ty s d place ks ops c l w le fits long has in
       let e = one_less y.out (value_of d v w) c l w (sym y.is ∙ value.variable v is d c l w) in
       let next = held_in Operand d (place + length (evaluated x ty s).code) ks ops in
@@ -185,7 +186,7 @@ module _ (ask : Ask) (k : Tables) (code : Code) (bound : ℕ) (w0 : World) where
   held_holds (RightOf.Constant m) x act is value ty s d place ks ops c l w le fits long has = evaluated_holds x act value ty s d place ks ops c l w le fits long has
   held_holds RightOf.Evaluated x act is value ty s d place ks ops c l w le fits long has = evaluated_holds x act value ty s d place ks ops c l w le fits long has
   held_holds (RightOf.Variable v) x act is value ty s d place ks ops c l w le fits long has =
-      holds_less (λ n w1. Stays (in_cell (local_at s v) v x ty s).cell.named n d w1 × Unit {0}) (λ n w1. Stays (in_cell (local_at s v) v x ty s).cell.named n d w1) (λ n w1 h. h.0) _ c _ _ (variable_holds x act value v is (λ w1. Unit {0}) (local_at s v) ty s d place ks ops c l w le fits tt long has)
+      holds_less (λ n w1. Stays (in_cell (local_at s v) v x ty s).cell.named n d w1 × Unit {0}) (λ n w1. Stays (in_cell (local_at s v) v x ty s).cell.named n d w1) (λ n w1 h. h.0) _ c _ _ (variable_holds x act value v is (λ w1. Unit {0}) (local_at s v) ty s d place ks ops c l w le fits tt refl long has)
 
   -- what follows an operand that is held
   pub held_then : {B : Type 0} (Ends : Result B → World → Type 0) (h : Held) (P : ℕ → World → Type 0) (act : List ℕ → Act (List ℕ)) (d : List ℕ) (place : ℕ) (ks : List Frame) (ops : List Word) (c : ℕ) (l : Log) (w : World) (next : Result B → Log → World → State) (f : Result (List ℕ) → Act B) → Holds h P act d place ks ops c l w → ((n c1 : ℕ) (l1 : Log) (w1 : World) → c1 ≤ c → Fits w1 → P n w1 → RunsTo ask code Ends 8 8 (at d (place + length h.code) ks (waiting h.cell.named n ops) l1 w1) c1 next (f (Goes (n ∷ [])) c1 l1 w1)) → ((y c1 : ℕ) (l1 : Log) (w1 : World) → c1 ≤ c → Fits w1 → RunsTo ask code Ends 8 8 (transferred (ByRaise y) ks l1 w1) c1 next (f (Leaves (ByRaise y)) c1 l1 w1)) → RunsTo ask code Ends 0 0 (at d place ks ops l w) c next (bind (act d c l w) f)
@@ -283,7 +284,7 @@ module _ (ask : Ask) (k : Tables) (code : Code) (bound : ℕ) (w0 : World) where
       let h = in_cell (local_at s v) v o.right ty s in
       subst (λ (r : Right). Laid code place (binary_code o left ty to (held_by r o.right ty s)) → Gets Any 0 0 (at d place ks (waiting left.named n ops) l w) c (landed to.named d (place + length (binary_code o left ty to (held_by r o.right ty s))) ks ops) (combined o act d (n ∷ []) c l w)) (sym is)
       (λ has1. binary_runs o act left ty to h n d place ks ops c l w has1
-      (variable_holds o.right act value v is (λ w1. Stays left.named n d w1) (local_at s v) ty s d place ks (waiting left.named n ops) c l w le fits stays long (laid_front code place h.code ((InstrOf.Binary (operator_for o ty) left h.cell to, h.after) ∷ []) has1))) has
+      (variable_holds o.right act value v is (λ w1. Stays left.named n d w1) (local_at s v) ty s d place ks (waiting left.named n ops) c l w le fits stays refl long (laid_front code place h.code ((InstrOf.Binary (operator_for o ty) left h.cell to, h.after) ∷ []) has1))) has
   operator_runs RightOf.Evaluated o act is value left ty to s stay n d place ks ops c l w le fits long stays has =
       let h = evaluated o.right ty s in
       subst (λ (r : Right). Laid code place (binary_code o left ty to (held_by r o.right ty s)) → Gets Any 0 0 (at d place ks (waiting left.named n ops) l w) c (landed to.named d (place + length (binary_code o left ty to (held_by r o.right ty s))) ks ops) (combined o act d (n ∷ []) c l w)) (sym is)
@@ -323,19 +324,19 @@ module _ (ask : Ask) (k : Tables) (code : Code) (bound : ℕ) (w0 : World) where
       (λ y c1 l1 w1 lo fits1. leaves_it 0 0 to.named d (place + length is + length js) ks ops y c1 l1 w1 fits1))
 
   -- the left operand of a chain
-  held_depth : (r : Right) (x : ValueCode) (ty : Ty) (s : List Kind) → depth (held_by r x ty s).after ≡ depth s
-  held_depth (RightOf.Constant n) x ty s = refl
-  held_depth RightOf.Evaluated x ty s = refl
-  held_depth (RightOf.Variable v) x ty s = by (local_at s v)
+  held_seen : (r : Right) (x : ValueCode) (ty : Ty) (s : List Kind) (d : List ℕ) → IsSeen w0 d s → IsSeen w0 d (held_by r x ty s).after
+  held_seen (RightOf.Constant n) x ty s d h = h
+  held_seen RightOf.Evaluated x ty s d h = h
+  held_seen (RightOf.Variable v) x ty s d h = by (local_at s v)
     where
-      by : (o : Option ℕ) → depth (in_cell o v x ty s).after ≡ depth s
-      by (Some n) = refl
-      by None = refl
+      by : (o : Option ℕ) → IsSeen w0 d (in_cell o v x ty s).after
+      by (Some n) = h
+      by None = h
 
-  left_depth : (r : Right) (x : ValueCode) (ty : Ty) (s : List Kind) → depth (left_held r x ty s).after ≡ depth s
-  left_depth (RightOf.Constant n) x ty s = held_depth x.right x ty s
-  left_depth (RightOf.Variable v) x ty s = held_depth x.right x ty s
-  left_depth RightOf.Evaluated x ty s = refl
+  left_seen : (r : Right) (x : ValueCode) (ty : Ty) (s : List Kind) (d : List ℕ) → IsSeen w0 d s → IsSeen w0 d (left_held r x ty s).after
+  left_seen (RightOf.Constant n) x ty s d h = held_seen x.right x ty s d h
+  left_seen (RightOf.Variable v) x ty s d h = held_seen x.right x ty s d h
+  left_seen RightOf.Evaluated x ty s d h = h
 
   constant_stays : (x : Named) (n : ℕ) → MayStay x (RightOf.Constant n)
   constant_stays Operand n = tt
@@ -375,7 +376,7 @@ module _ (ask : Ask) (k : Tables) (code : Code) (bound : ℕ) (w0 : World) where
         subst (λ q. Begins Any (at d place ks ops l w) c (landed to.named d q ks ops) (bind (act d c l w) (on_goes (apply_each K d (m ∷ ms))))) e
         (begins_with h (λ n w1. Stays h.cell.named n d w1) act (apply_each K d (m ∷ ms)) d place ks ops c l w to.named (place + length h.code + length js)
         (left_holds o.right.right x act value ty s d place ks ops c l w le fits long (laid_front code place h.code js has))
-        (λ n c1 l1 w1 lo fits1 p. operators_run K o os m ms each s h.cell h.after ty to (left_stays o.right.right x ty s) n d (place + length h.code) ks ops c1 l1 w1 (omega (arith, lo, le)) fits1 long (long.0, long.1, long.2 ∙ sym (left_depth o.right.right x ty s)) p (laid_back code place h.code js has)));
+        (λ n c1 l1 w1 lo fits1 p. operators_run K o os m ms each s h.cell h.after ty to (left_stays o.right.right x ty s) n d (place + length h.code) ks ops c1 l1 w1 (omega (arith, lo, le)) fits1 long (left_seen o.right.right x ty s d long) p (laid_back code place h.code js has)));
     constant = λ n is d c l w. absurd (cc);
     variable = λ y is d c l w. absurd (cc);
   }

@@ -10,17 +10,17 @@ use Rattle.ctl_program.specs.declared.types.Ty.TheVariants as TyOf
 use Rattle.ctl_program.specs.declared.types.Var.{Var}
 use Rattle.ctl_well_typed.specs.Setting as W
 use Rattle.ctl_code.specs.declared.kinds.Kind.{Kind}
-use Rattle.ctl_code.specs.declared.kinds.Kind.TheVariants.{Operand, RecordValue, Block, Body}
+use Rattle.ctl_code.specs.declared.kinds.Kind.TheVariants.{Operand, RecordValue, Block, Body, Default}
 use Rattle.ctl_code.specs.declared.code.Code.{Code}
 use Rattle.ctl_code.specs.declared.homes.Declaration.{Declaration}
 use Rattle.ctl_code.specs.declared.homes.Declaration.TheVariants.{Subprogram, Record}
 use Rattle.ctl_code.specs.declared.kinds.MasterAt.{MasterAt}
 use Rattle.ctl_code.specs.declared.kinds.MasterAt.TheVariants.{Entered, Around as AroundOf}
-use Rattle.ctl_code.specs.Windows.{Counts, HasHome, HasHomeOf, HasSlot, depth, height, master_at, said, slot_over, slots_at, slots_of, variable_at}
-use Rattle.ctl_code.proofs.Raising.{newest_entered, newest_slots}
+use Rattle.ctl_code.specs.Windows.{Counts, HasHome, HasHomeOf, HasSlot, OwnsSlot, depth, height, master_at, said, slot_over, slots_at, slots_of, variable_at}
 use Rattle.ctl_code.specs.Valid.{HasCollection, HasVariable, IsAtEnd, IsDeclarable, IsFine, IsKnown, Leads, over_numbers}
 use Rattle.ctl_layout.specs.Around.{Landing, OutOfMaster, BeforeLoop, Around, behind, land, further, newest_at, out_to}
 use Rattle.ctl_layout.specs.Layout.{leaves_code}
+use Rattle.ctl_gen.proofs.Entered.{IsEntered}
 use Rattle.ctl_gen.proofs.Formed.{FormedAt, leads_at}
 
 -- Slots -------------------------------------------------------------------------------------------
@@ -34,15 +34,40 @@ slot_there below slots slot lt = tested (nat_lt slot slots) refl
     tested false e = absurd (grind (arith, nat_tests))
 
 -- and so for each slot of the newest one
-cell_of : (s : List Kind) (slot : ℕ) → slot < newest_slots s → (at : ℕ) × (variable_at s 0 slot ≡ Some at)
-cell_of [] slot h = absurd (omega (arith, h))
-cell_of (Operand ty ∷ s) slot h = cell_of s slot h
-cell_of (RecordValue ∷ s) slot h = cell_of s slot h
-cell_of (Block slots ∷ s) slot h = (height s + slot, slot_there (height s) slots slot h)
-cell_of (Body level slots number ∷ s) slot h = (height s + slot, slot_there (height s) slots slot h)
+pub cell_there : (s : List Kind) (slot : ℕ) → OwnsSlot s slot → (at : ℕ) × (variable_at s 0 slot ≡ Some at)
+cell_there [] slot h = absurd h
+cell_there (Operand ty ∷ s) slot h = cell_there s slot h
+cell_there (RecordValue ∷ s) slot h = cell_there s slot h
+cell_there (Block slots ∷ s) slot h = (height s + slot, slot_there (height s) slots slot h)
+cell_there (Body level slots number ∷ s) slot h = (height s + slot, slot_there (height s) slots slot h)
+cell_there (Default level number ∷ s) slot h = absurd h
 
-pub cell_there : (counts : Counts) (s : List Kind) (slot : ℕ) → HasSlot counts s 0 slot → (at : ℕ) × (variable_at s 0 slot ≡ Some at)
-cell_there counts s slot h = cell_of s slot (subst (λ (m : MasterAt). slot < slots_of counts m (depth s - 1 - 0)) (newest_entered s h.0) h.1)
+same_number : (n : ℕ) → nat_eq n n ≡ true
+same_number n = eq-eqb n n refl
+
+not_less : (n : ℕ) → nat_lt n n ≡ false
+not_less n = by (nat_lt n n) refl
+  where
+    by : (b : Bool) → nat_lt n n ≡ b → b ≡ false
+    by true e = absurd (let less = ltb-true n n e in omega (arith, less))
+    by false e = refl
+
+-- where the body has entered the newest master, it has its slots
+owned : (counts : Counts) (s : List Kind) (slot : ℕ) → IsEntered s → HasSlot counts s 0 slot → OwnsSlot s slot
+owned counts [] slot entered h = absurd entered
+owned counts (Operand ty ∷ s) slot entered h = owned counts s slot entered h
+owned counts (RecordValue ∷ s) slot entered h = owned counts s slot entered h
+owned counts (Block slots ∷ s) slot entered h =
+    let level : depth s + 1 - 1 - 0 ≡ depth s = omega arith in
+    let there = ap (λ (l : ℕ). master_at (Block slots ∷ s) l) level ∙ ap (λ (b : Bool). if b then Entered slots else master_at s (depth s)) (same_number (depth s)) in
+    subst (λ (m : MasterAt). slot < slots_of counts m (depth s + 1 - 1 - 0)) there h.1
+owned counts (Body own slots number ∷ s) slot entered h =
+    let level : own + 1 - 1 - 0 ≡ own = omega arith in
+    let there = ap (λ (l : ℕ). master_at (Body own slots number ∷ s) l) level
+    ∙ ap (λ (b : Bool). if b then AroundOf (Subprogram number) else (if nat_eq own own then Entered slots else Entered 0)) (not_less own)
+    ∙ ap (λ (b : Bool). if b then Entered slots else Entered 0) (same_number own) in
+    subst (λ (m : MasterAt). slot < slots_of counts m (own + 1 - 1 - 0)) there h.1
+owned counts (Default level number ∷ s) slot entered h = absurd entered
 
 -- what is declared at a level is so many masters further out than the newest
 out_by : (d level out : ℕ) → level + out ≡ d → 1 ≤ level → (if nat_lt (level - 1) d then d - 1 - (level - 1) else d) ≡ out
@@ -102,8 +127,12 @@ size_around home env level encloses = by (slice_get home level) refl
 -- Masters around ----------------------------------------------------------------------------------
 
 -- as many masters stand there as are around, each slot of them that is for something is there, and each has as many slots
+abbrev pub Surrounds : Code → W.Frames → List Kind → Type 0
+Surrounds code env s = (depth s ≡ length env) × ((v : Var) (h : W.Holding) → W.Names env v h → HasSlot code.homes s (out_to s v) v.slot) × ((level : ℕ) → slots_at code.homes s level ≡ size_at env level)
+
+-- and the body has entered the newest of them
 abbrev pub Agrees : Code → W.Frames → List Kind → Type 0
-Agrees code env s = (depth s ≡ length env) × ((v : Var) (h : W.Holding) → W.Names env v h → HasSlot code.homes s (out_to s v) v.slot) × ((level : ℕ) → slots_at code.homes s level ≡ size_at env level)
+Agrees code env s = Surrounds code env s × IsEntered s
 
 -- a variable that is named there
 abbrev pub IsNamed : W.Frames → Var → Type 0
@@ -123,10 +152,10 @@ abbrev pub IsCreatable : Code → W.Frames → Ty → Type 0
 IsCreatable code env of = IsKnown code of × GrantedOf code env of
 
 -- so they stand there
-pub granted_home : (code : Code) (env : W.Frames) (s : List Kind) (of : Declaration) → Agrees code env s → Granted code env of → HasHome code.homes s of
+pub granted_home : (code : Code) (env : W.Frames) (s : List Kind) (of : Declaration) → Surrounds code env s → Granted code env of → HasHome code.homes s of
 granted_home code env s of a granted level = let there = a.2 level in let least = granted level in omega (arith, there, least)
 
-pub granted_home_of : (code : Code) (env : W.Frames) (s : List Kind) (of : Ty) → Agrees code env s → GrantedOf code env of → HasHomeOf code.homes s of
+pub granted_home_of : (code : Code) (env : W.Frames) (s : List Kind) (of : Ty) → Surrounds code env s → GrantedOf code env of → HasHomeOf code.homes s of
 granted_home_of code env s (TyOf.Record t) a granted = granted_home code env s (Record t) a granted
 granted_home_of code env s ty a granted = tt
 
@@ -135,9 +164,9 @@ abbrev pub MayHold : Code → List Kind → ℕ → Type 0
 MayHold code s t = IsDeclarable code (depth s) t × HasHome code.homes s (Record t)
 
 -- where numbers stand on top
-pub agrees_over : (code : Code) (n : ℕ) (env : W.Frames) (s : List Kind) → Agrees code env s → Agrees code env (over_numbers n s)
-agrees_over code zero env s a = a
-agrees_over code (suc n) env s a = agrees_over code n env (Operand Integer ∷ s) a
+pub surrounds_over : (code : Code) (n : ℕ) (env : W.Frames) (s : List Kind) → Surrounds code env s → Surrounds code env (over_numbers n s)
+surrounds_over code zero env s a = a
+surrounds_over code (suc n) env s a = surrounds_over code n env (Operand Integer ∷ s) a
 
 -- a slot that is for something is there
 slot_named : (counts : Counts) (env : W.Frames) (s : List Kind) → depth s ≡ length env → ((level : ℕ) → slots_at counts s level ≡ size_at env level) → (v : Var) (h : W.Holding) → W.Names env v h → HasSlot counts s (out_to s v) v.slot
@@ -150,20 +179,20 @@ slot_named counts env s deep sizes v h (W.slot {level = level} {number = number}
     let within = slice_get_within f number h held in
     subst (λ o. HasSlot counts s o number) (sym out) (omega (arith, deep, lt), subst (λ l. number < slots_at counts s l) (sym back) (omega (arith, size, within)))
 
-agrees_by : (code : Code) (env : W.Frames) (s : List Kind) → depth s ≡ length env → ((level : ℕ) → slots_at code.homes s level ≡ size_at env level) → Agrees code env s
-agrees_by code env s deep sizes = (deep, slot_named code.homes env s deep sizes, sizes)
+surrounds_by : (code : Code) (env : W.Frames) (s : List Kind) → depth s ≡ length env → ((level : ℕ) → slots_at code.homes s level ≡ size_at env level) → Surrounds code env s
+surrounds_by code env s deep sizes = (deep, slot_named code.homes env s deep sizes, sizes)
 
 -- inside a block
 pub agrees_inside : (code : Code) (env : W.Frames) (f : W.Frame) (s : List Kind) → Agrees code env s → Agrees code (env ++ f ∷ []) (Block (length f) ∷ s)
-agrees_inside code env f s a = agrees_by code (env ++ f ∷ []) (Block (length f) ∷ s) (let e = a.0 in omega (arith, e, length-append env (f ∷ []))) (λ level. by level (nat_eq level (depth s)) refl)
+agrees_inside code env f s a = (surrounds_by code (env ++ f ∷ []) (Block (length f) ∷ s) (let e = a.0.0 in omega (arith, e, length-append env (f ∷ []))) (λ level. by level (nat_eq level (depth s)) refl), tt)
   where
     by : (level : ℕ) (b : Bool) → nat_eq level (depth s) ≡ b → slots_of code.homes (if b then Entered (length f) else master_at s level) level ≡ size_at (env ++ f ∷ []) level
     by level true e =
-        let same : level ≡ length env = eqb-true level (depth s) e ∙ a.0 in
+        let same : level ≡ length env = eqb-true level (depth s) e ∙ a.0.0 in
         sym (ap (size_at (env ++ f ∷ [])) same ∙ ap size_of (innermost env f))
     by level false e =
-        let other : level ≡ length env → ⊥ = λ same. let here = eq-eqb level (depth s) (same ∙ sym a.0) in cc (here, e) in
-        a.2 level ∙ sym (ap size_of (others env f level other))
+        let other : level ≡ length env → ⊥ = λ same. let here = eq-eqb level (depth s) (same ∙ sym a.0.0) in cc (here, e) in
+        a.0.2 level ∙ sym (ap size_of (others env f level other))
 
 -- a number that is no less than another one, and not the same
 past_it : (m n : ℕ) → n ≤ m → nat_eq m n ≡ false → n + 1 ≤ m
@@ -178,7 +207,7 @@ past_it m n least apart = by (nat_lt n m) refl
 
 -- in a body, of the masters around whose declaration the code says what they are
 pub agrees_body : (code : Code) (home : W.Frames) (f : W.Frame) (level number : ℕ) → level ≡ length home → ((l : ℕ) → said code.homes (Subprogram number) l ≡ size_at home l) → Agrees code (home ++ f ∷ []) (Body level (length f) number ∷ [])
-agrees_body code home f own number deep told = agrees_by code (home ++ f ∷ []) (Body own (length f) number ∷ []) (omega (arith, deep, length-append home (f ∷ []))) (λ level. by level (nat_lt level own) refl)
+agrees_body code home f own number deep told = (surrounds_by code (home ++ f ∷ []) (Body own (length f) number ∷ []) (omega (arith, deep, length-append home (f ∷ []))) (λ level. by level (nat_lt level own) refl), tt)
   where
     here : (level : ℕ) (b : Bool) → nat_lt level own ≡ false → nat_eq level own ≡ b → slots_of code.homes (if b then Entered (length f) else Entered 0) level ≡ size_at (home ++ f ∷ []) level
     here level true past e =
@@ -188,27 +217,35 @@ agrees_body code home f own number deep told = agrees_by code (home ++ f ∷ [])
         let far : length (home ++ f ∷ []) ≤ level = (let size = length-append home (f ∷ []) in let beyond = past_it level own (ltb-false level own past) e in omega (arith, size, beyond, deep)) in
         sym (ap size_of (none_behind (home ++ f ∷ []) level far))
 
-    by : (level : ℕ) (b : Bool) → nat_lt level own ≡ b → slots_of code.homes (if b then AroundOf number else (if nat_eq level own then Entered (length f) else Entered 0)) level ≡ size_at (home ++ f ∷ []) level
+    by : (level : ℕ) (b : Bool) → nat_lt level own ≡ b → slots_of code.homes (if b then AroundOf (Subprogram number) else (if nat_eq level own then Entered (length f) else Entered 0)) level ≡ size_at (home ++ f ∷ []) level
     by level true e =
         let other : level ≡ length home → ⊥ = λ same. let less = ltb-true level own e in omega (arith, less, same, deep) in
         told level ∙ sym (ap size_of (others home f level other))
     by level false e = here level (nat_eq level own) e refl
+
+-- where a default is evaluated of a record type of which the code says that (3.8)
+pub surrounds_default : (code : Code) (home : W.Frames) (own number : ℕ) → own ≡ length home → ((l : ℕ) → said code.homes (Record number) l ≡ size_at home l) → Surrounds code home (Default own number ∷ [])
+surrounds_default code home own number deep told = surrounds_by code home (Default own number ∷ []) deep (λ level. by level (nat_lt level own) refl)
+  where
+    by : (level : ℕ) (b : Bool) → nat_lt level own ≡ b → slots_of code.homes (if b then AroundOf (Record number) else Entered 0) level ≡ size_at home level
+    by level true e = told level
+    by level false e = let beyond = ltb-false level own e in sym (ap size_of (none_behind home level (omega (arith, beyond, deep))))
 
 -- Variables of the newest master ------------------------------------------------------------------
 
 some_master : (env : W.Frames) (v : Var) (h : W.Holding) → W.Names env v h → (1 ≤ v.level) × (v.level ≤ length env)
 some_master env v h (W.slot {level = level} master held) = let lt = slice_get_within env level _ master in (omega arith, omega (arith, lt))
 
-out_of_newest : (code : Code) (env : W.Frames) (s : List Kind) (v : Var) (h : W.Holding) → Agrees code env s → W.Names env v h → v.level ≡ length env → out_to s v ≡ 0
+out_of_newest : (code : Code) (env : W.Frames) (s : List Kind) (v : Var) (h : W.Holding) → Surrounds code env s → W.Names env v h → v.level ≡ length env → out_to s v ≡ 0
 out_of_newest code env s v h a names newest = let deep = a.0 in out_by (depth s) v.level 0 (omega (arith, newest, deep)) (some_master env v h names).0
 
-pub newest_slot : (code : Code) (env : W.Frames) (s : List Kind) (v : Var) (h : W.Holding) → Agrees code env s → W.Names env v h → v.level ≡ length env → HasSlot code.homes s 0 v.slot
-newest_slot code env s v h a names newest = subst (λ o. HasSlot code.homes s o v.slot) (out_of_newest code env s v h a names newest) (a.1 v h names)
+pub newest_slot : (code : Code) (env : W.Frames) (s : List Kind) (v : Var) (h : W.Holding) → Agrees code env s → W.Names env v h → v.level ≡ length env → OwnsSlot s v.slot
+newest_slot code env s v h a names newest = owned code.homes s v.slot a.1 (subst (λ o. HasSlot code.homes s o v.slot) (out_of_newest code env s v h a.0 names newest) (a.0.1 v h names))
 
 pub newest_there : (code : Code) (env : W.Frames) (s : List Kind) (v : Var) (h : W.Holding) → Agrees code env s → W.Names env v h → v.level ≡ length env → (at : ℕ) × (newest_at s v ≡ Some at) × (variable_at s 0 v.slot ≡ Some at)
 newest_there code env s v h a names newest =
-    let out = out_of_newest code env s v h a names newest in
-    let there = cell_there code.homes s v.slot (newest_slot code env s v h a names newest) in
+    let out = out_of_newest code env s v h a.0 names newest in
+    let there = cell_there s v.slot (newest_slot code env s v h a names newest) in
     (there.0, rw out there.1, there.1)
 
 -- Variables that are named further out ------------------------------------------------------------
@@ -217,7 +254,7 @@ newest_there code env s v h a names newest =
 pub named_around : (home env : W.Frames) (v : Var) (h : W.Holding) → W.Encloses home env → W.Names home v h → W.Names env v h
 named_around home env v h encloses (W.slot {level = level} {f = f} master held) = W.slot (taken_there (length home) env level f (subst (λ fs. slice_get fs level ≡ Some f) (sym encloses) master)) held
 
-pub variable_there : (code : Code) (env : W.Frames) (s : List Kind) (v : Var) (h : W.Holding) → Agrees code env s → W.Names env v h → HasVariable code.homes s v
+pub variable_there : (code : Code) (env : W.Frames) (s : List Kind) (v : Var) (h : W.Holding) → Surrounds code env s → W.Names env v h → HasVariable code.homes s v
 variable_there code env s v h a names =
     let deep = a.0 in
     let around = some_master env v h names in
@@ -227,7 +264,7 @@ variable_there code env s v h a names =
 
 -- wherever these masters stand, the collection of an access type has its slot there
 abbrev pub IsHoused : Code → W.Frames → ℕ → Type 0
-IsHoused code env access = (s : List Kind) → Agrees code env s → HasCollection code s access
+IsHoused code env access = (s : List Kind) → Surrounds code env s → HasCollection code s access
 
 -- Where a stretch can be left ----------------------------------------------------------------------
 

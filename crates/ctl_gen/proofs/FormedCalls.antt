@@ -15,7 +15,7 @@ use Rattle.ctl_well_typed.specs.Setting as W
 use Rattle.ctl_well_typed.specs.Types.{Covers}
 use Rattle.ctl_well_typed.specs.Types as J
 use Rattle.ctl_code.specs.declared.kinds.Kind.{Kind}
-use Rattle.ctl_code.specs.declared.kinds.Kind.TheVariants.{Operand, RecordValue, Block, Body}
+use Rattle.ctl_code.specs.declared.kinds.Kind.TheVariants.{Operand, RecordValue, Block, Body, Default}
 use Rattle.ctl_code.specs.declared.code.Instr.{Instr}
 use Rattle.ctl_code.specs.declared.code.Instr.TheVariants as InstrOf
 use Rattle.ctl_code.specs.declared.code.Code.{Code}
@@ -36,7 +36,7 @@ use Rattle.ctl_layout.proofs.Extensions.{both_true}
 use Rattle.ctl_gen.specs.Emitted.{taking_actuals}
 use Rattle.ctl_gen.proofs.EmittedCalls.{actuals_left, height_over, none_kept}
 use Rattle.ctl_gen.proofs.Formed.{Behind, Formed, both, none, one}
-use Rattle.ctl_gen.proofs.FormedAround.{Agrees, Granted, IsNamed, agrees_over, granted_home}
+use Rattle.ctl_gen.proofs.FormedAround.{Granted, IsNamed, granted_home, Surrounds, surrounds_over}
 use Rattle.ctl_gen.proofs.FormedParts.{Follows, IsBegun, IsFound, IsFoundAt, located_formed, part_formed}
 use Rattle.ctl_gen.proofs.Walked.{part_begun}
 use Rattle.ctl_gen.proofs.FormedTypes.{run_scalar}
@@ -94,6 +94,7 @@ fewer_operands (suc n) (suc m) [] few h = absurd h
 fewer_operands (suc n) (suc m) (RecordValue ∷ s) few h = absurd h
 fewer_operands (suc n) (suc m) (Block slots ∷ s) few h = absurd h
 fewer_operands (suc n) (suc m) (Body level slots number ∷ s) few h = absurd h
+fewer_operands (suc n) (suc m) (Default level number ∷ s) few h = absurd h
 
 -- an operand is a cell
 height_below : (n : ℕ) (s : List Kind) → HaveOperands n s → height (drop n s) ≡ height s - n
@@ -103,6 +104,7 @@ height_below (suc n) [] h = absurd h
 height_below (suc n) (RecordValue ∷ s) h = absurd h
 height_below (suc n) (Block slots ∷ s) h = absurd h
 height_below (suc n) (Body level slots number ∷ s) h = absurd h
+height_below (suc n) (Default level number ∷ s) h = absurd h
 
 -- What keeps parts --------------------------------------------------------------------------------
 
@@ -159,7 +161,7 @@ module _ (code : Code) (env : W.Frames) where
 
   -- an actual is a new operand of its type, over the numbers that keep where its copy goes back to
   abbrev pub GoodActual : ActualCode → Type 0
-  GoodActual a = ((over m : ℕ) (s : List Kind) → Agrees code env s → Reserved over (numbers_of a.back + m) s → Formed code (a.code over s) s (Some (Operand a.ty ∷ s))) × IsBack a.back
+  GoodActual a = ((over m : ℕ) (s : List Kind) → Surrounds code env s → Reserved over (numbers_of a.back + m) s → Formed code (a.code over s) s (Some (Operand a.ty ∷ s))) × IsBack a.back
 
   abbrev pub GoodActuals : List ActualCode → Type 0
   GoodActuals [] = Unit {0}
@@ -174,12 +176,12 @@ module _ (code : Code) (env : W.Frames) where
       (subst (HaveNumbers from) (sym same) (have_over from (over_numbers i s)), sym (ap height (ap (drop from) same ∙ below_over from (over_numbers i s)) ∙ height_over i s))
 
   -- to where this says, from the number that stands over the first `i` of all; what keeps a part stands over the first `j`
-  back_formed : (o : Option Back) (i from below j n : ℕ) (s : List Kind) → Agrees code env s → IsBack o → 1 ≤ from → i + from ≡ n → j + (below + numbers_of o) ≡ n → Formed code (back_to o from (height s + i) below (over_numbers n s)) (over_numbers n s) (Some (over_numbers n s))
+  back_formed : (o : Option Back) (i from below j n : ℕ) (s : List Kind) → Surrounds code env s → IsBack o → 1 ≤ from → i + from ≡ n → j + (below + numbers_of o) ≡ n → Formed code (back_to o from (height s + i) below (over_numbers n s)) (over_numbers n s) (Some (over_numbers n s))
   back_formed None i from below j n s agrees named some all kept = none code (over_numbers n s)
   back_formed (Some (BackOf.Variable v)) i from below j n s agrees named some all kept =
       let top = over_numbers n s in
       let at = back_at i from n s all in
-      one code (InstrOf.CopyBack from (height s + i) (out_to top v) v.slot) top (Some top) (λ p next. (some, at.0, at.1, next, (agrees_over code n env s agrees).1 v named.0 named.1))
+      one code (InstrOf.CopyBack from (height s + i) (out_to top v) v.slot) top (Some top) (λ p next. (some, at.0, at.1, next, (surrounds_over code n env s agrees).1 v named.0 named.1))
   back_formed (Some (BackOf.Part t position)) i from below j n s agrees named some all kept =
       let top = over_numbers n s in
       let at = back_at i from n s all in
@@ -189,7 +191,7 @@ module _ (code : Code) (env : W.Frames) where
       one code (InstrOf.CopyBackPart from (height s + i) (below + 2) (height top - (below + 2)) t position) top (Some top) (λ p next. (some, (at.0, at.1), omega arith, (keeps.0, cell ∙ keeps.1), next))
 
   -- those that are left, over the first `i` of all
-  backs_formed : (actuals : List ActualCode) (i below n : ℕ) (s : List Kind) → Agrees code env s → GoodActuals actuals → i + length actuals ≡ n → below + numbers_in actuals ≡ n → Formed code (backs_code actuals (height s + i) below (over_numbers n s)) (over_numbers n s) (Some (over_numbers n s))
+  backs_formed : (actuals : List ActualCode) (i below n : ℕ) (s : List Kind) → Surrounds code env s → GoodActuals actuals → i + length actuals ≡ n → below + numbers_in actuals ≡ n → Formed code (backs_code actuals (height s + i) below (over_numbers n s)) (over_numbers n s) (Some (over_numbers n s))
   backs_formed [] i below n s agrees good all kept = none code (over_numbers n s)
   backs_formed (a ∷ more) i below n s agrees good all kept =
       let top = over_numbers n s in
@@ -205,7 +207,7 @@ module _ (code : Code) (env : W.Frames) where
       (subst (λ at. Formed code (backs_code more at under top) top (Some top)) next (backs_formed more (i + 1) under n s agrees good.1 further others))
 
   -- all of them, and then they are dropped
-  copied_back_formed : (actuals : List ActualCode) (s : List Kind) → Agrees code env s → GoodActuals actuals → Formed code (copied_back actuals (numbers_in actuals + length actuals) s) (over_numbers (numbers_in actuals + length actuals) s) (Some s)
+  copied_back_formed : (actuals : List ActualCode) (s : List Kind) → Surrounds code env s → GoodActuals actuals → Formed code (copied_back actuals (numbers_in actuals + length actuals) s) (over_numbers (numbers_in actuals + length actuals) s) (Some s)
   copied_back_formed actuals s agrees good =
       let n = numbers_in actuals + length actuals in
       let top = over_numbers n s in
@@ -213,7 +215,7 @@ module _ (code : Code) (env : W.Frames) where
       (backs_formed actuals (numbers_in actuals) (length actuals) n s agrees good refl (omega arith))
       (one code (InstrOf.Discard n) top (Some s) (λ p next. (have_over n s, subst (Leads code (p + 1)) (sym (below_over n s)) next)))
 
-  copies_formed : (actuals : List ActualCode) (s : List Kind) → Agrees code env s → GoodActuals actuals → Formed code (copies_code actuals s) (over_numbers (copies_of actuals) (over_numbers (numbers_in actuals) s)) (Some s)
+  copies_formed : (actuals : List ActualCode) (s : List Kind) → Surrounds code env s → GoodActuals actuals → Formed code (copies_code actuals s) (over_numbers (copies_of actuals) (over_numbers (numbers_in actuals) s)) (Some s)
   copies_formed actuals s agrees good = by (goes_back actuals) refl
     where
       by : (b : Bool) → goes_back actuals ≡ b → Formed code (if b then copied_back actuals (numbers_in actuals + length actuals) s else []) (over_numbers (if b then length actuals else 0) (over_numbers (numbers_in actuals) s)) (Some s)
@@ -243,7 +245,7 @@ MayNew code k = (env : W.Frames) (a : ℕ) (t : Ty) → (to : W.HasAccess k env 
 module _ (code : Code) (env : W.Frames) where
   -- Calls ------------------------------------------------------------------------------------------
 
-  actuals_formed : (over : ℕ) (actuals : List ActualCode) (s : List Kind) → Agrees code env s → Reserved over (numbers_in actuals) s → GoodActuals code env actuals → Formed code (actuals_code over actuals s) s (Some (with_actuals actuals s))
+  actuals_formed : (over : ℕ) (actuals : List ActualCode) (s : List Kind) → Surrounds code env s → Reserved over (numbers_in actuals) s → GoodActuals code env actuals → Formed code (actuals_code over actuals s) s (Some (with_actuals actuals s))
   actuals_formed over [] s agrees reserved good = none code s
   actuals_formed over (a ∷ more) s agrees reserved good =
       let top = Operand a.ty ∷ s in
@@ -252,13 +254,13 @@ module _ (code : Code) (env : W.Frames) where
       (actuals_formed further more top agrees (reserved_next over (numbers_of a.back) (numbers_in more) a.ty s reserved) good.1)
 
   -- actuals, and an instruction that takes them all
-  taking_formed : (i : Instr) (actuals : List ActualCode) (s : List Kind) (after : Option (List Kind)) → Agrees code env s → Reserved 0 (numbers_in actuals) s → GoodActuals code env actuals → ((p : ℕ) → Behind code (p + 1) after → IsFine code p i (with_actuals actuals s)) → Formed code (taking_actuals i actuals s) s after
+  taking_formed : (i : Instr) (actuals : List ActualCode) (s : List Kind) (after : Option (List Kind)) → Surrounds code env s → Reserved 0 (numbers_in actuals) s → GoodActuals code env actuals → ((p : ℕ) → Behind code (p + 1) after → IsFine code p i (with_actuals actuals s)) → Formed code (taking_actuals i actuals s) s after
   taking_formed i actuals s after agrees reserved good fine =
       let top = with_actuals actuals s in
       both code (actuals_code 0 actuals s) ((i, top) ∷ []) s top after (actuals_formed 0 actuals s agrees reserved good) (one code i top after fine)
 
   -- they are those of a call
-  called : (kind : SubprogramKind) (f : ℕ) (actuals : List ActualCode) (s : List Kind) → Agrees code env s → IsInScope code (length env) (Some f) → Granted code env (DeclarationOf.Subprogram f) → HasFormals code kind f (length actuals) → IsCalled code kind f (length actuals) (with_actuals actuals s)
+  called : (kind : SubprogramKind) (f : ℕ) (actuals : List ActualCode) (s : List Kind) → Surrounds code env s → IsInScope code (length env) (Some f) → Granted code env (DeclarationOf.Subprogram f) → HasFormals code kind f (length actuals) → IsCalled code kind f (length actuals) (with_actuals actuals s)
   called kind f actuals s agrees scope granted formals =
       (subst (λ n. IsInScope code n (Some f)) (sym (as_deep actuals s ∙ agrees.0)) scope, formals, actuals_stand actuals s, home_under code.homes actuals s (DeclarationOf.Subprogram f) (granted_home code env s (DeclarationOf.Subprogram f) agrees granted))
 
@@ -267,14 +269,14 @@ module _ (code : Code) (env : W.Frames) where
   reserved_formed zero s = none code s
   reserved_formed (suc n) s = one code (InstrOf.Reserve (suc n) (height s)) s (Some (over_numbers (suc n) s)) (λ p next. (refl, next))
 
-  pub call_formed : (f : ℕ) (actuals : List ActualCode) (s : List Kind) → Agrees code env s → IsInScope code (length env) (Some f) → Granted code env (DeclarationOf.Subprogram f) → HasFormals code Procedure f (length actuals) → GoodActuals code env actuals → Formed code (calls_code f actuals s) s (Some s)
+  pub call_formed : (f : ℕ) (actuals : List ActualCode) (s : List Kind) → Surrounds code env s → IsInScope code (length env) (Some f) → Granted code env (DeclarationOf.Subprogram f) → HasFormals code Procedure f (length actuals) → GoodActuals code env actuals → Formed code (calls_code f actuals s) s (Some s)
   call_formed f actuals s agrees scope granted formals good =
       let n = numbers_in actuals in
       let copies = copies_of actuals in
       let i = InstrOf.Call f (length actuals) copies in
       let base = over_numbers n s in
       let top = over_numbers copies base in
-      let over = agrees_over code n env s agrees in
+      let over = surrounds_over code n env s agrees in
       both code (reserved_code n s ++ taking_actuals i actuals base) (copies_code actuals s) s top (Some s)
       (both code (reserved_code n s) (taking_actuals i actuals base) s base (Some top) (reserved_formed n s)
       (taking_formed i actuals base (Some top) over (reserved_first n s) good
@@ -298,7 +300,7 @@ module _ (code : Code) (env : W.Frames) where
       })
 
   -- that of one that gives a record
-  pub record_call_formed : (f : ℕ) (actuals : List ActualCode) (t : ℕ) (s : List Kind) → Agrees code env s → IsInScope code (length env) (Some f) → Granted code env (DeclarationOf.Subprogram f) → HasFormals code Function f (length actuals) → goes_back actuals ≡ false → GoodActuals code env actuals → Formed code (record_call_code f actuals t s) s (Some (Operand (Record t) ∷ s))
+  pub record_call_formed : (f : ℕ) (actuals : List ActualCode) (t : ℕ) (s : List Kind) → Surrounds code env s → IsInScope code (length env) (Some f) → Granted code env (DeclarationOf.Subprogram f) → HasFormals code Function f (length actuals) → goes_back actuals ≡ false → GoodActuals code env actuals → Formed code (record_call_code f actuals t s) s (Some (Operand (Record t) ∷ s))
   record_call_formed f actuals t s agrees scope granted formals none_back good =
       let left = sym (actuals_left actuals s) in
       taking_formed (InstrOf.EvaluateRecord f (length actuals) t (height s)) actuals s (Some (Operand (Record t) ∷ s)) agrees (reserved_none actuals s none_back) good
@@ -345,7 +347,7 @@ module _ (code : Code) (env : W.Frames) where
     reference_good (Some o) (Access a) found runs = absurd (cc)
 
     -- what a copy of a variable begins with
-    begins_good : (begins : CopyStart) (v : Var) (t : Ty) → IsNamed env v → (read (Some (Variable v)) t).runs records ≡ true → (s : List Kind) → Agrees code env s → Formed code (begins_code begins v t s) s (Some (Operand t ∷ s))
+    begins_good : (begins : CopyStart) (v : Var) (t : Ty) → IsNamed env v → (read (Some (Variable v)) t).runs records ≡ true → (s : List Kind) → Surrounds code env s → Formed code (begins_code begins v t s) s (Some (Operand t ∷ s))
     begins_good CopyStartOf.Actual v t named runs s agrees = ((read_own code env records (Some (Variable v)) t ((λ u. (refl, tt)), λ h. named) runs).usable t (inl refl)).formed (new_operand s) s agrees refl
     begins_good CopyStartOf.Beginning v t named runs s agrees = one code (InstrOf.Set 0 t (new_operand s)) s (Some (Operand t ∷ s)) (λ p next. (begins_cell t (run_scalar t runs), puts code p (new_operand s) t s refl next))
 
@@ -360,7 +362,7 @@ module _ (code : Code) (env : W.Frames) where
         one code (InstrOf.KeepPart t position begins ty (over + 3) (height s - (over + 2)) (height s)) top (Some (Operand ty ∷ s))
         (λ p next. (scalar, (omega arith, subst (λ n. HaveOperands n top) deep have, ap (slice_get top) first ∙ h.1 0 (omega arith), ap (slice_get top) second ∙ h.1 1 (omega arith), sym (ap (λ n. height (drop n top)) (sym deep) ∙ height_below (over + 2) s have)), (s, refl, (refl, next))))
 
-    kept_good : (b : Start) (steps : List Step) (t position : ℕ) (begins : CopyStart) (ty : Ty) (over m : ℕ) (s : List Kind) → Valid.IsScalar ty → Follows b steps t → IsBegun code env b → Agrees code env s → Reserved over (2 + m) s → Formed code (kept_code b steps t position begins ty over s) s (Some (Operand ty ∷ s))
+    kept_good : (b : Start) (steps : List Step) (t position : ℕ) (begins : CopyStart) (ty : Ty) (over m : ℕ) (s : List Kind) → Valid.IsScalar ty → Follows b steps t → IsBegun code env b → Surrounds code env s → Reserved over (2 + m) s → Formed code (kept_code b steps t position begins ty over s) s (Some (Operand ty ∷ s))
     kept_good b steps t position begins ty over m s scalar followed begun agrees h =
         both code (located_code b steps t s) (keeping_code t position begins ty over s) s (Operand (Record t) ∷ s) (Some (Operand ty ∷ s))
         (located_formed code env b steps t s agrees followed begun)

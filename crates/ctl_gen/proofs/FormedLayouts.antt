@@ -16,19 +16,24 @@ use Rattle.ctl_well_typed.specs.Programs.{Added, WellTyped}
 use Rattle.ctl_meaning.specs.Lists.{keep}
 use Rattle.ctl_code.specs.declared.code.Begun.{Begun}
 use Rattle.ctl_code.specs.declared.code.Initial.{Initial}
-use Rattle.ctl_code.specs.declared.code.Initial.TheVariants.{Constant, ByType}
+use Rattle.ctl_code.specs.declared.code.Initial.TheVariants.{Constant, ByType, Computed}
 use Rattle.ctl_code.specs.declared.code.Layout.{Layout}
 use Rattle.ctl_code.specs.declared.code.Code.{Code}
 use Rattle.ctl_code.specs.declared.homes.Declaration.{Declaration}
 use Rattle.ctl_code.specs.declared.homes.Declaration.TheVariants.{Subprogram}
 use Rattle.ctl_code.specs.declared.homes.Declaration.TheVariants as DeclarationOf
 use Rattle.ctl_code.specs.Windows.{Counts, IsWithin, count_of, row_in, said}
+use Rattle.ctl_code.specs.declared.kinds.Kind.TheVariants.{Default}
 use Rattle.ctl_code.specs.Table as Table
-use Rattle.ctl_code.specs.Valid.{AreBegunBy, AreInScope, AreInitialsWithin, AreOperationsWithin, IsBegunBy, IsDeclarable, IsDeclaredIn, IsInitialWithin, IsLaid, IsStorageInScope, is_finalized}
+use Rattle.ctl_code.specs.Table.{default_of}
+use Rattle.ctl_code.proofs.Raising.{one_default}
+use Rattle.ctl_program.specs.declared.expression.Expr.{Expr}
+use Rattle.ctl_code.specs.Valid.{AreBegunBy, AreEvaluated, AreInScope, AreInitialsWithin, AreOperationsWithin, IsBegunBy, IsDeclarable, IsDeclaredIn, IsEvaluatedAt, IsInitialWithin, IsLaid, IsStorageInScope, Leads, is_finalized, kinds_at}
 use Rattle.ctl_layout.specs.Layout.{IsLaidOut, cells_by, next_position, parent_layout}
-use Rattle.ctl_layout.specs.Defaults.{begun_before, begun_from, by_type, constant_of, finalized_by, initial_by, initial_of, is_begun, is_finalized_by, type_if}
+use Rattle.ctl_layout.specs.Defaults.{begun_before, begun_from, by_type, constant_at, finalized_by, initial_by, initial_in, initial_of, is_begun, is_finalized_by, type_if}
 use Rattle.ctl_gen.proofs.FormedAround.{Granted, size_around, size_at}
 use Rattle.ctl_gen.proofs.Layouts.{IsAt, Perhaps, at, controlled_are, rise_to, roomy, told, type_of}
+use Rattle.ctl_layout.specs.Records.{run_default}
 
 -- Tables -------------------------------------------------------------------------------------------
 
@@ -59,6 +64,7 @@ module _ (code : Code) where
     where
       by : (i : Initial) → IsBegunBy code few i → IsBegunBy code many i
       by (Constant n) g = tt
+      by Computed g = tt
       by (ByType u) g = declared_later few many (slice_get code.layouts.items u) le g
 
   begun_both : (masters : ℕ) (xs ys : List Begun) → AreBegunBy code masters xs → AreBegunBy code masters ys → AreBegunBy code masters (xs ++ ys)
@@ -83,6 +89,7 @@ module _ (code : Code) where
       by : (i : Initial) → is_finalized_by code.layouts.items i ≡ is_finalized code i
       by (Constant n) = refl
       by (ByType u) = refl
+      by Computed = refl
 
 -- Masters around declarations ----------------------------------------------------------------------
 
@@ -107,7 +114,7 @@ module _ (code : Code) (k : W.Setting) (says : SaysAround code k) where
       let row : slice_get code.homes.subprograms f ≡ Some (map length is.home) = ap (λ rows. slice_get rows f) says.subprograms ∙ slice_get-map g k.subprograms f ∙ ap (option_map g) found in
       ap (λ (o : Option (List ℕ)). count_of (slice_get (row_in o) level)) row ∙ counted is.home level
 
-  said_of_record : (t : ℕ) (home : W.Frames) → slice_get k.record_homes t ≡ Some home → (level : ℕ) → said code.homes (DeclarationOf.Record t) level ≡ size_at home level
+  pub said_of_record : (t : ℕ) (home : W.Frames) → slice_get k.record_homes t ≡ Some home → (level : ℕ) → said code.homes (DeclarationOf.Record t) level ≡ size_at home level
   said_of_record t home found level =
       let g = λ (x : W.Frames). map length x in
       let row : slice_get code.homes.records t ≡ Some (map length home) = ap (λ rows. slice_get rows t) says.records ∙ slice_get-map g k.record_homes t ∙ ap (option_map g) found in
@@ -123,24 +130,65 @@ module _ (code : Code) (k : W.Setting) (says : SaysAround code k) where
   pub granted_within : (t : ℕ) (home : W.Frames) (of : Declaration) → slice_get k.record_homes t ≡ Some home → Granted code home of → IsWithin code.homes (DeclarationOf.Record t) of
   granted_within t home of found granted level = let told = said_of_record t home found level in let least = granted level in omega (arith, told, least)
 
+-- the masters around the type of a component, if that begins by its type, stand around a record type
+abbrev IsTypeWithin : Counts → ℕ → Initial → Type 0
+IsTypeWithin counts t (Constant v) = Unit {0}
+IsTypeWithin counts t (ByType u) = IsWithin counts (DeclarationOf.Record t) (DeclarationOf.Record u)
+IsTypeWithin counts t Computed = Unit {0}
+
+abbrev AreTypesWithin : Counts → ℕ → List Begun → Type 0
+AreTypesWithin counts t [] = Unit {0}
+AreTypesWithin counts t (x ∷ xs) = IsTypeWithin counts t x.initial × AreTypesWithin counts t xs
+
+-- Defaults -----------------------------------------------------------------------------------------
+
+-- a default is evaluated at a place where no more masters stand around than around a record type, which are those around the type that declares
+-- the component
+abbrev pub StandsAt : Code → ℕ → ℕ → ℕ → Initial → Type 0
+StandsAt code masters t place Computed = (level : ℕ) × (number : ℕ) × (level ≤ masters) × Leads code place (Default level number ∷ []) × IsWithin code.homes (DeclarationOf.Record t) (DeclarationOf.Record number)
+StandsAt code masters t place _ = Unit {0}
+
+abbrev pub AllStand : Code → ℕ → ℕ → List Begun → Type 0
+AllStand code masters t [] = Unit {0}
+AllStand code masters t (x ∷ xs) = StandsAt code masters t (default_of code t x.position) x.initial × AllStand code masters t xs
+
+evaluated : (code : Code) (masters t : ℕ) (xs : List Begun) → AllStand code masters t xs → AreEvaluated code masters t xs
+evaluated code masters t [] h = tt
+evaluated code masters t (x ∷ xs) h = (by x.initial h.0, evaluated code masters t xs h.1)
+  where
+    by : (i : Initial) → StandsAt code masters t (default_of code t x.position) i → IsEvaluatedAt code masters (default_of code t x.position) i
+    by (Constant v) g = tt
+    by (ByType u) g = tt
+    by Computed g = (g.0, g.1, g.2, g.3)
+
+initials_within : (code : Code) (masters t : ℕ) (xs : List Begun) → AreTypesWithin code.homes t xs → AllStand code masters t xs → AreInitialsWithin code t xs
+initials_within code masters t [] h g = tt
+initials_within code masters t (x ∷ xs) h g = (by x.initial h.0 g.0, initials_within code masters t xs h.1 g.1)
+  where
+    by : (i : Initial) → IsTypeWithin code.homes t i → StandsAt code masters t (default_of code t x.position) i → IsInitialWithin code t (default_of code t x.position) i
+    by (Constant v) a b = tt
+    by (ByType u) a b = a
+    by Computed a b = λ level number there. subst (λ n. IsWithin code.homes (DeclarationOf.Record t) (DeclarationOf.Record n)) (one_default (kinds_at code (default_of code t x.position)) b.0 b.1 level number b.3 there) b.4
+
 module _ (counts : Counts) where
-  within_later : (p t : ℕ) (xs : List Begun) → IsWithin counts (DeclarationOf.Record t) (DeclarationOf.Record p) → AreInitialsWithin counts p xs → AreInitialsWithin counts t xs
+  within_later : (p t : ℕ) (xs : List Begun) → IsWithin counts (DeclarationOf.Record t) (DeclarationOf.Record p) → AreTypesWithin counts p xs → AreTypesWithin counts t xs
   within_later p t [] inner h = tt
   within_later p t (x ∷ xs) inner h = (by x.initial h.0, within_later p t xs inner h.1)
     where
-      by : (i : Initial) → IsInitialWithin counts p i → IsInitialWithin counts t i
+      by : (i : Initial) → IsTypeWithin counts p i → IsTypeWithin counts t i
       by (Constant n) g = tt
+      by Computed g = tt
       by (ByType u) g = λ level. let first = g level in let second = inner level in omega (arith, first, second)
 
-  within_both : (t : ℕ) (xs ys : List Begun) → AreInitialsWithin counts t xs → AreInitialsWithin counts t ys → AreInitialsWithin counts t (xs ++ ys)
+  within_both : (t : ℕ) (xs ys : List Begun) → AreTypesWithin counts t xs → AreTypesWithin counts t ys → AreTypesWithin counts t (xs ++ ys)
   within_both t [] ys h g = g
   within_both t (x ∷ xs) ys h g = (h.0, within_both t xs ys h.1 g)
 
-  within_first : (t p n : ℕ) (o : Option Initial) (xs : List Begun) → Perhaps (IsInitialWithin counts t) o → AreInitialsWithin counts t xs → AreInitialsWithin counts t (begun_before p n o xs)
+  within_first : (t p n : ℕ) (o : Option Initial) (xs : List Begun) → Perhaps (IsTypeWithin counts t) o → AreTypesWithin counts t xs → AreTypesWithin counts t (begun_before p n o xs)
   within_first t p n None xs h g = g
   within_first t p n (Some i) xs h g = (h, g)
 
-  type_within : (t u : ℕ) (b : Bool) → IsWithin counts (DeclarationOf.Record t) (DeclarationOf.Record u) → Perhaps (IsInitialWithin counts t) (type_if u b)
+  type_within : (t u : ℕ) (b : Bool) → IsWithin counts (DeclarationOf.Record t) (DeclarationOf.Record u) → Perhaps (IsTypeWithin counts t) (type_if u b)
   type_within t u true h = h
   type_within t u false h = tt
 
@@ -180,11 +228,15 @@ module _ (program : Checked) (typed : WellTyped program) (code : Code) (laid : I
   by_type_begun home layouts (Access a) view = tt
 
   initial_begun : (home : W.Frames) (layouts : List Layout) (c : Component) → W.InView typed.k home c.ty → Perhaps (IsBegunBy code (length home)) (initial_of layouts c)
-  initial_begun home layouts c view = by (constant_of c)
+  initial_begun home layouts c view = by (run_default c)
     where
-      by : (o : Option ℕ) → Perhaps (IsBegunBy code (length home)) (initial_by o (by_type layouts c.ty))
+      given : (o : Option ℕ) → IsBegunBy code (length home) (initial_in o)
+      given None = tt
+      given (Some n) = tt
+
+      by : (o : Option Expr) → Perhaps (IsBegunBy code (length home)) (initial_by o (by_type layouts c.ty))
       by None = by_type_begun home layouts c.ty view
-      by (Some n) = tt
+      by (Some e) = given (constant_at e)
 
   own_begun : {home : W.Frames} {t : ℕ} {cs : List Component} (layouts : List Layout) (size : Ty → ℕ) (p n : ℕ) → Added typed.k home t cs → AreBegunBy code (length home) (begun_from layouts size p n cs)
   own_begun layouts size p n P.no_more_components = tt
@@ -218,7 +270,7 @@ module _ (program : Checked) (typed : WellTyped program) (code : Code) (laid : I
   begun_within (suc n) t lt = begun_by t (λ u less. begun_within n u (omega (arith, less, lt)))
 
   -- the masters around the types of its components stand around a type
-  by_type_within : (t : ℕ) (home : W.Frames) (layouts : List Layout) (ty : Ty) → slice_get typed.k.record_homes t ≡ Some home → W.InView typed.k home ty → Perhaps (IsInitialWithin code.homes t) (by_type layouts ty)
+  by_type_within : (t : ℕ) (home : W.Frames) (layouts : List Layout) (ty : Ty) → slice_get typed.k.record_homes t ≡ Some home → W.InView typed.k home ty → Perhaps (IsTypeWithin code.homes t) (by_type layouts ty)
   by_type_within t home layouts (Record u) at_home view = type_within code.homes t u (is_begun (slice_get layouts u)) (granted_within code typed.k says t home (DeclarationOf.Record u) at_home (record_granted code typed.k says home u view))
   by_type_within t home layouts Integer at_home view = tt
   by_type_within t home layouts Count at_home view = tt
@@ -227,27 +279,31 @@ module _ (program : Checked) (typed : WellTyped program) (code : Code) (laid : I
   by_type_within t home layouts Handle at_home view = tt
   by_type_within t home layouts (Access a) at_home view = tt
 
-  initial_within : (t : ℕ) (home : W.Frames) (layouts : List Layout) (c : Component) → slice_get typed.k.record_homes t ≡ Some home → W.InView typed.k home c.ty → Perhaps (IsInitialWithin code.homes t) (initial_of layouts c)
-  initial_within t home layouts c at_home view = by (constant_of c)
+  initial_within : (t : ℕ) (home : W.Frames) (layouts : List Layout) (c : Component) → slice_get typed.k.record_homes t ≡ Some home → W.InView typed.k home c.ty → Perhaps (IsTypeWithin code.homes t) (initial_of layouts c)
+  initial_within t home layouts c at_home view = by (run_default c)
     where
-      by : (o : Option ℕ) → Perhaps (IsInitialWithin code.homes t) (initial_by o (by_type layouts c.ty))
-      by None = by_type_within t home layouts c.ty at_home view
-      by (Some n) = tt
+      given : (o : Option ℕ) → IsTypeWithin code.homes t (initial_in o)
+      given None = tt
+      given (Some n) = tt
 
-  own_within : {home : W.Frames} {t : ℕ} {cs : List Component} (layouts : List Layout) (size : Ty → ℕ) (p n : ℕ) → slice_get typed.k.record_homes t ≡ Some home → Added typed.k home t cs → AreInitialsWithin code.homes t (begun_from layouts size p n cs)
+      by : (o : Option Expr) → Perhaps (IsTypeWithin code.homes t) (initial_by o (by_type layouts c.ty))
+      by None = by_type_within t home layouts c.ty at_home view
+      by (Some e) = given (constant_at e)
+
+  own_within : {home : W.Frames} {t : ℕ} {cs : List Component} (layouts : List Layout) (size : Ty → ℕ) (p n : ℕ) → slice_get typed.k.record_homes t ≡ Some home → Added typed.k home t cs → AreTypesWithin code.homes t (begun_from layouts size p n cs)
   own_within layouts size p n at_home P.no_more_components = tt
   own_within {home} {t} layouts size p n at_home (P.one_more_component {c = c} view before perhaps rest) = within_first code.homes t p n (initial_of layouts c) _ (initial_within t home layouts c at_home view) (own_within layouts size (p + 1) (n + size c.ty) at_home rest)
 
   -- and so do those around the components that it inherits
   abbrev WithinAt : ℕ → Type 0
-  WithinAt t = (r : RecordType) (home : W.Frames) → slice_get program.records t ≡ Some r → slice_get typed.k.record_homes t ≡ Some home → AreInitialsWithin code.homes t (Table.begun_in (slice_get code.layouts.items t))
+  WithinAt t = (r : RecordType) (home : W.Frames) → slice_get program.records t ≡ Some r → slice_get typed.k.record_homes t ≡ Some home → AreTypesWithin code.homes t (Table.begun_in (slice_get code.layouts.items t))
 
-  parent_within : {home : W.Frames} {t : ℕ} {root : Root} {o : Option ℕ} (z : List Layout) → slice_get typed.k.record_homes t ≡ Some home → ((p : ℕ) → p < t → slice_get code.layouts.items p ≡ slice_get z p) → ((u : ℕ) → u < t → WithinAt u) → P.Parent typed.k home t root o → AreInitialsWithin code.homes t (Table.begun_in (parent_layout z o))
+  parent_within : {home : W.Frames} {t : ℕ} {root : Root} {o : Option ℕ} (z : List Layout) → slice_get typed.k.record_homes t ≡ Some home → ((p : ℕ) → p < t → slice_get code.layouts.items p ≡ slice_get z p) → ((u : ℕ) → u < t → WithinAt u) → P.Parent typed.k home t root o → AreTypesWithin code.homes t (Table.begun_in (parent_layout z o))
   parent_within z at_home same before P.none = tt
   parent_within {home} {t} z at_home same before (P.extends {p = p} less has root) =
       let there : slice_get program.records p ≡ Some has.is = sym (ap (λ rs. slice_get rs p) typed.fits.records) ∙ has.found in
       within_later code.homes p t (Table.begun_in (slice_get z p)) (granted_within code typed.k says t home (DeclarationOf.Record p) at_home (record_granted code typed.k says home p has))
-      (subst (λ o. AreInitialsWithin code.homes p (Table.begun_in o)) (same p less) (before p less has.is has.home there has.at_home))
+      (subst (λ o. AreTypesWithin code.homes p (Table.begun_in o)) (same p less) (before p less has.is has.home there has.at_home))
 
   within_by : (t : ℕ) → ((u : ℕ) → u < t → WithinAt u) → WithinAt t
   within_by t before r home e at_home =
@@ -255,8 +311,8 @@ module _ (program : Checked) (typed : WellTyped program) (code : Code) (laid : I
       let z = layout_at t r e in
       let o = parent_layout z.before r.parent in
       let size = cells_by z.before in
-      subst (λ y. AreInitialsWithin code.homes t (Table.begun_in y)) (sym z.there)
-      (subst (AreInitialsWithin code.homes t) (sym z.is.begun)
+      subst (λ y. AreTypesWithin code.homes t (Table.begun_in y)) (sym z.there)
+      (subst (AreTypesWithin code.homes t) (sym z.is.begun)
       (within_both code.homes t (Table.begun_in o) (begun_from z.before size (next_position o) (Table.size_in o) r.own)
       (parent_within z.before at_home z.same before fine.parent)
       (own_within z.before size (next_position o) (Table.size_in o) at_home fine.own)))
@@ -269,8 +325,8 @@ module _ (program : Checked) (typed : WellTyped program) (code : Code) (laid : I
   abbrev pub EachAtHome : (ℕ → ℕ → Type 0) → Type 0
   EachAtHome P = (t : ℕ) (r : RecordType) (home : W.Frames) → slice_get program.records t ≡ Some r → slice_get typed.k.record_homes t ≡ Some home → P (length home) t
 
-  pub layouts_laid : EachAtHome (AreInScope code) → EachAtHome (IsStorageInScope code) → EachAtHome (λ n t. AreOperationsWithin code t) → (t : ℕ) (x : Layout) → slice_get code.layouts.items t ≡ Some x → IsLaid code t x
-  layouts_laid in_scope storage within t x there =
+  pub layouts_laid : EachAtHome (AreInScope code) → EachAtHome (IsStorageInScope code) → EachAtHome (λ n t. AreOperationsWithin code t) → ((t : ℕ) (x : Layout) → slice_get code.layouts.items t ≡ Some x → AllStand code x.level t x.begun.items) → (t : ℕ) (x : Layout) → slice_get code.layouts.items t ≡ Some x → IsLaid code t x
+  layouts_laid in_scope storage within stand t x there =
       let r = type_of program.records code.layouts.items laid.layouts t x there in
       let home = home_of program typed t r.0 r.1 in
       let z = layout_at t r.0 r.1 in
@@ -281,7 +337,8 @@ module _ (program : Checked) (typed : WellTyped program) (code : Code) (laid : I
         storage = subst (λ n. IsStorageInScope code n t) level (storage t r.0 home.0 r.1 home.1);
         types = subst (λ n. AreBegunBy code n x.begun.items) level (subst (λ o. AreBegunBy code (length home.0) (Table.begun_in o)) there (begun_within (suc t) t (omega arith) r.0 home.0 r.1 home.1));
         operations_within = within t r.0 home.0 r.1 home.1;
-        types_within = subst (λ o. AreInitialsWithin code.homes t (Table.begun_in o)) there (all_within (suc t) t (omega arith) r.0 home.0 r.1 home.1);
+        types_within = initials_within code x.level t x.begun.items (subst (λ o. AreTypesWithin code.homes t (Table.begun_in o)) there (all_within (suc t) t (omega arith) r.0 home.0 r.1 home.1)) (stand t x there);
+        defaults = evaluated code x.level t x.begun.items (stand t x there);
         units = (roomy program.records code.layouts.items laid.layouts t x there).units;
         rise = rise_to (length x.offsets.items) 0 x.begun.items (told program.records code.layouts.items laid.layouts t x there).rise;
         controlled = controlled_are program.records code.layouts.items laid.layouts t x there ∙ finalized_same code x.begun.items;

@@ -29,7 +29,7 @@ use Rattle.ctl_code.specs.declared.code.Instr.TheVariants as InstrOf
 use Rattle.ctl_code.specs.declared.code.Way.TheVariants as WayOf
 use Rattle.ctl_code.specs.declared.code.Code.{Code}
 use Rattle.ctl_code.specs.declared.homes.Declaration.TheVariants as DeclarationOf
-use Rattle.ctl_code.specs.Windows.{HasSlot}
+use Rattle.ctl_code.specs.Windows.{OwnsSlot}
 use Rattle.ctl_meaning.specs.Outcome.{program_error}
 use Rattle.ctl_code.specs.Valid.{IsAtEnd, IsDeclarable, IsException, IsScalar}
 use Rattle.ctl_layout.specs.Around.{Site, among, behind, local_at, out_to}
@@ -43,7 +43,7 @@ use Rattle.ctl_layout.proofs.Extensions.{both_true}
 use Rattle.ctl_layout.proofs.TreeLayers.{arm_roll, layer_of, master_roll, handler_roll}
 use Rattle.ctl_gen.proofs.Place.{HasAt}
 use Rattle.ctl_gen.proofs.Formed.{both, both_at, Formed, FormedAt, none, one}
-use Rattle.ctl_gen.proofs.FormedAround.{Agrees, Granted, IsHoused, MayHold, agrees_inside, granted_home, leave_behind, leaves_formed, newest_slot, newest_there}
+use Rattle.ctl_gen.proofs.FormedAround.{Agrees, Granted, Surrounds, IsHoused, MayHold, agrees_inside, granted_home, leave_behind, leaves_formed, newest_slot, newest_there}
 use Rattle.ctl_gen.proofs.FormedArms.{GoodArms, branches_stay}
 use Rattle.ctl_gen.proofs.FormedHandlers.{AreChoices, AreExceptions, GoodHandlers, StaysAtEnd, handled_stays}
 use Rattle.ctl_gen.proofs.FormedCalls.{MayCall, MayNew, call_formed, named_level}
@@ -71,12 +71,12 @@ MaySee code k = (env : W.Frames) (a : ℕ) → (to : W.HasAccess k env a) → (s
 module _ (code : Code) (records : List RecordType) (k : W.Setting) (declarable : (env : W.Frames) (t : ℕ) → W.HasRecord k env t → IsDeclarable code (length env) t × Granted code env (DeclarationOf.Record t)) (may_call : MayCall code k) (may_new : MayNew code k) (seen : MaySee code k) (raisable : (x : ℕ) → x < k.exceptions → x < length code.exceptions.items) (fails : IsException code program_error) where
   -- Items ------------------------------------------------------------------------------------------
 
-  may_hold : (env : W.Frames) (t : ℕ) (s : List Kind) → Agrees code env s → W.HasRecord k env t → MayHold code s t
+  may_hold : (env : W.Frames) (t : ℕ) (s : List Kind) → Surrounds code env s → W.HasRecord k env t → MayHold code s t
   may_hold env t s agrees view =
       let may = declarable env t view in
       (subst (λ n. IsDeclarable code n t) (sym agrees.0) may.0, granted_home code env s (DeclarationOf.Record t) agrees may.1)
 
-  may_declare : (env : W.Frames) (ty : Ty) (s : List Kind) → Agrees code env s → W.InView k env ty → MayDeclare code s ty
+  may_declare : (env : W.Frames) (ty : Ty) (s : List Kind) → Surrounds code env s → W.InView k env ty → MayDeclare code s ty
   may_declare env (Record t) s agrees view = may_hold env t s agrees view
   may_declare env Integer s agrees view = tt
   may_declare env Count s agrees view = tt
@@ -89,16 +89,16 @@ module _ (code : Code) (records : List RecordType) (k : W.Setting) (declarable :
   GoodItem env x = x.runs records ≡ true → (s : List Kind) → Agrees code env s → Formed code (x.code s) s (Some s)
 
   -- the slot that a declaration fills is there
-  filled : (env : W.Frames) (slot : ℕ) (h : W.Holding) (s : List Kind) → Fills env slot h → Agrees code env s → HasSlot code.homes s 0 slot
+  filled : (env : W.Frames) (slot : ℕ) (h : W.Holding) (s : List Kind) → Fills env slot h → Agrees code env s → OwnsSlot s slot
   filled env slot h s (D.fills names) agrees = newest_slot code env s (record { level = length env; slot = slot }) h agrees names refl
 
-  valued_good : (env : W.Frames) (slot : ℕ) (ty : Ty) (x : ValueCode) (s : List Kind) → Agrees code env s → HasSlot code.homes s 0 slot → (x.runs records ≡ true → Fine code env x ty) → (valued slot ty x).runs records ≡ true → Formed code ((valued slot ty x).code s) s (Some s)
+  valued_good : (env : W.Frames) (slot : ℕ) (ty : Ty) (x : ValueCode) (s : List Kind) → Surrounds code env s → OwnsSlot s slot → (x.runs records ≡ true → Fine code env x ty) → (valued slot ty x).runs records ≡ true → Formed code ((valued slot ty x).code s) s (Some s)
   valued_good env slot ty x s agrees there fine runs =
       let g = both_true (is_run_type ty) (x.runs records) runs in
       valued_formed code env slot ty x s agrees there (usable_as code env x ty (run_scalar ty g.0) (fine g.1))
 
   -- a declaration with a value
-  given_good : (env : W.Frames) (slot : ℕ) (ty : Ty) (e : Expr) {s : List Kind} → W.InView k env ty → HasSlot code.homes s 0 slot → ((t : ℕ) → IsFoundAt code env records t (copied t (value_code e))) → ((value_code e).runs records ≡ true → Fine code env (value_code e) ty) → (with_value slot ty (value_code e)).runs records ≡ true → Agrees code env s → Formed code ((with_value slot ty (value_code e)).code s) s (Some s)
+  given_good : (env : W.Frames) (slot : ℕ) (ty : Ty) (e : Expr) {s : List Kind} → W.InView k env ty → OwnsSlot s slot → ((t : ℕ) → IsFoundAt code env records t (copied t (value_code e))) → ((value_code e).runs records ≡ true → Fine code env (value_code e) ty) → (with_value slot ty (value_code e)).runs records ≡ true → Surrounds code env s → Formed code ((with_value slot ty (value_code e)).code s) s (Some s)
   given_good env slot (Record t) e {s} view there found fine runs agrees = copy_formed code env records slot t (copied t (value_code e)) s agrees there (found t) runs (may_hold env t s agrees view)
   given_good env slot Integer e {s} view there found fine runs agrees = valued_good env slot Integer (value_code e) s agrees there fine runs
   given_good env slot Count e {s} view there found fine runs agrees = valued_good env slot Count (value_code e) s agrees there fine runs
@@ -109,8 +109,8 @@ module _ (code : Code) (records : List RecordType) (k : W.Setting) (declarable :
 
   object_good : (env : W.Frames) (slot : ℕ) (ty : Ty) (o : Option Expr) → Fills env slot (W.Declared ty) → W.InView k env ty → Perhaps k env o ty → GoodItem env (item_code (Object slot ty o))
   object_good env slot ty None fresh view T.left_out runs s agrees =
-      declaration_formed code records slot ty s runs (filled env slot (W.Declared ty) s fresh agrees) (may_declare env ty s agrees view)
-  object_good env slot ty (Some e) fresh view (T.given h) runs s agrees = given_good env slot ty e view (filled env slot (W.Declared ty) s fresh agrees) (λ t. copied_found code records k may_call may_new t h) (typed_fine code records k may_call may_new h) runs agrees
+      declaration_formed code records slot ty s runs (filled env slot (W.Declared ty) s fresh agrees) (may_declare env ty s agrees.0 view)
+  object_good env slot ty (Some e) fresh view (T.given h) runs s agrees = given_good env slot ty e view (filled env slot (W.Declared ty) s fresh agrees) (λ t. copied_found code records k may_call may_new t h) (typed_fine code records k may_call may_new h) runs agrees.0
 
   -- each collection is made in the master of its access type
   gathers_good : {env : W.Frames} {as' : List ℕ} → D.Gathers k env as' → (count : ℕ) (s : List Kind) → Agrees code env s → Formed code (gathers_code as' count s) s (Some s)
@@ -119,7 +119,7 @@ module _ (code : Code) (records : List RecordType) (k : W.Setting) (declarable :
       let least = named_level names in
       let gather = InstrOf.Gather a (Layout.layer_of more (count + 1)) in
       both code ((gather, s) ∷ []) (gathers_code more (count + 1) s) s s (Some s)
-      (one code gather s (Some s) (λ p next. ((Layout.home_of of.is, (seen env a of).0, level ∙ sym agrees.0, newest_slot code env s of.is.collection (W.Collection a) agrees names level), (let deep = agrees.0 in omega (arith, least, level, deep)), next)))
+      (one code gather s (Some s) (λ p next. ((Layout.home_of of.is, (seen env a of).0, level ∙ sym agrees.0.0, newest_slot code env s of.is.collection (W.Collection a) agrees names level), (let deep = agrees.0.0 in omega (arith, least, level, deep)), next)))
       (gathers_good rest (count + 1) s agrees)
 
   collections_good : {env : W.Frames} (as' : List ℕ) → D.Gathers k env as' → GoodItem env (item_code (Collections as'))
@@ -133,10 +133,10 @@ module _ (code : Code) (records : List RecordType) (k : W.Setting) (declarable :
       let both_run = (both_true (is_pool records t) ((value_code x).runs records && (value_code y).runs records) runs).1 in
       let each_runs = both_true ((value_code x).runs records) ((value_code y).runs records) both_run in
       let usable = λ (e : Expr) (fine : Fine code env (value_code e) Count). usable_as code env (value_code e) Count tt fine in
-      pool_formed code env slot t order (value_code x) (value_code y) s agrees (filled env slot (W.Declared (Record t)) s fresh agrees)
+      pool_formed code env slot t order (value_code x) (value_code y) s agrees.0 (filled env slot (W.Declared (Record t)) s fresh agrees)
       (usable x (typed_fine code records k may_call may_new h each_runs.0))
       (usable y (typed_fine code records k may_call may_new g each_runs.1))
-      (may_hold env t s agrees view)
+      (may_hold env t s agrees.0 view)
 
   -- which are both of them, in one order or the other
   pool_good : {env : W.Frames} {r : Root} {ds : List Association} (slot t : ℕ) → Fills env slot (W.Declared (Record t)) → W.InView k env (Record t) → D.Given k env r ds → GoodItem env (item_code (Pool slot t ds))
@@ -176,12 +176,12 @@ module _ (code : Code) (records : List RecordType) (k : W.Setting) (declarable :
   assign_good env None x t found fine runs a n p agrees texts can = absurd (cc)
   assign_good env (Some (Object b steps)) x t found fine runs a n p agrees texts can =
       let e = both_true (part_runs (Object b steps) records) (x.runs records) runs in
-      assign_part_formed code env b steps any_type first_position x a.stack agrees (found.0 any_type) (found.1 (both_true _ _ e.0).0) (value_usable code env x t (fine e.1)) p
+      assign_part_formed code env b steps any_type first_position x a.stack agrees.0 (found.0 any_type) (found.1 (both_true _ _ e.0).0) (value_usable code env x t (fine e.1)) p
   assign_good env (Some (Part b steps u position)) x t found fine runs a n p agrees texts can =
       let e = both_true (parts_run records b steps u) (x.runs records) runs in
-      assign_part_formed code env b steps u position x a.stack agrees (found.0 u) (found.1 (both_true _ _ e.0).0) (value_usable code env x t (fine e.1)) p
+      assign_part_formed code env b steps u position x a.stack agrees.0 (found.0 u) (found.1 (both_true _ _ e.0).0) (value_usable code env x t (fine e.1)) p
   assign_good env (Some (Result b)) x t found fine runs a n p agrees texts can = absurd (cc)
-  assign_good env (Some (Variable v)) x t found fine runs a n p agrees texts can = assign_formed code env (local_at a.stack v) v x a.stack agrees (found.1 refl) refl (value_usable code env x t (fine runs)) p
+  assign_good env (Some (Variable v)) x t found fine runs a n p agrees texts can = assign_formed code env (local_at a.stack v) v x a.stack agrees.0 (found.1 refl) refl (value_usable code env x t (fine runs)) p
 
   record_good : (env : W.Frames) (o : Option Reached) (t : ℕ) (q : Option Reached) → W.HasRecord k env t → IsFound code env records o → IsFoundAt code env records t q → GoodStatement env (assign_record o t q)
   record_good env None t q view to from runs a n p agrees texts can = absurd (cc)
@@ -189,18 +189,18 @@ module _ (code : Code) (records : List RecordType) (k : W.Setting) (declarable :
   record_good env (Some target) t (Some source) view to from runs a n p agrees texts can =
       let e = both_true (part_runs target records) (part_runs source records && is_assignable (site env) t) runs in
       let f = both_true (part_runs source records) (is_assignable (site env) t) e.1 in
-      record_formed code env records target source t a.stack agrees to from (part_begun records target e.0) (part_begun records source f.0) (may_hold env t a.stack agrees view) p
+      record_formed code env records target source t a.stack agrees.0 to from (part_begun records target e.0) (part_begun records source f.0) (may_hold env t a.stack agrees.0 view) p
 
   free_good : (env : W.Frames) (access : ℕ) (o : Option Reached) → IsFound code env records o → IsHoused code env access → GoodStatement env (free access o)
   free_good env access None found housed runs a n p agrees texts can = absurd (cc)
   free_good env access (Some (Object b steps)) found housed runs a n p agrees texts can =
-      free_part_formed code env access b steps any_type first_position a.stack agrees fails (found.0 any_type) (found.1 (both_true _ _ runs).0) (housed a.stack agrees) p
+      free_part_formed code env access b steps any_type first_position a.stack agrees.0 fails (found.0 any_type) (found.1 (both_true _ _ runs).0) (housed a.stack agrees.0) p
   free_good env access (Some (Part b steps t position)) found housed runs a n p agrees texts can =
-      free_part_formed code env access b steps t position a.stack agrees fails (found.0 t) (found.1 (both_true _ _ runs).0) (housed a.stack agrees) p
+      free_part_formed code env access b steps t position a.stack agrees.0 fails (found.0 t) (found.1 (both_true _ _ runs).0) (housed a.stack agrees.0) p
   free_good env access (Some (Result b)) found housed runs a n p agrees texts can = absurd (cc)
   free_good env access (Some (Variable v)) found housed runs a n p agrees texts can =
       let named = found.1 refl in
-      free_formed code access (out_to a.stack v) v.slot a.stack fails (housed a.stack agrees) (agrees.1 v named.0 named.1) p
+      free_formed code access (out_to a.stack v) v.slot a.stack fails (housed a.stack agrees.0) (agrees.0.1 v named.0 named.1) p
 
   nothing_good : (env : W.Frames) (o : Option Reached) → IsFound code env records o → GoodStatement env (call_nothing o)
   nothing_good env None found runs a n p agrees texts can = absurd (cc)
@@ -222,18 +222,18 @@ module _ (code : Code) (records : List RecordType) (k : W.Setting) (declarable :
       let d = both_true (parts_run records b steps t) ((value_code size).runs records && ((value_code alignment).runs records && true)) runs in
       let e = both_true ((value_code size).runs records) ((value_code alignment).runs records && true) d.1 in
       let f = both_true ((value_code alignment).runs records) true e.1 in
-      allocate_into_formed code env p b steps t position (value_code size) (value_code alignment) a.stack agrees (pool.1 refl) (target.0 t) (target.1 (both_true _ _ d.0).0) (usable_typed env size Count h tt e.0) (usable_typed env alignment Count g tt f.0) q
+      allocate_into_formed code env p b steps t position (value_code size) (value_code alignment) a.stack agrees.0 (pool.1 refl) (target.0 t) (target.1 (both_true _ _ d.0).0) (usable_typed env size Count h tt e.0) (usable_typed env alignment Count g tt f.0) q
   allocate_good env (Some (Variable p)) (Some (Object b steps)) size alignment pool target h g runs a n q agrees texts can =
       let d = both_true (part_runs (Object b steps) records) ((value_code size).runs records && ((value_code alignment).runs records && true)) runs in
       let e = both_true ((value_code size).runs records) ((value_code alignment).runs records && true) d.1 in
       let f = both_true ((value_code alignment).runs records) true e.1 in
-      allocate_into_formed code env p b steps any_type first_position (value_code size) (value_code alignment) a.stack agrees (pool.1 refl) (target.0 any_type) (target.1 (both_true _ _ d.0).0) (usable_typed env size Count h tt e.0) (usable_typed env alignment Count g tt f.0) q
+      allocate_into_formed code env p b steps any_type first_position (value_code size) (value_code alignment) a.stack agrees.0 (pool.1 refl) (target.0 any_type) (target.1 (both_true _ _ d.0).0) (usable_typed env size Count h tt e.0) (usable_typed env alignment Count g tt f.0) q
   allocate_good env (Some (Variable p)) (Some (Result b)) size alignment pool target h g runs a n q agrees texts can = absurd (cc)
   allocate_good env (Some (Variable p)) (Some (Variable v)) size alignment pool target h g runs a n q agrees texts can =
       let e = both_true ((value_code size).runs records) ((value_code alignment).runs records && true) runs in
       let f = both_true ((value_code alignment).runs records) true e.1 in
       let takes = target.1 refl in
-      allocate_formed code env p (out_to a.stack v) v.slot (value_code size) (value_code alignment) a.stack agrees (pool.1 refl) (agrees.1 v takes.0 takes.1) (usable_typed env size Count h tt e.0) (usable_typed env alignment Count g tt f.0) q
+      allocate_formed code env p (out_to a.stack v) v.slot (value_code size) (value_code alignment) a.stack agrees.0 (pool.1 refl) (agrees.0.1 v takes.0 takes.1) (usable_typed env size Count h tt e.0) (usable_typed env alignment Count g tt f.0) q
 
   deallocate_good : (env : W.Frames) (p : Option Reached) (address size alignment : Expr) → IsFound code env records p → T.Typed k env address Address → T.Typed k env size Count → T.Typed k env alignment Count → GoodStatement env (library_deallocate p (value_code address) (value_code size) (value_code alignment))
   deallocate_good env None address size alignment pool h g m runs a n q agrees texts can = absurd (cc)
@@ -244,18 +244,18 @@ module _ (code : Code) (records : List RecordType) (k : W.Setting) (declarable :
       let e = both_true ((value_code address).runs records) ((value_code size).runs records && ((value_code alignment).runs records && true)) runs in
       let f = both_true ((value_code size).runs records) ((value_code alignment).runs records && true) e.1 in
       let last = both_true ((value_code alignment).runs records) true f.1 in
-      deallocate_formed code env p (value_code address) (value_code size) (value_code alignment) a.stack agrees (pool.1 refl) (usable_typed env address Address h tt e.0) (usable_typed env size Count g tt f.0) (usable_typed env alignment Count m tt last.0) q
+      deallocate_formed code env p (value_code address) (value_code size) (value_code alignment) a.stack agrees.0 (pool.1 refl) (usable_typed env address Address h tt e.0) (usable_typed env size Count g tt f.0) (usable_typed env alignment Count m tt last.0) q
 
   call_good : {env : W.Frames} {f : ℕ} {is : W.Signature} {actuals : List Actual} → W.Callable k env f is → is.result ≡ None → T.FitEach k env is.formals actuals → GoodStatement env (call f (map actual_code actuals))
   call_good {env} {f} {is} {actuals} can_call gives fits = λ runs a n p agrees texts can.
-      call_formed code env f (map actual_code actuals) a.stack agrees (may_call env f is can_call).0 (may_call env f is can_call).2 (has_formals code k may_call can_call gives fits) (actuals_good code records k may_call may_new fits runs) p
+      call_formed code env f (map actual_code actuals) a.stack agrees.0 (may_call env f is can_call).0 (may_call env f is can_call).2 (has_formals code k may_call can_call gives fits) (actuals_good code records k may_call may_new fits runs) p
 
   leaving_good : {env : W.Frames} (o : Option Expr) → Perhaps k env o Boolean → GoodStatement env (exit (option_map value_code o))
   leaving_good {env} None T.left_out runs = leaves_stay code env
   leaving_good {env} (Some e) (T.given h) runs = leaves_when_stay code env (value_code e) (usable_as code env (value_code e) Boolean tt (typed_fine code records k may_call may_new h runs))
 
   -- a return statement with a value of a scalar type
-  scalar_returned : (env : W.Frames) (x : ValueCode) (t ty : Ty) → value_type x ≡ ty → (x.runs records ≡ true → Fine code env x t) → (is_run_type ty && x.runs records) ≡ true → (s : List Kind) → Agrees code env s → Formed code (return_held ty (held x ty s)) s (Some s)
+  scalar_returned : (env : W.Frames) (x : ValueCode) (t ty : Ty) → value_type x ≡ ty → (x.runs records ≡ true → Fine code env x t) → (is_run_type ty && x.runs records) ≡ true → (s : List Kind) → Surrounds code env s → Formed code (return_held ty (held x ty s)) s (Some s)
   scalar_returned env x t ty same fine runs s agrees =
       let g = both_true (is_run_type ty) (x.runs records) runs in
       subst (λ u. Formed code (return_held u (held x u s)) s (Some s)) same (returned_formed code env x s agrees (value_usable code env x t (fine g.1)))
@@ -263,16 +263,16 @@ module _ (code : Code) (records : List RecordType) (k : W.Setting) (declarable :
   -- or of a record type
   returns_record : (env : W.Frames) (u : ℕ) (o : Option Reached) → IsFoundAt code env records u o → GoodStatement env (return_record u o)
   returns_record env u None found runs a n p agrees texts can = absurd (cc)
-  returns_record env u (Some o) found runs a n p agrees texts can = record_returned code env records u o a.stack agrees found (both_true (is_plain records u) (part_runs o records) runs).1 p
+  returns_record env u (Some o) found runs a n p agrees texts can = record_returned code env records u o a.stack agrees.0 found (both_true (is_plain records u) (part_runs o records) runs).1 p
 
   returned_good : (env : W.Frames) (x : ValueCode) (t ty : Ty) → value_type x ≡ ty → ((u : ℕ) → IsFoundAt code env records u (copied u x)) → (x.runs records ≡ true → Fine code env x t) → GoodStatement env (return_of ty x)
   returned_good env x t (Record u) same found fine = returns_record env u (copied u x) (found u)
-  returned_good env x t Integer same found fine = λ runs a n p agrees texts can. scalar_returned env x t Integer same fine runs a.stack agrees p
-  returned_good env x t Count same found fine = λ runs a n p agrees texts can. scalar_returned env x t Count same fine runs a.stack agrees p
-  returned_good env x t Boolean same found fine = λ runs a n p agrees texts can. scalar_returned env x t Boolean same fine runs a.stack agrees p
-  returned_good env x t Address same found fine = λ runs a n p agrees texts can. scalar_returned env x t Address same fine runs a.stack agrees p
-  returned_good env x t Handle same found fine = λ runs a n p agrees texts can. scalar_returned env x t Handle same fine runs a.stack agrees p
-  returned_good env x t (Access c) same found fine = λ runs a n p agrees texts can. scalar_returned env x t (Access c) same fine runs a.stack agrees p
+  returned_good env x t Integer same found fine = λ runs a n p agrees texts can. scalar_returned env x t Integer same fine runs a.stack agrees.0 p
+  returned_good env x t Count same found fine = λ runs a n p agrees texts can. scalar_returned env x t Count same fine runs a.stack agrees.0 p
+  returned_good env x t Boolean same found fine = λ runs a n p agrees texts can. scalar_returned env x t Boolean same fine runs a.stack agrees.0 p
+  returned_good env x t Address same found fine = λ runs a n p agrees texts can. scalar_returned env x t Address same fine runs a.stack agrees.0 p
+  returned_good env x t Handle same found fine = λ runs a n p agrees texts can. scalar_returned env x t Handle same fine runs a.stack agrees.0 p
+  returned_good env x t (Access c) same found fine = λ runs a n p agrees texts can. scalar_returned env x t (Access c) same fine runs a.stack agrees.0 p
 
   returning_good : {env : W.Frames} {gives : Option Ty} (o : Option Expr) → Returns k env gives o → GoodStatement env (return (option_map value_code o))
   returning_good None D.nothing = λ runs a n p agrees texts can. one code (InstrOf.Transfer WayOf.Return) a.stack (Some a.stack) (λ q next. tt) p
@@ -331,8 +331,8 @@ module _ (code : Code) (records : List RecordType) (k : W.Setting) (declarable :
     pub statement_good : {env : W.Frames} {a : D.Around} {y : Stmt} → Done k env a y → GoodStatement env (statement_code y)
     statement_good {env} D.null = good_as env _ _ (layer_of _ (sym rolls-Null)) (λ runs a n p agrees texts can. none code a.stack p)
     statement_good {env} (D.assign {x = x} {v = v} {t = t} scalar denotes h) = good_as env _ _ (layer_of _ (sym (rolls-Assign x v))) (assign_good env (reached_by x) (value_code v) t (name_found code records k may_call may_new denotes) (λ runs. typed_fine code records k may_call may_new h runs))
-    statement_good {env} (D.put {ps = ps} puts) = good_as env _ _ (layer_of _ (sym (rolls-Put ps))) (λ runs a n p agrees texts can. print_formed code records k may_call may_new false n ps puts runs texts.0 a.stack agrees p)
-    statement_good {env} (D.put_line {ps = ps} puts) = good_as env _ _ (layer_of _ (sym (rolls-PutLine ps))) (λ runs a n p agrees texts can. print_formed code records k may_call may_new true n ps puts runs texts.0 a.stack agrees p)
+    statement_good {env} (D.put {ps = ps} puts) = good_as env _ _ (layer_of _ (sym (rolls-Put ps))) (λ runs a n p agrees texts can. print_formed code records k may_call may_new false n ps puts runs texts.0 a.stack agrees.0 p)
+    statement_good {env} (D.put_line {ps = ps} puts) = good_as env _ _ (layer_of _ (sym (rolls-PutLine ps))) (λ runs a n p agrees texts can. print_formed code records k may_call may_new true n ps puts runs texts.0 a.stack agrees.0 p)
     statement_good {env} D.new_line = good_as env _ _ (layer_of _ (sym rolls-NewLine)) (λ runs a n p agrees texts can. one code InstrOf.NewLine a.stack (Some a.stack) (λ q next. next) p)
     statement_good {env} (D.raise {x = x} known) = good_as env _ _ (layer_of _ (sym (rolls-Raise x))) (λ runs a n p agrees texts can. one code (InstrOf.Transfer (WayOf.Raise x)) a.stack (Some a.stack) (λ q next. raisable x known) p)
     statement_good {env} (D.return {x = o} returns) = good_as env _ _ (layer_of _ (sym (rolls-Return o))) (returning_good o returns)

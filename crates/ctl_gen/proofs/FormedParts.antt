@@ -14,15 +14,15 @@ use Rattle.ctl_code.specs.declared.kinds.Kind.TheVariants.{Operand}
 use Rattle.ctl_code.specs.declared.code.Cell.{Cell}
 use Rattle.ctl_code.specs.declared.code.Instr.TheVariants as InstrOf
 use Rattle.ctl_code.specs.declared.code.Code.{Code}
-use Rattle.ctl_code.specs.Windows.{HasSlot, height}
+use Rattle.ctl_code.specs.Windows.{height}
 use Rattle.ctl_code.specs.Valid as Valid
-use Rattle.ctl_code.specs.Valid.{IsFine, Puts}
-use Rattle.ctl_layout.specs.Around.{local_at, new_operand, out_to, read_from}
+use Rattle.ctl_code.specs.Valid.{HasVariable, IsFine, Puts}
+use Rattle.ctl_layout.specs.Around.{local_at, new_operand, read_from}
 use Rattle.ctl_layout.specs.Parts.{Start, OfVariable, OfValue, OfRecord, Reached, Variable, Part, Object, Result, access_value, any_type, are_followed, are_walked, behind_steps, first_position, first_type, found, is_begun, is_dereferenced, located_code, part_code, selected, selects_code, whole_code}
 use Rattle.ctl_layout.specs.Layout.{record_code, take_over_code}
 use Rattle.ctl_layout.proofs.Extensions.{both_true}
 use Rattle.ctl_gen.proofs.Formed.{Formed, both, none, one}
-use Rattle.ctl_gen.proofs.FormedAround.{Agrees, IsNamed, MayHold}
+use Rattle.ctl_gen.proofs.FormedAround.{Surrounds, IsNamed, MayHold, variable_there}
 use Rattle.ctl_gen.proofs.Walked.{Denoted, IsLed, behind_is, start_of, steps_before, steps_of}
 
 -- what stands before these steps: an access value where they begin with a dereference, else the part whose component they select
@@ -54,8 +54,8 @@ BeginsAt _ steps = Unit {0}
 -- named there
 abbrev pub IsBegun : Code → W.Frames → Start → Type 0
 IsBegun code env (OfVariable v) = IsNamed env v
-IsBegun code env (OfValue runs lines) = (s : List Kind) → Agrees code env s → Formed code (lines s) s (Some (Operand access_value ∷ s))
-IsBegun code env (OfRecord t runs lines) = (s : List Kind) → Agrees code env s → Formed code (lines s) s (Some (Operand (Record t) ∷ s))
+IsBegun code env (OfValue runs lines) = (s : List Kind) → Surrounds code env s → Formed code (lines s) s (Some (Operand access_value ∷ s))
+IsBegun code env (OfRecord t runs lines) = (s : List Kind) → Surrounds code env s → Formed code (lines s) s (Some (Operand (Record t) ∷ s))
 
 -- so is that of what a name denotes, whose steps are run, where what it begins with is run
 abbrev pub IsFound : Code → W.Frames → List RecordType → Option Reached → Type 0
@@ -114,17 +114,17 @@ steps_found code env records b ss (Some x) is at begun =
 
 module _ (code : Code) where
   -- the value of a variable goes where it is wanted
-  pub read_fine : (o : Option ℕ) (v : Var) (ty : Ty) (to : Cell) (s : List Kind) (p : ℕ) → local_at s v ≡ o → HasSlot code.homes s (out_to s v) v.slot → Valid.IsScalar ty → Puts code p to ty s → IsFine code p (read_from o v ty to s) s
+  pub read_fine : (o : Option ℕ) (v : Var) (ty : Ty) (to : Cell) (s : List Kind) (p : ℕ) → local_at s v ≡ o → HasVariable code.homes s v → Valid.IsScalar ty → Puts code p to ty s → IsFine code p (read_from o v ty to s) s
   read_fine (Some at) v ty to s p here slot scalar put = (scalar, (s, (refl, here), put))
   read_fine None v ty to s p here slot scalar put = (scalar, put, slot)
 
   -- the object in a variable, or the access value that is dereferenced
-  found_formed : (v : Var) (steps : List Step) (t : ℕ) (s : List Kind) → HasSlot code.homes s (out_to s v) v.slot → Formed code ((found v steps t s, s) ∷ []) s (Some (before steps t s))
+  found_formed : (v : Var) (steps : List Step) (t : ℕ) (s : List Kind) → HasVariable code.homes s v → Formed code ((found v steps t s, s) ∷ []) s (Some (before steps t s))
   found_formed v steps t s slot = by (is_dereferenced steps)
     where
-      by : (b : Bool) → Formed code (((if b then read_from (local_at s v) v access_value (new_operand s) s else InstrOf.Locate (out_to s v) v.slot (first_type steps t) (height s)), s) ∷ []) s (Some ((if b then Operand access_value else Operand (Record (first_type steps t))) ∷ s))
+      by : (b : Bool) → Formed code (((if b then read_from (local_at s v) v access_value (new_operand s) s else InstrOf.Locate v (first_type steps t) (height s)), s) ∷ []) s (Some ((if b then Operand access_value else Operand (Record (first_type steps t))) ∷ s))
       by true = one code (read_from (local_at s v) v access_value (new_operand s) s) s (Some (Operand access_value ∷ s)) (λ p next. read_fine (local_at s v) v access_value (new_operand s) s p refl slot tt (refl, next))
-      by false = one code (InstrOf.Locate (out_to s v) v.slot (first_type steps t) (height s)) s (Some (Operand (Record (first_type steps t)) ∷ s)) (λ p next. (refl, next, slot))
+      by false = one code (InstrOf.Locate v (first_type steps t) (height s)) s (Some (Operand (Record (first_type steps t)) ∷ s)) (λ p next. (refl, next, slot))
 
   -- a component in place of the part that has it
   select_formed : (t position part : ℕ) (s : List Kind) → Formed code ((InstrOf.Select t position part, Operand (Record t) ∷ s) ∷ []) (Operand (Record t) ∷ s) (Some (Operand (Record part) ∷ s))
@@ -175,10 +175,10 @@ module _ (code : Code) where
 
   -- inside these masters
   module _ (env : W.Frames) where
-    pub located_formed : (b : Start) (steps : List Step) (t : ℕ) (s : List Kind) → Agrees code env s → Follows b steps t → IsBegun code env b → Formed code (located_code b steps t s) s (Some (Operand (Record t) ∷ s))
+    pub located_formed : (b : Start) (steps : List Step) (t : ℕ) (s : List Kind) → Surrounds code env s → Follows b steps t → IsBegun code env b → Formed code (located_code b steps t s) s (Some (Operand (Record t) ∷ s))
     located_formed (OfVariable v) steps t s agrees followed begun =
         both code ((found v steps t s, s) ∷ []) (selects_code steps t s) s (before steps t s) (Some (Operand (Record t) ∷ s))
-        (found_formed v steps t s (agrees.1 v begun.0 begun.1))
+        (found_formed v steps t s (variable_there code env s v begun.0 agrees begun.1))
         (selects_formed steps t s followed.0)
     located_formed (OfValue runs lines) (Dereference ∷ steps) t s agrees followed begun =
         both code (lines s) (selects_code (Dereference ∷ steps) t s) s (before (Dereference ∷ steps) t s) (Some (Operand (Record t) ∷ s))
@@ -192,7 +192,7 @@ module _ (code : Code) where
         (begun s agrees)
         (value_formed u steps t s followed.0 followed.1)
 
-    pub part_formed : (x : Reached) (t : ℕ) (s : List Kind) → Agrees code env s → FollowsAt x t → IsBegun code env (start_of x) → Formed code (part_code x t s) s (Some (Operand (Record t) ∷ s))
+    pub part_formed : (x : Reached) (t : ℕ) (s : List Kind) → Surrounds code env s → FollowsAt x t → IsBegun code env (start_of x) → Formed code (part_code x t s) s (Some (Operand (Record t) ∷ s))
     part_formed (Variable v) t s agrees followed begun = located_formed (OfVariable v) [] t s agrees followed begun
     part_formed (Object b steps) t s agrees followed begun = located_formed b steps t s agrees followed begun
     part_formed (Result b) t s agrees followed begun = located_formed b [] t s agrees followed begun
@@ -203,7 +203,7 @@ module _ (code : Code) where
 
     -- Assignments ------------------------------------------------------------------------------------
 
-    pub record_formed : (records : List RecordType) (target source : Reached) (t : ℕ) (s : List Kind) → Agrees code env s → IsFound code env records (Some target) → IsFoundAt code env records t (Some source) → is_begun (start_of target) records ≡ true → is_begun (start_of source) records ≡ true → MayHold code s t → Formed code (record_code target t source s) s (Some s)
+    pub record_formed : (records : List RecordType) (target source : Reached) (t : ℕ) (s : List Kind) → Surrounds code env s → IsFound code env records (Some target) → IsFoundAt code env records t (Some source) → is_begun (start_of target) records ≡ true → is_begun (start_of source) records ≡ true → MayHold code s t → Formed code (record_code target t source s) s (Some s)
     record_formed records target source t s agrees to from begun begun1 may =
         let above = Operand (Record t) ∷ s in
         let top = Operand (Record t) ∷ above in

@@ -19,7 +19,7 @@ use Rattle.ctl_layout.specs.Values.{value_code}
 use Rattle.ctl_layout.specs.Texts.{parts_of, piece_code, pieces_are_run, pieces_code, print_code, print_of, with_piece, with_pieces}
 use Rattle.ctl_gen.proofs.Known.{both_true}
 use Rattle.ctl_gen.proofs.Formed.{Formed, both, none, one}
-use Rattle.ctl_gen.proofs.FormedAround.{Agrees}
+use Rattle.ctl_gen.proofs.FormedAround.{Surrounds}
 use Rattle.ctl_gen.proofs.FormedCalls.{MayCall, MayNew}
 use Rattle.ctl_gen.proofs.FormedExpressions.{typed_fine}
 use Rattle.ctl_gen.proofs.FormedValues.{Usable, usable_as}
@@ -36,7 +36,7 @@ images_stand s (PieceOf.IntegerImage e ∷ ps) = images_stand (Operand Integer �
 images_stand s (PieceOf.BooleanImage e ∷ ps) = images_stand (Operand Boolean ∷ s) ps ∙ further (images_of (parts_of ps)) (Operand Boolean) s
 
 -- and no master
-piece_agrees : (code : Code) (p : Piece) (env : W.Frames) (s : List Kind) → Agrees code env s → Agrees code env (with_piece p s)
+piece_agrees : (code : Code) (p : Piece) (env : W.Frames) (s : List Kind) → Surrounds code env s → Surrounds code env (with_piece p s)
 piece_agrees code (PieceOf.Text v) env s agrees = agrees
 piece_agrees code (PieceOf.IntegerImage e) env s agrees = agrees
 piece_agrees code (PieceOf.BooleanImage e) env s agrees = agrees
@@ -45,11 +45,11 @@ piece_agrees code (PieceOf.BooleanImage e) env s agrees = agrees
 module _ (code : Code) (env : W.Frames) where
   -- the values of images
   abbrev Images : List Piece → Type 0
-  Images ps = (s : List Kind) → Agrees code env s → Formed code (pieces_code ps s) s (Some (with_pieces ps s))
+  Images ps = (s : List Kind) → Surrounds code env s → Formed code (pieces_code ps s) s (Some (with_pieces ps s))
 
   -- a piece with its value, if it takes one
   abbrev Imaged : Piece → Type 0
-  Imaged p = (s : List Kind) → Agrees code env s → Formed code (piece_code p s) s (Some (with_piece p s))
+  Imaged p = (s : List Kind) → Surrounds code env s → Formed code (piece_code p s) s (Some (with_piece p s))
 
   next_image : (p : Piece) (ps : List Piece) → Imaged p → Images ps → Images (p ∷ ps)
   next_image p ps first rest s agrees = both code (piece_code p s) (pieces_code ps (with_piece p s)) s (with_piece p s) (Some (with_pieces (p ∷ ps) s)) (first s agrees) (rest (with_piece p s) (piece_agrees code p env s agrees))
@@ -71,7 +71,7 @@ module _ (code : Code) (records : List RecordType) (k : W.Setting) (may_call : M
       let u : Usable code env (value_code x) Boolean = usable_as code env (value_code x) Boolean tt (typed_fine code records k may_call may_new h e.0) in
       next_image code env (PieceOf.BooleanImage x) ps (λ s agrees. u.formed (new_operand s) s agrees refl) (images rest e.1)
 
-  pub print_formed : {env : W.Frames} (ends_line : Bool) (n : ℕ) (ps : List Piece) → Puts k env ps → pieces_are_run records ps ≡ true → slice_get code.texts.items n ≡ Some (parts_of ps) → (s : List Kind) → Agrees code env s → Formed code (print_code ends_line n ps s) s (Some s)
+  pub print_formed : {env : W.Frames} (ends_line : Bool) (n : ℕ) (ps : List Piece) → Puts k env ps → pieces_are_run records ps ≡ true → slice_get code.texts.items n ≡ Some (parts_of ps) → (s : List Kind) → Surrounds code env s → Formed code (print_code ends_line n ps s) s (Some s)
   print_formed ends_line n ps puts runs text s agrees =
       let all = with_pieces ps s in
       let print = print_of ends_line n (height s) in

@@ -27,14 +27,14 @@ use Rattle.ctl_code.specs.Valid.{BinaryOf, IsAllocable, IsCellOf, IsNumber, Lead
 use Rattle.ctl_code.proofs.Numbered.{have_over}
 use Rattle.ctl_layout.specs.declared.right.Right.{Right}
 use Rattle.ctl_layout.specs.declared.right.Right.TheVariants as RightOf
-use Rattle.ctl_layout.specs.Around.{Line, local_at, new_operand, out_to, read_from}
+use Rattle.ctl_layout.specs.Around.{Line, local_at, new_operand, read_from}
 use Rattle.ctl_layout.specs.Records.{is_plain, is_run_type}
 use Rattle.ctl_layout.specs.Defaults.{is_declared}
 use Rattle.ctl_layout.specs.Parts.{Start, OfVariable, OfValue, OfRecord, Reached, Variable, Part, Object, Result, any_type, component_code, first_position, located_code, part_code, part_runs, parts_run, taken_code}
 use Rattle.ctl_layout.specs.Values.{Held, OperatorCode, ValueCode, address_numbers, allocator_code, applied, binary_code, chain, common_type, constant, designating, evaluated, first_type, given_code, held, held_by, in_cell, last_type, left_held, moved_to, new, new_copy, new_given, next_target, operand_type, operator_by, operator_code, operator_for, operators_code, other_code, others_code, read, short, value_type, block_pool, discriminant, discriminant_at}
 use Rattle.ctl_layout.proofs.Extensions.{both_true}
 use Rattle.ctl_gen.proofs.Formed.{Formed, both, has_end, leads_at, none, one}
-use Rattle.ctl_gen.proofs.FormedAround.{Agrees, IsCreatable, IsHoused, IsNamed, granted_home, granted_home_of}
+use Rattle.ctl_gen.proofs.FormedAround.{Surrounds, IsCreatable, IsHoused, IsNamed, granted_home, granted_home_of, variable_there}
 use Rattle.ctl_gen.proofs.FormedParts.{Follows, FollowsAt, IsBegun, IsFound, located_formed, part_formed, read_fine}
 use Rattle.ctl_gen.proofs.Walked.{start_of, part_begun}
 use Rattle.ctl_gen.proofs.FormedTypes.{IsAccessType, IsLike, arithmetic_of, boolean_plain, cell_like, cell_of, equality_relates, is_relation, like_access, like_back, like_scalar, like_then, logical_of, number_of, number_plain, number_scalar, of_arithmetic, of_logical, of_relation, ordering_relates, relation_of, run_scalar, same_unless, unary_plain}
@@ -60,12 +60,12 @@ target_placed [] to s at = at
 target_placed (o ∷ os) to s at = refl
 
 -- what is taken from a cell is no master
-taken_agrees : (code : Code) (env : W.Frames) (cell : Cell) (ty : Ty) (s below : List Kind) → Taken cell ty s below → Agrees code env below → Agrees code env s
+taken_agrees : (code : Code) (env : W.Frames) (cell : Cell) (ty : Ty) (s below : List Kind) → Taken cell ty s below → Surrounds code env below → Surrounds code env s
 taken_agrees code env cell ty s below = by cell.named cell.at
   where
-    by : (named : Named) (at : ℕ) → Taken (record { at = at; named = named }) ty s below → Agrees code env below → Agrees code env s
-    by NamedOf.Operand at h agrees = subst (Agrees code env) (sym h.0) agrees
-    by (NamedOf.Variable out slot) at h agrees = subst (Agrees code env) (sym h.0) agrees
+    by : (named : Named) (at : ℕ) → Taken (record { at = at; named = named }) ty s below → Surrounds code env below → Surrounds code env s
+    by NamedOf.Operand at h agrees = subst (Surrounds code env) (sym h.0) agrees
+    by (NamedOf.Variable out slot) at h agrees = subst (Surrounds code env) (sym h.0) agrees
 
 -- so a slot that is there below it is there
 pub taken_slot : (counts : Counts) (cell : Cell) (ty : Ty) (s below : List Kind) (out slot : ℕ) → Taken cell ty s below → HasSlot counts below out slot → HasSlot counts s out slot
@@ -111,7 +111,7 @@ module _ (code : Code) (env : W.Frames) where
   -- a value whose code is well formed where one of this type is expected
   pub record Usable (x : ValueCode) (ty : Ty) : Type 0 where
     pub scalar : Valid.IsScalar ty
-    pub formed : (to : Cell) (s : List Kind) → Agrees code env s → Placed to s → Formed code (x.code to ty s) s (Some (with_put to.named ty s))
+    pub formed : (to : Cell) (s : List Kind) → Surrounds code env s → Placed to s → Formed code (x.code to ty s) s (Some (with_put to.named ty s))
     pub constant : (n : ℕ) → x.right ≡ RightOf.Constant n → IsCellOf ty n
 
   -- a value of this type of its own. An access value is one of each access type that designates the same type (4.6), and stands as a number
@@ -154,7 +154,7 @@ module _ (code : Code) (env : W.Frames) where
   usable_designating : (v : Var) (ty : Ty) → IsNamed env v → Valid.IsScalar ty → Usable (designating v) ty
   usable_designating v ty named scalar = record {
     scalar = scalar;
-    formed = λ to s agrees at. one code (InstrOf.Designate (out_to s v) v.slot ty to) s (Some (with_put to.named ty s)) (λ p next. (scalar, puts code p to ty s at next, agrees.1 v named.0 named.1));
+    formed = λ to s agrees at. one code (InstrOf.Designate v ty to) s (Some (with_put to.named ty s)) (λ p next. (scalar, puts code p to ty s at next, variable_there code env s v named.0 agrees named.1));
     constant = λ n is. absurd (cc);
   }
 
@@ -188,14 +188,14 @@ module _ (code : Code) (env : W.Frames) where
 
   -- Operands ----------------------------------------------------------------------------------------
 
-  found_evaluated : (x : ValueCode) (ty : Ty) (s : List Kind) → Agrees code env s → Usable x ty → Found code (evaluated x ty s) ty s
+  found_evaluated : (x : ValueCode) (ty : Ty) (s : List Kind) → Surrounds code env s → Usable x ty → Found code (evaluated x ty s) ty s
   found_evaluated x ty s agrees usable = record { formed = usable.formed (new_operand s) s agrees refl; taken = (refl, refl) }
 
-  found_in_cell : (o : Option ℕ) (v : Var) (x : ValueCode) (ty : Ty) (s : List Kind) → Agrees code env s → local_at s v ≡ o → Usable x ty → Found code (in_cell o v x ty s) ty s
+  found_in_cell : (o : Option ℕ) (v : Var) (x : ValueCode) (ty : Ty) (s : List Kind) → Surrounds code env s → local_at s v ≡ o → Usable x ty → Found code (in_cell o v x ty s) ty s
   found_in_cell (Some at) v x ty s agrees here usable = record { formed = none code s; taken = (refl, here) }
   found_in_cell None v x ty s agrees here usable = found_evaluated x ty s agrees usable
 
-  pub found : (x : ValueCode) (ty : Ty) (s : List Kind) → Agrees code env s → Usable x ty → Found code (held x ty s) ty s
+  pub found : (x : ValueCode) (ty : Ty) (s : List Kind) → Surrounds code env s → Usable x ty → Found code (held x ty s) ty s
   found x ty s agrees usable = by x.right
     where
       by : (r : Right) → Found code (held_by r x ty s) ty s
@@ -203,7 +203,7 @@ module _ (code : Code) (env : W.Frames) where
       by (RightOf.Variable v) = found_in_cell (local_at s v) v x ty s agrees refl usable
       by RightOf.Evaluated = found_evaluated x ty s agrees usable
 
-  found_left : (r : Right) (x : ValueCode) (ty : Ty) (s : List Kind) → Agrees code env s → Usable x ty → Found code (left_held r x ty s) ty s
+  found_left : (r : Right) (x : ValueCode) (ty : Ty) (s : List Kind) → Surrounds code env s → Usable x ty → Found code (left_held r x ty s) ty s
   found_left (RightOf.Constant n) x ty s agrees usable = found x ty s agrees usable
   found_left (RightOf.Variable v) x ty s agrees usable = found x ty s agrees usable
   found_left RightOf.Evaluated x ty s agrees usable = found_evaluated x ty s agrees usable
@@ -216,7 +216,7 @@ module _ (code : Code) (env : W.Frames) where
       both code h.code ((InstrOf.Binary (operator_for o ty) left h.cell to, h.after) ∷ []) s h.after (Some (with_put to.named o.ty base)) right.formed
       (one code (InstrOf.Binary (operator_for o ty) left h.cell to) h.after (Some (with_put to.named o.ty base)) (λ p next. (has, (s, right.taken, (base, taken, puts code p to o.ty base at next)))))
 
-  operator_formed : (r : Right) (o : OperatorCode) (left : Cell) (ty : Ty) (to : Cell) (s base : List Kind) → Agrees code env s → o.right.right ≡ r → BinaryOf o.op ty o.ty → Usable o.right ty → Taken left ty s base → Placed to base → Formed code (operator_by r o left ty to s) s (Some (with_put to.named o.ty base))
+  operator_formed : (r : Right) (o : OperatorCode) (left : Cell) (ty : Ty) (to : Cell) (s base : List Kind) → Surrounds code env s → o.right.right ≡ r → BinaryOf o.op ty o.ty → Usable o.right ty → Taken left ty s base → Placed to base → Formed code (operator_by r o left ty to s) s (Some (with_put to.named o.ty base))
   operator_formed (RightOf.Constant n) o left ty to s base agrees is has usable taken at = one code (InstrOf.BinaryConstant (operator_for o ty) left n to) s (Some (with_put to.named o.ty base)) (λ p next. (has, usable.constant n is, (base, taken, puts code p to o.ty base at next)))
   operator_formed (RightOf.Variable v) o left ty to s base agrees is has usable taken at = binary_formed o left ty to (held o.right ty s) s base has (found o.right ty s agrees usable) taken at
   operator_formed RightOf.Evaluated o left ty to s base agrees is has usable taken at = binary_formed o left ty to (held o.right ty s) s base has (found o.right ty s agrees usable) taken at
@@ -225,13 +225,13 @@ module _ (code : Code) (env : W.Frames) where
   pub record Operating (os : List OperatorCode) (left ty : Ty) : Type 0 where
     pub gives : last_type left os ≡ ty
     pub scalar : Valid.IsScalar ty
-    pub formed : (to : Cell) (base : List Kind) → Agrees code env base → Placed to base → Formed code (operators_code base (new_operand base) (KindOf.Operand left ∷ base) left os to) (with_put (next_target os to base).named left base) (Some (with_put to.named ty base))
+    pub formed : (to : Cell) (base : List Kind) → Surrounds code env base → Placed to base → Formed code (operators_code base (new_operand base) (KindOf.Operand left ∷ base) left os to) (with_put (next_target os to base).named left base) (Some (with_put to.named ty base))
 
   pub none_operating : (left : Ty) → Valid.IsScalar left → Operating [] left left
   none_operating left scalar = record { gives = refl; scalar = scalar; formed = λ to base agrees at. none code (with_put to.named left base) }
 
   -- an operator whose left operand is in this cell, and further ones
-  first_operating : (o : OperatorCode) (os : List OperatorCode) (cell : Cell) (left ty : Ty) (s base : List Kind) (to : Cell) → Agrees code env base → BinaryOf o.op left o.ty → Usable o.right left → Operating os o.ty ty → Taken cell left s base → Placed to base → Formed code (operators_code base cell s left (o ∷ os) to) s (Some (with_put to.named ty base))
+  first_operating : (o : OperatorCode) (os : List OperatorCode) (cell : Cell) (left ty : Ty) (s base : List Kind) (to : Cell) → Surrounds code env base → BinaryOf o.op left o.ty → Usable o.right left → Operating os o.ty ty → Taken cell left s base → Placed to base → Formed code (operators_code base cell s left (o ∷ os) to) s (Some (with_put to.named ty base))
   first_operating o os cell left ty s base to agrees has usable rest taken at =
       let target = next_target os to base in
       both code (operator_code o cell left target s) (operators_code base (new_operand base) (KindOf.Operand o.ty ∷ base) o.ty os to) s (with_put target.named o.ty base) (Some (with_put to.named ty base))
@@ -303,7 +303,7 @@ module _ (code : Code) (env : W.Frames) where
   -- Short-circuit forms -----------------------------------------------------------------------------
 
   abbrev pub Conditions : Shortcut → List ValueCode → Type 0
-  Conditions form xs = (s : List Kind) → Agrees code env s → Formed code (others_code form xs s) (KindOf.Operand Boolean ∷ s) (Some (KindOf.Operand Boolean ∷ s))
+  Conditions form xs = (s : List Kind) → Surrounds code env s → Formed code (others_code form xs s) (KindOf.Operand Boolean ∷ s) (Some (KindOf.Operand Boolean ∷ s))
 
   -- an operand that may be skipped, behind what decides
   decided : (form : Shortcut) (s : List Kind) (ls : List Line) → Formed code ls s (Some (KindOf.Operand Boolean ∷ s)) → Formed code ((InstrOf.Decide form (height s) (length ls), KindOf.Operand Boolean ∷ s) ∷ ls) (KindOf.Operand Boolean ∷ s) (Some (KindOf.Operand Boolean ∷ s))
@@ -356,7 +356,7 @@ module _ (code : Code) (env : W.Frames) where
   IsMade access of = IsAllocable code (length env) access of × IsHoused code env access × IsCreatable code env of
 
   -- behind the call of an Allocate there stand numbers (13.11)
-  allocator_formed : (access : ℕ) (of ty : Ty) (s : List Kind) → Valid.IsScalar ty → Agrees code env s → IsMade access of → Formed code (allocator_code access of ty s) s (Some (KindOf.Operand ty ∷ s))
+  allocator_formed : (access : ℕ) (of ty : Ty) (s : List Kind) → Valid.IsScalar ty → Surrounds code env s → IsMade access of → Formed code (allocator_code access of ty s) s (Some (KindOf.Operand ty ∷ s))
   allocator_formed access of ty s scalar agrees (allocable, housed, known) p h =
       let may = subst (λ n. IsAllocable code n access of) (sym agrees.0) allocable in
       let last = h.1.1 in (
@@ -365,7 +365,7 @@ module _ (code : Code) (env : W.Frames) where
       )
 
   -- with the value of a part, or of a function: behind the call of an Allocate they stand over that value (13.11)
-  behind_part_formed : (access t : ℕ) (ty : Ty) (s : List Kind) → Valid.IsScalar ty → Agrees code env s → IsMade access (TyOf.Record t) → Formed code ((InstrOf.NewCopy access t ty (height s), KindOf.Operand (TyOf.Record t) ∷ s) ∷ (InstrOf.NewCopyIn t ty (height s), over_numbers address_numbers (KindOf.RecordValue ∷ s)) ∷ []) (KindOf.Operand (TyOf.Record t) ∷ s) (Some (KindOf.Operand ty ∷ s))
+  behind_part_formed : (access t : ℕ) (ty : Ty) (s : List Kind) → Valid.IsScalar ty → Surrounds code env s → IsMade access (TyOf.Record t) → Formed code ((InstrOf.NewCopy access t ty (height s), KindOf.Operand (TyOf.Record t) ∷ s) ∷ (InstrOf.NewCopyIn t ty (height s), over_numbers address_numbers (KindOf.RecordValue ∷ s)) ∷ []) (KindOf.Operand (TyOf.Record t) ∷ s) (Some (KindOf.Operand ty ∷ s))
   behind_part_formed access t ty s scalar agrees (allocable, housed, known) p h =
       let may = subst (λ n. IsAllocable code n access (TyOf.Record t)) (sym agrees.0) allocable in
       let last = h.1.1 in (
@@ -374,7 +374,7 @@ module _ (code : Code) (env : W.Frames) where
       )
 
   -- and the part itself is found before
-  copy_formed : (access t : ℕ) (x : Reached) (ty : Ty) (s : List Kind) → Valid.IsScalar ty → Agrees code env s → FollowsAt x t → IsBegun code env (start_of x) → IsMade access (TyOf.Record t) → Formed code (behind_skip access t x ty s) s (Some (KindOf.Operand ty ∷ s))
+  copy_formed : (access t : ℕ) (x : Reached) (ty : Ty) (s : List Kind) → Valid.IsScalar ty → Surrounds code env s → FollowsAt x t → IsBegun code env (start_of x) → IsMade access (TyOf.Record t) → Formed code (behind_skip access t x ty s) s (Some (KindOf.Operand ty ∷ s))
   copy_formed access t x ty s scalar agrees followed begun made =
       let part = KindOf.Operand (TyOf.Record t) ∷ s in
       let last : List Line = (InstrOf.NewCopy access t ty (height s), part) ∷ (InstrOf.NewCopyIn t ty (height s), over_numbers address_numbers (KindOf.RecordValue ∷ s)) ∷ [] in
@@ -383,7 +383,7 @@ module _ (code : Code) (env : W.Frames) where
       (behind_part_formed access t ty s scalar agrees made)
 
   -- with a value of an elementary type: that is evaluated before, and goes into the object
-  given_formed : (access : ℕ) (of : Ty) (x : ValueCode) (ty : Ty) (s : List Kind) → Valid.IsScalar ty → Agrees code env s → IsMade access of → Usable x of → Formed code (given_code access of x ty s) s (Some (KindOf.Operand ty ∷ s))
+  given_formed : (access : ℕ) (of : Ty) (x : ValueCode) (ty : Ty) (s : List Kind) → Valid.IsScalar ty → Surrounds code env s → IsMade access of → Usable x of → Formed code (given_code access of x ty s) s (Some (KindOf.Operand ty ∷ s))
   given_formed access of x ty s scalar agrees made usable =
       let value = KindOf.Operand of ∷ s in
       let top = KindOf.Operand ty ∷ value in
@@ -397,7 +397,7 @@ module _ (code : Code) (env : W.Frames) where
       (one code (InstrOf.GiveValue of ty (height s)) top after (λ p next. (usable.scalar, scalar, (s, refl, (refl, next)))))
 
   -- what makes an object stands behind an instruction that does nothing; its value is a new operand, and then goes where it is wanted
-  made_own : (access : ℕ) (runs : List RecordType → Bool) (lines : Ty → List Kind → List Line) → ((ty : Ty) (s : List Kind) → Valid.IsScalar ty → Agrees code env s → Formed code (lines ty s) s (Some (KindOf.Operand ty ∷ s))) → Own (made_by access runs lines) (TyOf.Access access)
+  made_own : (access : ℕ) (runs : List RecordType → Bool) (lines : Ty → List Kind → List Line) → ((ty : Ty) (s : List Kind) → Valid.IsScalar ty → Surrounds code env s → Formed code (lines ty s) s (Some (KindOf.Operand ty ∷ s))) → Own (made_by access runs lines) (TyOf.Access access)
   made_own access runs lines formed =
       own_as (made_by access runs lines) (TyOf.Access access) refl tt
       (λ ty scalar. record {
@@ -422,7 +422,7 @@ module _ (code : Code) (env : W.Frames) where
 
   module _ (records : List RecordType) where
     -- the value of a component goes where it is wanted
-    taken_formed : (b : Start) (steps : List Step) (t position : ℕ) (ty : Ty) (to : Cell) (s : List Kind) → Valid.IsScalar ty → Agrees code env s → Follows b steps t → IsBegun code env b → Placed to s → Formed code (taken_code b steps t position ty to s) s (Some (with_put to.named ty s))
+    taken_formed : (b : Start) (steps : List Step) (t position : ℕ) (ty : Ty) (to : Cell) (s : List Kind) → Valid.IsScalar ty → Surrounds code env s → Follows b steps t → IsBegun code env b → Placed to s → Formed code (taken_code b steps t position ty to s) s (Some (with_put to.named ty s))
     taken_formed b steps t position ty to s scalar agrees followed begun at =
         let part = KindOf.Operand (TyOf.Record t) ∷ s in
         let after = Some (with_put to.named ty s) in
@@ -430,8 +430,8 @@ module _ (code : Code) (env : W.Frames) where
         (located_formed code env b steps t s agrees followed begun)
         (one code (InstrOf.TakePart t position ty to) part after (λ p next. (scalar, (s, refl, puts code p to ty s at next))))
 
-    component_formed : (b : Start) (steps : List Step) (t position : ℕ) (ty : Ty) (to : Cell) (s : List Kind) → Valid.IsScalar ty → Agrees code env s → Follows b steps t → IsBegun code env b → Placed to s → Formed code (component_code b steps t position ty to s) s (Some (with_put to.named ty s))
-    component_formed (OfVariable v) [] t position ty to s scalar agrees followed begun at = one code (InstrOf.FetchPart (out_to s v) v.slot t position ty to) s (Some (with_put to.named ty s)) (λ p next. (scalar, puts code p to ty s at next, agrees.1 v begun.0 begun.1))
+    component_formed : (b : Start) (steps : List Step) (t position : ℕ) (ty : Ty) (to : Cell) (s : List Kind) → Valid.IsScalar ty → Surrounds code env s → Follows b steps t → IsBegun code env b → Placed to s → Formed code (component_code b steps t position ty to s) s (Some (with_put to.named ty s))
+    component_formed (OfVariable v) [] t position ty to s scalar agrees followed begun at = one code (InstrOf.FetchPart v t position ty to) s (Some (with_put to.named ty s)) (λ p next. (scalar, puts code p to ty s at next, variable_there code env s v begun.0 agrees begun.1))
     component_formed (OfVariable v) (step ∷ steps) t position ty to s scalar agrees followed begun at = taken_formed (OfVariable v) (step ∷ steps) t position ty to s scalar agrees followed begun at
     component_formed (OfValue runs lines) steps t position ty to s scalar agrees followed begun at = taken_formed (OfValue runs lines) steps t position ty to s scalar agrees followed begun at
     component_formed (OfRecord u runs lines) steps t position ty to s scalar agrees followed begun at = taken_formed (OfRecord u runs lines) steps t position ty to s scalar agrees followed begun at
@@ -478,6 +478,6 @@ module _ (code : Code) (env : W.Frames) where
         own_as (read (Some (Variable v)) ty) ty refl (run_scalar ty runs)
         (λ u scalar. record {
           scalar = scalar;
-          formed = λ to s agrees at. one code (read_from (local_at s v) v u to s) s (Some (with_put to.named u s)) (λ p next. read_fine code (local_at s v) v u to s p refl (let named = found_so.1 refl in agrees.1 v named.0 named.1) scalar (puts code p to u s at next));
+          formed = λ to s agrees at. one code (read_from (local_at s v) v u to s) s (Some (with_put to.named u s)) (λ p next. read_fine code (local_at s v) v u to s p refl (let named = found_so.1 refl in variable_there code env s v named.0 agrees named.1) scalar (puts code p to u s at next));
           constant = λ n is. absurd (cc);
         })

@@ -29,15 +29,16 @@ use Rattle.ctl_meaning.specs.Outcome.{program_error}
 use Rattle.ctl_code.specs.Valid.{AreInScope, AreOperationsWithin, IsBegun, IsEntry, IsException, IsFine, IsInScope, IsOperationWithin, IsStorageInScope, IsValid, Leads, MayBeEntry, MayHaveVariable, MayLie, TakesObject, TakesStorage, storage_formals}
 use Rattle.ctl_layout.specs.Around.{Line, Around, among, behind}
 use Rattle.ctl_layout.specs.Layout as Layout
-use Rattle.ctl_layout.specs.Layout.{bodies, body_code, entries_from, entry_at, HasKinds, in_body, instructions_of, IsLaidOut, kinds_of, master_code, nowhere, outside, operations_in, operations_of, program_code}
+use Rattle.ctl_layout.specs.Layout.{all_defaults, behind_bodies, bodies, body_code, entries_from, entry_at, HasKinds, in_body, instructions_of, IsLaidOut, kinds_of, master_code, nowhere, outside, operations_in, operations_of, program_code}
 use Rattle.ctl_layout.specs.Records.{adjust_by}
-use Rattle.ctl_layout.specs.Run.{AreLinked, IsBody, IsRun, IsWritten}
+use Rattle.ctl_layout.specs.Run.{AreLinked, IsBody, IsRun, IsWritten, are_defaults_run}
 use Rattle.ctl_gen.proofs.Known.{both_true}
 use Rattle.ctl_gen.proofs.Place.{HasAt, has_all}
 use Rattle.ctl_gen.proofs.Place as Place
 use Rattle.ctl_gen.proofs.Formed.{AreFine, fine_both, FormedAt, Has, has_back, has_front}
-use Rattle.ctl_gen.proofs.FormedAround.{Agrees, IsCreatable, IsHoused, agrees_body, named_around, size_around, variable_there}
-use Rattle.ctl_gen.proofs.FormedLayouts.{EachAtHome, SaysAround, alike, around, creatable, declarable, granted_within, home_of, layouts_laid, not_more, record_granted, said_of_subprogram, subprogram_granted}
+use Rattle.ctl_gen.proofs.FormedAround.{Agrees, IsCreatable, IsHoused, Surrounds, agrees_body, named_around, size_around, surrounds_default, variable_there}
+use Rattle.ctl_gen.proofs.FormedDefaults.{AllSettled, Settled, all_defaults_fine, all_stand, all_usable, own_run}
+use Rattle.ctl_gen.proofs.FormedLayouts.{EachAtHome, SaysAround, alike, around, creatable, declarable, granted_within, home_of, layouts_laid, not_more, record_granted, said_of_record, said_of_subprogram, subprogram_granted}
 use Rattle.ctl_gen.proofs.FormedCalls.{MayCall, MayNew, kind_by, named_level}
 use Rattle.ctl_gen.proofs.FormedMasters.{MaySee, master_good, slots_told}
 
@@ -342,7 +343,7 @@ module _ (program : Checked) (code : Code) (laid : IsLaidOut program code) (kind
   access_fine env a to = typed.each_access a to.is to.home (sym (ap (λ xs. slice_get xs a) typed.fits.accesses) ∙ to.found) to.at_home
 
   -- so each stands in its slot, and the pool of the type does too
-  pool_there : (env home : W.Frames) (s : List Kind) (o : Option Var) → W.Encloses home env → Agrees code env s → Pooled typed.k home o → MayHaveVariable code.homes s o
+  pool_there : (env home : W.Frames) (s : List Kind) (o : Option Var) → W.Encloses home env → Surrounds code env s → Pooled typed.k home o → MayHaveVariable code.homes s o
   pool_there env home s None encloses agrees P.standard = tt
   pool_there env home s (Some v) encloses agrees (P.from_pool {t = t} names rooted pool) = variable_there code env s v (W.Declared (Record t)) agrees (named_around home env v (W.Declared (Record t)) encloses names)
 
@@ -411,12 +412,32 @@ module _ (program : Checked) (code : Code) (laid : IsLaidOut program code) (kind
       let own : f ≡ 0 + f = omega arith in
       subst (λ n. GoodBody code program.records n s) own (good_body f s is.0 is.1 (typed.each_subprogram f s is.0 e is.1))
 
+  runs : ((bodies 0 program.subprograms).runs (outside program.records) ≡ true) × (are_defaults_run program.records program.records ≡ true)
+  runs = both_true ((bodies 0 program.subprograms).runs (outside program.records)) (are_defaults_run program.records program.records) run_it
+
+  abbrev Lines : List Line
+  Lines = (bodies 0 program.subprograms).code nowhere 0
+
   formed : BodiesFormed code program.records 0 nowhere 1 0 program.subprograms
-  formed = bodies_formed code program.records 0 program.subprograms run_it good nowhere 1 0 printed stands.1
+  formed = bodies_formed code program.records 0 program.subprograms runs.0 good nowhere 1 0 printed (has_front code 1 Lines (all_defaults 0 program.records) None None stands.1 tt)
+
+  -- Defaults -----------------------------------------------------------------------------------------
+
+  defaults_stand : Has code (behind_bodies program) (all_defaults 0 program.records) None
+  defaults_stand = has_back code 1 Lines (all_defaults 0 program.records) None stands.1
+
+  settled_at : (t : ℕ) (r : RecordType) → slice_get program.records t ≡ Some r → Settled code t r
+  settled_at t r e =
+      let home = home_of program typed t r e in
+      let fine = typed.each_record t r home.0 e home.1 in
+      (home.0, surrounds_default code home.0 r.level t fine.level (said_of_record code typed.k says t home.0 home.1), all_usable code program.records typed.k may_call may_new fine.own (own_run program.records program.records runs.1 t r e))
+
+  settled : AllSettled code 0 program.records
+  settled i t r e same = let here : i ≡ t = omega (arith, same) in subst (λ n. Settled code n r) here (settled_at i r e)
 
   -- the main procedure is declared in no master, and has no formals
   all_fine : AreFine code 0 (program_code program)
-  all_fine = let main = may_call [] program.main _ typed.main in ((refl, main.0, main.1), formed.fine)
+  all_fine = let main = may_call [] program.main _ typed.main in ((refl, main.0, main.1), fine_both code 1 Lines (all_defaults 0 program.records) formed.fine (all_defaults_fine code 0 (behind_bodies program) program.records settled defaults_stand))
 
   said_valid : IsValid code
   said_valid = record {
@@ -431,7 +452,7 @@ module _ (program : Checked) (code : Code) (laid : IsLaidOut program code) (kind
     records = records_of;
     formals = formals_of;
     storage = storage_of;
-    layouts = layouts_laid program typed code laid says operations_in_scope storage_in_scope operations_within;
+    layouts = layouts_laid program typed code laid says operations_in_scope storage_in_scope operations_within (all_stand program typed code laid says settled defaults_stand);
   }
 
 -- Code that says of the masters around declarations as little as it can -----------------------------
@@ -447,6 +468,7 @@ is_valid program code laid kinds least run_it typed =
       entries = laid.entries;
       records = laid.records;
       layouts = laid.layouts;
+      defaults = laid.defaults;
       accesses = laid.accesses;
       texts = laid.texts;
       exceptions = laid.exceptions;

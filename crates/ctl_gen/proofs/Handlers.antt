@@ -27,7 +27,7 @@ use Rattle.ctl_gen.proofs.Place.{HasAt, has_front, has_back, Laid, laid_front, l
 use Rattle.ctl_gen.proofs.Collections.{home}
 use Rattle.ctl_gen.proofs.Worlds.{Since, Kept}
 use Rattle.ctl_gen.proofs.Setting.{Setting, tools_with, Sees, Told, Calls}
-use Rattle.ctl_gen.proofs.Parted.{GivesDefaults}
+use Rattle.ctl_gen.proofs.Given.{GivesEach}
 use Rattle.ctl_gen.proofs.Cells.{by_code}
 use Rattle.ctl_gen.proofs.Branches.{Ends}
 use Rattle.ctl_gen.proofs.Does.{IsRunIn, both_run}
@@ -80,12 +80,12 @@ module _ (ask : Ask) (code : Code) where
                 ∙ ap (λ p. at d (p + (if contains e es then 0 else size)) ks [] l w) far,
           )
 
-module _ (ask : Ask) (k : Tables) (code : Code) (setting : Setting k code) (call : Names.Call) (default : Default) (constants : GivesDefaults k default) (bound : ℕ) (calls : Calls ask k code setting bound call) where
+module _ (ask : Ask) (k : Tables) (code : Code) (setting : Setting k code) (call : Names.Call) (default : Default) (defaults : GivesEach ask k code setting call default) (bound : ℕ) (calls : Calls ask k code setting bound call) where
   abbrev K : Tools
   K = tools_with ask k call default
 
   abbrev EachPerforms : List StatementCode → List Doing → Type 0
-  EachPerforms = S.EachPerforms ask k code setting call default constants bound calls
+  EachPerforms = S.EachPerforms ask k code setting call default defaults bound calls
 
   -- One handler -----------------------------------------------------------------------------------
 
@@ -101,7 +101,7 @@ module _ (ask : Ask) (k : Tables) (code : Code) (setting : Setting k code) (call
   body_runs : (xs : List StatementCode) (ms : List Doing) → EachPerforms xs ms → IsRunIn k.records (all xs).runs → (n : ℕ) → HasAt code.texts.items n (all xs).texts → (s : List Kind) (w0 : World) (d : List ℕ) (place place1 : ℕ) (ks : List Frame) (c : ℕ) (l : Log) (w : World) → c ≤ bound → Since k code w0 w → Sees d s w0 → Laid code place ((all xs).code (inside_master s) n) → Ends ask k code bound d (place + length ((all xs).code (inside_master s) n)) place1 ks [] → Runs ask code (Kept k code w0) 2 0 (at d place ks [] l w) c (arrives OutOf d place1 ks []) (do_each K d (caught_in ks) ms c l w)
   body_runs xs ms each runs n texts s w0 d place place1 ks c l w le fits sees has ends =
       further ask code (Kept k code w0) 0 0 2 0 2 (at d place ks [] l w) c (arrives OutOf d (place + length ((all xs).code (inside_master s) n)) ks []) (arrives OutOf d place1 ks []) (do_each K d (caught_in ks) ms c l w) (omega arith) (omega arith)
-      (S.all_run ask k code setting call default constants bound calls xs ms each runs n texts (inside_master s) w0 d place ks [] c l w le fits sees has) over
+      (S.all_run ask k code setting call default defaults bound calls xs ms each runs n texts (inside_master s) w0 d place ks [] c l w le fits sees has) over
     where
       over : (r : Result Done) (l1 : Log) (w1 : World) → (i : ℕ) × (i ≤ 2) × (steps ask code i (arrives OutOf d (place + length ((all xs).code (inside_master s) n)) ks [] r l1 w1) ≡ arrives OutOf d place1 ks [] r l1 w1)
       over (Goes a) l1 w1 = ends l1 w1
@@ -210,13 +210,13 @@ module _ (ask : Ask) (k : Tables) (code : Code) (setting : Setting k code) (call
       (added ask code (Kept k code w0) 1 4 4 1 1 (at d (end + back) ks [] l w) c (arrives OutOf d place1 ks []) one.0 (omega arith) (omega arith) one.2)
 
   -- statements with handlers
-  pub handled_closes : (xs : List StatementCode) (ms : List Doing) → EachPerforms xs ms → (h : HandlerCode) (hs : List HandlerCode) (g : Guarding) (gs : List Guarding) → EachHandles (h ∷ hs) (g ∷ gs) → S.Closes ask k code setting call default constants bound calls (handled (all xs) (h ∷ hs)) (S.with_handlers ms (g ∷ gs))
+  pub handled_closes : (xs : List StatementCode) (ms : List Doing) → EachPerforms xs ms → (h : HandlerCode) (hs : List HandlerCode) (g : Guarding) (gs : List Guarding) → EachHandles (h ∷ hs) (g ∷ gs) → S.Closes ask k code setting call default defaults bound calls (handled (all xs) (h ∷ hs)) (S.with_handlers ms (g ∷ gs))
   unfolding handles handle picked opened_outcome opened_changes
   handled_closes xs ms each h hs g gs each_handler runs n texts s master w0 w2 d opened after ks caught c0 c t l w s0 place le has at_end front =
       subst (λ o. Runs ask code (Told k code w0) 0 2 s0 c0 (leaves after ks) (add t o)) (sym (bind_bind (do_each K d caught ms c l w) (handles (handle K d (g ∷ gs))) (leave K master)))
       (both_from ask code (Kept k code w2) (Told k code w0) 2 0 0 2 2 0 s0 (at d (place + 1) armed [] l w) c0 c t (arrives OutOf d end armed []) (leaves after ks) _ _ (omega arith) (omega arith)
       (then_step ask code (Kept k code w2) 1 2 s0 (at d place (in_frame master caught after ks) [] l w) (at d (place + 1) armed [] l w) c0 c t t front arms front.fits (omega arith))
-      (S.all_run ask k code setting call default constants bound calls xs ms each (both_run k.records (all xs).runs (handlers_run (h ∷ hs)) runs).0 n (has_front code.texts.items n (all xs).texts (handlers_texts (h ∷ hs)) texts) (inside_master s) w2 d (place + 1) armed [] c l w le front.fits opened.sees (laid_front code (place + 1) body ((InstrOf.Skip (length rest), s) ∷ rest) has.2)) on)
+      (S.all_run ask k code setting call default defaults bound calls xs ms each (both_run k.records (all xs).runs (handlers_run (h ∷ hs)) runs).0 n (has_front code.texts.items n (all xs).texts (handlers_texts (h ∷ hs)) texts) (inside_master s) w2 d (place + 1) armed [] c l w le front.fits opened.sees (laid_front code (place + 1) body ((InstrOf.Skip (length rest), s) ∷ rest) has.2)) on)
     where
       n1 : ℕ
       n1 = n + length (all xs).texts
@@ -256,7 +256,7 @@ module _ (ask : Ask) (k : Tables) (code : Code) (setting : Setting k code) (call
           (after_paid ask code (Told k code w0) 3 4 4 0 2 s0 (at d (end + 1) (in_frame master e after ks) [] l1 w1) c0 c1 t1 (leaves after ks) (bind first.0 (leave K master)) (omega arith) (omega arith)
           (then_step ask code (Kept k code w2) 2 3 s0 (transferred (ByRaise e) armed l1 w1) (at d (end + 1) (in_frame master e after ks) [] l1 w1) c0 c1 t1 t1 there begins fits1 (omega arith))
           (both ask code (Kept k code w2) (Told k code w0) 4 4 0 0 4 4 (at d (end + 1) (in_frame master e after ks) [] l1 w1) c1 (arrives OutOf d place1 (in_frame master e after ks) []) (leaves after ks) first.0 (leave K master) (omega arith) (omega arith) (omega arith) first.2
-          (λ r c2 l2 w3 lo2 fits2. left_runs ask k code setting call default constants bound calls r master after w0 ks c2 l2 w3 (arrives OutOf d place1 (in_frame master e after ks) [] r l2 w3) opened.young (omega (arith, lo, lo2, le)) (opened.since w3 fits2) (steps_out ask code master e after d place1 ks at_end r l2 w3))))
+          (λ r c2 l2 w3 lo2 fits2. left_runs ask k code setting call default defaults.constants bound calls r master after w0 ks c2 l2 w3 (arrives OutOf d place1 (in_frame master e after ks) [] r l2 w3) opened.young (omega (arith, lo, lo2, le)) (opened.since w3 fits2) (steps_out ask code master e after d place1 ks at_end r l2 w3))))
         where
           seen : home master w1.activations ≡ d
           seen = ap (λ m. home m w1.activations) (sym opened.newest) ∙ fits1.1.homes (last_of d) opened.sees.old ∙ opened.sees.home
@@ -275,13 +275,13 @@ module _ (ask : Ask) (k : Tables) (code : Code) (setting : Setting k code) (call
       by_way None y is t1 c1 l1 w1 lo fits1 there =
           subst (λ o. Runs ask code (Told k code w0) 0 2 s0 c0 (leaves after ks) (add t1 (bind (on_some o (leave_by y) (handle K d (g ∷ gs)) c1 l1 w1) (leave K master)))) (sym is)
           (subst (λ o. Runs ask code (Told k code w0) 0 2 s0 c0 (leaves after ks) (add t1 o)) (sym (add_none (leave K master (Leaves y) c1 l1 w1)))
-          (left_after ask k code setting call default constants bound calls 2 (omega arith) (Leaves y) master after w0 ks c0 c1 t1 l1 w1 s0 _ opened.young (omega (arith, lo, le)) (opened.since w1 fits1) there (passes_out ask code master _ after ks y l1 w1 is)))
+          (left_after ask k code setting call default defaults.constants bound calls 2 (omega arith) (Leaves y) master after w0 ks c0 c1 t1 l1 w1 s0 _ opened.young (omega (arith, lo, le)) (opened.since w1 fits1) there (passes_out ask code master _ after ks y l1 w1 is)))
       by_way (Some e) y is t1 c1 l1 w1 lo fits1 there = subst (λ v. Comes ask code 2 s0 c0 t1 c1 (transferred v armed l1 w1) (Since k code w2 w1) → IsLeft (Leaves v) t1 c1 l1 w1) (sym (raised_is y e is)) (raised e t1 c1 l1 w1 lo fits1) there
 
       on : (r : Result Done) (t1 c1 : ℕ) (l1 : Log) (w1 : World) → c1 ≤ c → Since k code w2 w1 → Comes ask code 2 s0 c0 t1 c1 (arrives OutOf d (place + 1 + length ((all xs).code (inside_master s) n)) armed [] r l1 w1) (Since k code w2 w1) → IsLeft r t1 c1 l1 w1
       on (Goes a) t1 c1 l1 w1 lo fits1 there =
           subst (λ o. Runs ask code (Told k code w0) 0 2 s0 c0 (leaves after ks) (add t1 o)) (sym (add_none (leave K master (Goes tt) c1 l1 w1)))
-          (left_after ask k code setting call default constants bound calls 3 (omega arith) (Goes tt) master after w0 ks c0 c1 t1 l1 w1 s0 (at d place1 armed [] l1 w1) opened.young (omega (arith, lo, le)) (opened.since w1 fits1)
+          (left_after ask k code setting call default defaults.constants bound calls 3 (omega arith) (Goes tt) master after w0 ks c0 c1 t1 l1 w1 s0 (at d place1 armed [] l1 w1) opened.young (omega (arith, lo, le)) (opened.since w1 fits1)
           (then_step ask code (Kept k code w2) 2 3 s0 (at d end armed [] l1 w1) (at d place1 armed [] l1 w1) c0 c1 t1 t1 there (by_code ask code d end armed [] l1 w1 (InstrOf.Skip (length rest)) tail.0 ∙ ap (λ p. at d p armed [] l1 w1) far) fits1 (omega arith))
           (ends_out ask code master _ after d place1 ks l1 w1 at_end))
       on (Leaves y) t1 c1 l1 w1 lo fits1 there = by_way (raised_by y) y refl t1 c1 l1 w1 lo fits1 (subst (λ z. Comes ask code 2 s0 c0 t1 c1 z (Since k code w2 w1)) (leads_out y d armed [] l1 w1) there)

@@ -1,5 +1,5 @@
 -- The types of the variables of this version: scalar ones, and record types whose objects are declared, controlled or not tagged, whose
--- defaults are constants and whose components are of such types again.
+-- components are of such types again.
 use Rattle.std.proofs.Common.{◌≡◌, ◌≢◌, ℕ, zero, suc, ◌<◌, ◌≤◌, List, [], ◌∷◌, ◌++◌, length, get_or, Option, Some, None, Bool, true, false, refl, sym, ap, ◌∙◌, subst, arith, ◌⊎◌, inl, inr}
 use Rattle.std.specs.Prelude.{slice_get, is_none, if◌then◌else◌, ◌&&◌}
 use Rattle.std.proofs.lemmas.Option.{slice_get_cases, slice_get_past, slice_get_within}
@@ -12,9 +12,10 @@ use Rattle.ctl_program.specs.declared.types.RecordType.{RecordType}
 use Rattle.ctl_meaning.specs.Types.{Tables, Elementary, category_of, of_record, root_for, root_in, root_of}
 use Rattle.ctl_layout.specs.declared.forms.Form.{Form}
 use Rattle.ctl_layout.specs.declared.forms.Form.TheVariants as FormOf
-use Rattle.ctl_layout.specs.Records.{are_parts, extends_such, form_by, forms_of, have_constants, is_laid, is_laid_by, is_laid_form, is_part, is_plain, is_plain_by, is_plain_form, is_root_run, is_run_type, may_default}
+use Rattle.ctl_layout.specs.Records.{are_parts, extends_such, form_by, forms_of, is_laid, is_laid_by, is_laid_form, is_part, is_plain, is_plain_by, is_plain_form, is_root_run, is_run_type, run_default}
 pub use Rattle.ctl_layout.proofs.Extensions.{both_true}
-use Rattle.ctl_layout.proofs.Extensions.{HasComponents, IsRow, extends_none, extends_one, row_at, rows_length, same_components}
+use Rattle.ctl_layout.proofs.Extensions.{HasComponents, IsRow, extends_none, extends_one, row_at, rows_length}
+use Rattle.ctl_program.specs.declared.expression.Expr.{Expr}
 
 abbrev pub IsScalar : Ty → Type 0
 IsScalar Integer = Unit {0}
@@ -71,12 +72,11 @@ pub record IsLaid (records : List RecordType) (t : ℕ) (cs : List Component) : 
 abbrev pub IsRootRun : RecordType → Type 0
 IsRootRun r = ((r.root ≡ Controlled) ⊎ (r.root ≡ BlockPool)) ⊎ (r.root ≡ Untagged)
 
--- such a type that is laid out, with constants as defaults
+-- such a type that is laid out
 pub record IsPlain (k : Tables) (t : ℕ) (r : RecordType) : Type 0 where
   pub kind : IsRootRun r
   pub components : List Component
   pub laid : IsLaid k.records t components
-  pub constants : have_constants components ≡ true
 
 abbrev pub IsPlainType : Tables → Ty → Type 0
 IsPlainType k (Record t) = (r : RecordType) × (slice_get k.records t ≡ Some r) × IsPlain k t r
@@ -91,6 +91,34 @@ scalar_plain k Address h = tt
 scalar_plain k Handle h = absurd h
 scalar_plain k (Access a) h = tt
 scalar_plain k (Record t) h = absurd h
+
+-- a component of a scalar type takes the value of its default, and one without a default of none (3.8)
+pub default_of_scalar : (c : Component) → IsScalar c.ty → run_default c ≡ c.default
+default_of_scalar c h = by c.ty h
+  where
+    by : (ty : Ty) → IsScalar ty → (if is_run_type ty then c.default else None) ≡ c.default
+    by Integer h = refl
+    by Count h = refl
+    by Boolean h = refl
+    by Address h = refl
+    by Handle h = absurd h
+    by (Access a) h = refl
+    by (Record t) h = absurd h
+
+pub default_unset : (c : Component) → c.default ≡ None → run_default c ≡ None
+default_unset c unset = by (is_run_type c.ty)
+  where
+    by : (b : Bool) → (if b then c.default else None) ≡ None
+    by true = unset
+    by false = refl
+
+-- what is evaluated is the default of a component of a type that is run
+pub run_default_is : (c : Component) (x : Expr) → run_default c ≡ Some x → (is_run_type c.ty ≡ true) × (c.default ≡ Some x)
+run_default_is c x h = by (is_run_type c.ty) h
+  where
+    by : (b : Bool) → (if b then c.default else None) ≡ Some x → (b ≡ true) × (c.default ≡ Some x)
+    by true is = (refl, is)
+    by false is = absurd (cc is)
 
 none_if : {A : Type 0} (o : Option A) → is_none o ≡ true → o ≡ None
 none_if None e = refl
@@ -154,7 +182,6 @@ pub record Extends (records : List RecordType) (t : ℕ) (r : RecordType) : Type
 record ExtendsPlain (records : List RecordType) (t : ℕ) (r : RecordType) : Type 0 where
   kind : IsRootRun r
   parts : AreParts records t r.own
-  constants : have_constants r.own ≡ true
   parent : ExtendsSuch (is_plain records) t r
 
 module _ (records : List RecordType) (t : ℕ) (r : RecordType) (here : slice_get records t ≡ Some r) where
@@ -199,10 +226,9 @@ module _ (records : List RecordType) (t : ℕ) (r : RecordType) (here : slice_ge
 
   plain_made : is_plain_by made.before r ≡ true → ExtendsPlain records t r
   plain_made e =
-      let h = both_true (is_root_run r.root r.operations) (extends_such is_plain_form made.before r.parent && (are_parts made.before r.own && have_constants r.own)) e in
-      let g = both_true (extends_such is_plain_form made.before r.parent) (are_parts made.before r.own && have_constants r.own) h.1 in
-      let f = both_true (are_parts made.before r.own) (have_constants r.own) g.1 in
-      record { kind = root_if r r.root refl h.0; parts = parts_if r.own f.0; constants = f.1; parent = parent_if is_plain_form plain_laid r.parent refl g.0 }
+      let h = both_true (is_root_run r.root r.operations) (extends_such is_plain_form made.before r.parent && are_parts made.before r.own) e in
+      let g = both_true (extends_such is_plain_form made.before r.parent) (are_parts made.before r.own) h.1 in
+      record { kind = root_if r r.root refl h.0; parts = parts_if r.own g.1; parent = parent_if is_plain_form plain_laid r.parent refl g.0 }
 
   -- a type that is plain is laid out too
   both_made : (is_plain_by made.before r ≡ true) ⊎ (is_laid_by made.before r ≡ true) → Extends records t r
@@ -260,33 +286,16 @@ part_laid records t c x = plain_laid (slice_get (forms_of records) x.number) x.p
 
 -- Types whose objects are declared ----------------------------------------------------------------
 
-constants_both : (xs ys : List Component) → have_constants xs ≡ true → have_constants ys ≡ true → have_constants (xs ++ ys) ≡ true
-constants_both [] ys h g = g
-constants_both (x ∷ xs) ys h g =
-    let first = both_true (may_default x) (have_constants xs) h in
-    ap (λ b. b && have_constants (xs ++ ys)) first.0 ∙ constants_both xs ys first.1 g
-
 plain_extends : (records : List RecordType) (t : ℕ) → is_plain records t ≡ true → (r : RecordType) × (slice_get records t ≡ Some r) × ExtendsPlain records t r
 plain_extends records t e =
     let x = entry_of records t (plain_laid (slice_get (forms_of records) t) e) in
     (x.0, x.1, plain_made records t x.0 x.1 (plain_by _ _ (ap is_plain_form (sym (form_is records t x.0 x.1)) ∙ e)))
 
--- the defaults of all of its components are constants
-constants_within : (n : ℕ) (records : List RecordType) (t : ℕ) → t < n → is_plain records t ≡ true → (cs : List Component) × HasComponents records t cs × (have_constants cs ≡ true)
-constants_within zero records t lt e = absurd (omega (arith, lt))
-constants_within (suc n) records t lt e = let x = plain_extends records t e in by x.0 x.1 x.2 (λ p less is. constants_within n records p (omega (arith, less, lt)) is) x.2.parent
-  where
-    by : (r : RecordType) → slice_get records t ≡ Some r → ExtendsPlain records t r → ((p : ℕ) → p < t → is_plain records p ≡ true → (cs : List Component) × HasComponents records p cs × (have_constants cs ≡ true)) → ExtendsSuch (is_plain records) t r → (cs : List Component) × HasComponents records t cs × (have_constants cs ≡ true)
-    by r here x parent (inl none) = (r.own, extends_none records t r here none, x.constants)
-    by r here x parent (inr q) = let y = parent q.0 q.2 q.3 in (y.0 ++ r.own, extends_one records t r q.0 y.0 here q.1 q.2 y.1, constants_both y.0 r.own y.2 x.constants)
-
 pub plain_if : (k : Tables) (t : ℕ) → is_plain k.records t ≡ true → (r : RecordType) × (slice_get k.records t ≡ Some r) × IsPlain k t r
 plain_if k t e =
     let x = plain_extends k.records t e in
     let laid = laid_if k.records t (plain_laid (slice_get (forms_of k.records) t) e) in
-    let y = constants_within (suc t) k.records t (omega arith) e in
-    let constants = subst (λ cs. have_constants cs ≡ true) (same_components k.records t y.0 laid.0 y.1 laid.1.has) y.2 in
-    (x.0, x.1, record { kind = x.2.kind; components = laid.0; laid = laid.1; constants = constants })
+    (x.0, x.1, record { kind = x.2.kind; components = laid.0; laid = laid.1 })
 
 -- so the type of a component is one of them
 pub part_plain : (k : Tables) (t : ℕ) (c : Component) (x : IsOfPlain k.records t c) → IsPlainType k (Record x.number)

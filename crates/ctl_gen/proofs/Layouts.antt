@@ -7,6 +7,7 @@ use Rattle.ctl_program.specs.declared.types.Ty.{Ty}
 use Rattle.ctl_program.specs.declared.types.Ty.TheVariants as TyOf
 use Rattle.ctl_program.specs.declared.types.Ty.TheVariants.{Record}
 use Rattle.ctl_program.specs.declared.types.Root.{Root}
+use Rattle.ctl_program.specs.declared.expression.Expr.{Expr}
 use Rattle.ctl_program.specs.declared.types.Root.TheVariants.{BlockPool, Controlled, MarkPool, Untagged}
 use Rattle.ctl_program.specs.declared.types.Component.{Component}
 use Rattle.ctl_program.specs.declared.types.RecordType.{RecordType}
@@ -15,14 +16,14 @@ use Rattle.ctl_program.specs.Limits.{least_record_size, scalar_size, tag_size}
 use Rattle.ctl_meaning.specs.Types.{Tables, as_record_size, cells_of, is_tagged_root, offset_in, placed, root_in, size_of, total}
 use Rattle.ctl_code.specs.declared.code.Begun.{Begun}
 use Rattle.ctl_code.specs.declared.code.Initial.{Initial}
-use Rattle.ctl_code.specs.declared.code.Initial.TheVariants.{Constant, ByType}
+use Rattle.ctl_code.specs.declared.code.Initial.TheVariants.{Constant, ByType, Computed}
 use Rattle.ctl_code.specs.declared.code.Layout.{Layout}
 use Rattle.ctl_code.specs.Table as Table
 use Rattle.ctl_code.specs.Table.{has_part}
 use Rattle.ctl_code.specs.Valid.{PositionsRise}
 use Rattle.ctl_layout.specs.Layout.{AreLayouts, IsLayout, cells_by, content_in, next_position, offsets_from, offsets_in, parent_layout, tag_of, units_by}
-use Rattle.ctl_layout.specs.Records.{is_laid}
-use Rattle.ctl_layout.specs.Defaults.{begun_before, begun_from, by_type, constant_of, finalized_by, initial_by, initial_of, is_begun, is_finalized_by, type_if}
+use Rattle.ctl_layout.specs.Records.{is_laid, run_default}
+use Rattle.ctl_layout.specs.Defaults.{begun_before, begun_from, by_type, constant_at, finalized_by, initial_by, initial_in, initial_of, is_begun, is_finalized_by, type_if}
 use Rattle.ctl_layout.proofs.Extensions.{HasComponents, extends_none, extends_one, get_behind, get_front, same_components}
 use Rattle.ctl_gen.proofs.Depths.{scalar_of_record, size_laid, tag_units, total_alike}
 use Rattle.ctl_gen.proofs.Known.{AreParts, Extends, IsLaid, IsPart, IsScalar, extends_if, laid_if, part_laid}
@@ -47,7 +48,7 @@ module _ (size : Ty → ℕ) where
       let same : n + size c.ty + total size cs ≡ n + (size c.ty + total size cs) = omega arith in
       ap (λ is. n ∷ is) (offsets_both (n + size c.ty) cs ds ∙ ap (λ i. offsets_from size (n + size c.ty) cs ++ offsets_from size i ds) same)
 
-  offsets_length : (n : ℕ) (cs : List Component) → length (offsets_from size n cs) ≡ length cs
+  pub offsets_length : (n : ℕ) (cs : List Component) → length (offsets_from size n cs) ≡ length cs
   offsets_length n [] = refl
   offsets_length n (c ∷ cs) = ap suc (offsets_length (n + size c.ty) cs)
 
@@ -174,6 +175,7 @@ layout_type ys (z ∷ xs) (r ∷ rs) h (suc i) x at = layout_type (ys ++ z ∷ [
 abbrev pub StandsBefore : ℕ → Initial → Type 0
 StandsBefore t (Constant n) = Unit {0}
 StandsBefore t (ByType u) = u < t
+StandsBefore t Computed = Unit {0}
 
 abbrev pub StandBefore : ℕ → List Begun → Type 0
 StandBefore t [] = Unit {0}
@@ -186,6 +188,7 @@ stand_later s t (x ∷ xs) lt h = (by x.initial h.0, stand_later s t xs lt h.1)
     by : (i : Initial) → StandsBefore s i → StandsBefore t i
     by (Constant n) g = tt
     by (ByType u) g = omega (arith, g, lt)
+    by Computed g = tt
 
 stand_both : (t : ℕ) (xs ys : List Begun) → StandBefore t xs → StandBefore t ys → StandBefore t (xs ++ ys)
 stand_both t [] ys h g = g
@@ -215,11 +218,15 @@ by_type_stands layouts (TyOf.Access a) = tt
 by_type_stands layouts (Record u) = type_stands layouts u (is_begun (slice_get layouts u)) refl
 
 initial_stands : (layouts : List Layout) (c : Component) → Perhaps (StandsBefore (length layouts)) (initial_of layouts c)
-initial_stands layouts c = by (constant_of c)
+initial_stands layouts c = by (run_default c)
   where
-    by : (o : Option ℕ) → Perhaps (StandsBefore (length layouts)) (initial_by o (by_type layouts c.ty))
+    given : (o : Option ℕ) → StandsBefore (length layouts) (initial_in o)
+    given None = tt
+    given (Some n) = tt
+
+    by : (o : Option Expr) → Perhaps (StandsBefore (length layouts)) (initial_by o (by_type layouts c.ty))
     by None = by_type_stands layouts c.ty
-    by (Some n) = tt
+    by (Some e) = given (constant_at e)
 
 stand_first : (t p n : ℕ) (o : Option Initial) (xs : List Begun) → Perhaps (StandsBefore t) o → StandBefore t xs → StandBefore t (begun_before p n o xs)
 stand_first t p n None xs h g = g
@@ -267,6 +274,7 @@ finalized_alike before layouts t same (x ∷ xs) h =
     by : (i : Initial) → StandsBefore t i → is_finalized_by before i ≡ is_finalized_by layouts i
     by (Constant n) g = refl
     by (ByType u) g = ap (λ o. has_part (Table.parts_in o)) (sym (same u g))
+    by Computed g = refl
 
 -- Sizes -------------------------------------------------------------------------------------------
 
@@ -509,7 +517,7 @@ module _ (k : Tables) (xs : List Layout) (laid : AreLayouts [] xs k.records) whe
       behind_those ds sized has =
           subst (λ o. IsSized k xs o cs) (sym x.there)
           (subst (IsSized k xs (Some x.layout)) (same_components k.records t (ds ++ r.own) cs has is.has)
-          (sized_behind k xs t x.before r x.layout ds each (λ c part. ap (initial_by (constant_of c)) (alike c part)) extends.parts x.is sized))
+          (sized_behind k xs t x.before r x.layout ds each (λ c part. ap (initial_by (run_default c)) (alike c part)) extends.parts x.is sized))
 
       by : (r.parent ≡ None) ⊎ ((p : ℕ) × (r.parent ≡ Some p) × (p < t) × (is_laid k.records p ≡ true)) → IsSized k xs (slice_get xs t) cs
       by (inl none) = behind_those [] (subst (λ o. IsSized k xs (parent_layout x.before o) []) (sym none) (nothing_inherited k xs)) (extends_none k.records t r here none)

@@ -1,5 +1,6 @@
 pub mod Layouts
 pub mod FirstComponent
+pub mod FirstLines
 pub mod GivenValue
 pub mod Depths
 pub mod Known
@@ -18,6 +19,12 @@ pub mod Components
 pub mod Worth
 pub mod Expressions
 pub mod Each
+pub mod Entered
+pub mod DefaultRows
+pub mod Given
+pub mod Evaluation
+pub mod DefaultsLaid
+pub mod DefaultsAlike
 pub mod Collections
 pub mod Worlds
 pub mod Scopes
@@ -94,8 +101,11 @@ pub mod EmittedParts
 pub mod EmittedTexts
 pub mod EmittedStatements
 pub mod EmittedCalls
+pub mod EmittedDefaults
 pub mod EmittedStorage
 pub mod EmittedLoops
 pub mod EmittedArms
 pub mod EmittedHandlers
 pub mod EmittedBodies
+pub mod SeenAlike
+pub mod FormedDefaults

@@ -2,6 +2,8 @@
 -- how, and which have a controlled part (3.8, 7.6).
 use Rattle.std.proofs.Common.{◌≡◌, ℕ, zero, suc, ◌+◌, ◌<◌, List, [], ◌∷◌, length, Bool, true, false, refl, sym, ap, ◌∙◌, subst, arith}
 use Rattle.std.specs.Prelude.{slice_get, Some, if◌then◌else◌}
+use Rattle.ctl_program.specs.declared.expression.Expr.{Expr}
+use Rattle.ctl_program.specs.declared.types.Ty.{Ty}
 use Rattle.ctl_program.specs.declared.types.Ty.TheVariants.{Record}
 use Rattle.ctl_program.specs.declared.types.Component.{Component}
 use Rattle.ctl_program.specs.declared.types.RecordType.{RecordType}
@@ -14,12 +16,13 @@ use Rattle.ctl_meaning.specs.Finalization.{Spot, component_at}
 use Rattle.ctl_code.specs.declared.code.Begun.{Begun}
 use Rattle.ctl_code.specs.declared.code.Code.{Code}
 use Rattle.ctl_code.specs.declared.code.Initial.{Initial}
-use Rattle.ctl_code.specs.declared.code.Initial.TheVariants.{Constant, ByType}
+use Rattle.ctl_code.specs.declared.code.Initial.TheVariants.{Constant, ByType, Computed}
 use Rattle.ctl_code.specs.declared.code.Parts.{Parts}
 use Rattle.ctl_code.specs.declared.code.Parts.TheVariants.{Controlled}
 use Rattle.ctl_code.specs.Table.{begun_of, component_of, controlled_of, has_part, parts_of}
 use Rattle.ctl_layout.specs.Defaults.{constant_of}
-use Rattle.ctl_gen.proofs.Known.{IsPlain, IsPlainType, IsScalar}
+use Rattle.ctl_layout.specs.Layout.{computed}
+use Rattle.ctl_gen.proofs.Known.{IsLaid, IsPlain, IsPlainType, IsScalar}
 
 -- Defaults ----------------------------------------------------------------------------------------
 
@@ -32,9 +35,22 @@ GivesDefaults k default = (t : ℕ) (r : RecordType) → slice_get k.records t �
 
 -- Components that begin with something ------------------------------------------------------------
 
--- by a constant, which is its default, or by its own record type, which stands before this one in the table and is run
+-- a default that is no constant: that of the component at a position of a type
+pub record IsComputed (k : Tables) (t position : ℕ) (ty : Ty) : Type 0 where
+  pub components : List Component
+  pub laid : IsLaid k.records t components
+  pub index : ℕ
+  pub component : Component
+  pub there : slice_get components index ≡ Some component
+  pub place : position ≡ index + 1
+  pub expression : Expr
+  pub is : computed component ≡ Some expression
+  pub of : component.ty ≡ ty
+
+-- by a constant, which is its default, or by its value, or by its own record type, which stands before this one in the table and is run
 abbrev pub BeginsBy : Tables → Default → ℕ → Placed → Initial → Type 0
 BeginsBy k default t p (Constant v) = (p.defaulted ≡ true) × IsScalar p.ty × GivesConstant default t p.position v
+BeginsBy k default t p Computed = (p.defaulted ≡ true) × IsScalar p.ty × IsComputed k t p.position p.ty
 BeginsBy k default t p (ByType u) = (p.defaulted ≡ false) × (p.ty ≡ Record u) × (u < t) × IsPlainType k (Record u)
 
 pub record Begins (k : Tables) (default : Default) (t : ℕ) (p : Placed) (x : Begun) : Type 0 where

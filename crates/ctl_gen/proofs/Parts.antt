@@ -31,8 +31,8 @@ use Rattle.ctl_code.specs.declared.kinds.Kind.{Kind}
 use Rattle.ctl_code.specs.States.{Word, Scalar, Located, Cells, Frame, State, object_of, whole_spot}
 use Rattle.ctl_code.specs.Steps.{moved, step}
 use Rattle.ctl_code.specs.Table.{by_locate, component_in, component_of, designated, fetch_from, fetched, offset_of, word_of}
-use Rattle.ctl_code.specs.Windows.{depth, height}
-use Rattle.ctl_layout.specs.Around.{local_at, new_operand, out_to}
+use Rattle.ctl_code.specs.Windows.{height}
+use Rattle.ctl_layout.specs.Around.{local_at, new_operand}
 use Rattle.ctl_layout.specs.Parts.{Start, OfVariable, OfValue, OfRecord, Reached, Variable, Part, Object, Result as ResultOf, access_value, any_type, are_followed, are_walked, first_position, first_type, located_code, onward_code, part_runs, parts_run, selectors_run}
 use Rattle.ctl_layout.specs.Values.{ValueCode, given, given_by as start_by, reached_by, value_code}
 use Rattle.ctl_layout.proofs.TreeLayers.{reached_roll}
@@ -40,7 +40,8 @@ use Rattle.ctl_gen.proofs.Known.{both_true}
 use Rattle.ctl_gen.proofs.Walked.{AreSome, IsLed, behind_is, start_of, steps_before, steps_of}
 use Rattle.ctl_gen.proofs.Place.{Laid}
 use Rattle.ctl_gen.proofs.Setting.{ArePlaced}
-use Rattle.ctl_gen.proofs.Cells.{by_code, here, landed, out_is, value_of}
+use Rattle.ctl_gen.proofs.Entered.{IsAsLong}
+use Rattle.ctl_gen.proofs.Cells.{by_code, here, landed, value_of}
 use Rattle.ctl_gen.proofs.Expressions.{read_step}
 use Rattle.ctl_gen.proofs.Follow.{RunsTo, added_to, at, bind_add, one_step_to, stop_step_to, transferred}
 
@@ -459,13 +460,12 @@ module _ (ask : Ask) (code : Code) (K : Tools) where
     selects b h steps t s p place = selects_in (length steps) b h steps t s p place (omega arith)
 
     -- from a variable of a record type
-    object_from : (b h : ℕ) (v : Var) (steps : List Step) (first t : ℕ) (s : List Kind) (place : ℕ) → are_walked steps ≡ true → Agree K.tables code steps → length d ≡ depth s → slice_get code.instructions.items place ≡ Some (InstrOf.Locate (out_to s v) v.slot first (height s)) → Laid code (place + 1) (onward_code steps t s) → Puts b h (place + 1 + length (onward_code steps t s)) → Raises b h → Meets b h (at d place ks ops l w) (variable_as K Composite steps v d c l w)
+    object_from : (b h : ℕ) (v : Var) (steps : List Step) (first t : ℕ) (s : List Kind) (place : ℕ) → are_walked steps ≡ true → Agree K.tables code steps → slice_get code.instructions.items place ≡ Some (InstrOf.Locate v first (height s)) → Laid code (place + 1) (onward_code steps t s) → Puts b h (place + 1 + length (onward_code steps t s)) → Raises b h → Meets b h (at d place ks ops l w) (variable_as K Composite steps v d c l w)
     unfolding opened_outcome
-    object_from b h v steps first t s place walked agree long has rest then raises =
+    object_from b h v steps first t s place walked agree has rest then raises =
         subst (Meets b h (at d place ks ops l w)) (sym (finds_composite K v steps d c l w))
         (by (held (content_of d v w))
-        (by_code ask code d place ks ops l w (InstrOf.Locate (out_to s v) v.slot first (height s)) has
-        ∙ ap (λ m. moved l (by_locate (word_of (slot_at m v.slot w).content) ops (here d place ks w))) (out_is d s v long)
+        (by_code ask code d place ks ops l w (InstrOf.Locate v first (height s)) has
         ∙ ap (λ o. moved l (by_locate o ops (here d place ks w))) (held_word (content_of d v w))))
       where
         by : (o : Option RecordOperand) → step ask code (at d place ks ops l w) ≡ moved l (by_locate (option_map word o) ops (here d place ks w)) → Meets b h (at d place ks ops l w) (bind (object_found o c l w) (on_goes (walk K steps)))
@@ -478,19 +478,19 @@ module _ (ask : Ask) (code : Code) (K : Tools) where
             (selects b h steps t s p (place + 1) walked agree rest then raises)))
 
     -- what finds a part behind a variable, and what follows it: each instruction is paid by the tick of its step of the name
-    pub variable_from : (b h : ℕ) (v : Var) (steps : List Step) (t : ℕ) (s : List Kind) (place : ℕ) → are_walked steps ≡ true → Agree K.tables code steps → length d ≡ depth s → Laid code place (located_code (OfVariable v) steps t s) → Puts b h (place + length (located_code (OfVariable v) steps t s)) → Raises b h → Meets b h (at d place ks ops l w) (variable_by K steps v d c l w)
+    pub variable_from : (b h : ℕ) (v : Var) (steps : List Step) (t : ℕ) (s : List Kind) (place : ℕ) → are_walked steps ≡ true → Agree K.tables code steps → IsAsLong d s → Laid code place (located_code (OfVariable v) steps t s) → Puts b h (place + length (located_code (OfVariable v) steps t s)) → Raises b h → Meets b h (at d place ks ops l w) (variable_by K steps v d c l w)
     unfolding begins_as
     variable_from b h v [] t s place walked agree long has then raises =
         let e : place + 1 ≡ place + 1 + 0 = omega arith in
-        object_from b h v [] t t s place refl tt long has.0 has.2 (subst (Puts b h) e then) raises
+        object_from b h v [] t t s place refl tt has.0 has.2 (subst (Puts b h) e then) raises
     variable_from b h v (Component u i ∷ steps) t s place walked agree long has then raises =
         let all = Component u i ∷ steps in
         let e : place + length (located_code (OfVariable v) all t s) ≡ place + 1 + length (onward_code all t s) = omega arith in
-        object_from b h v all u t s place walked agree long has.0 has.2 (subst (Puts b h) e then) raises
+        object_from b h v all u t s place walked agree has.0 has.2 (subst (Puts b h) e then) raises
     variable_from b h v (Dereference ∷ steps) t s place walked agree long has then raises =
         let s0 = at d place ks ops l w in
         let e : place + length (located_code (OfVariable v) (Dereference ∷ steps) t s) ≡ place + 1 + 1 + length (onward_code steps t s) = omega arith in
         subst (Meets b h s0) (sym (reads_variable K v steps d c l w))
-        (reads_access b h (value_of d v w) (first_type steps t) (height s) (place + 1) s0 (walk K steps) (read_step ask K.tables code 0 w (local_at s v) v access_value (new_operand s) s d place ks ops l w long has.0 ∙ on_top (value_of d v w) d (place + 1) ks ops l w) has.2.0
+        (reads_access b h (value_of d v w) (first_type steps t) (height s) (place + 1) s0 (walk K steps) (read_step ask K.tables code 0 w (local_at s v) v access_value (new_operand s) s d place ks ops l w refl long has.0 ∙ on_top (value_of d v w) d (place + 1) ks ops l w) has.2.0
         (λ m. selects b h steps t s (OfObject (whole_spot m)) (place + 1 + 1) walked agree.1 has.2.2 (subst (Puts b h) e then) raises) raises)
     variable_from b h v (Narrow u ∷ steps) t s place walked agree long has then raises = absurd (cc walked)

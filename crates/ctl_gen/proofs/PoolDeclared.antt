@@ -1,6 +1,6 @@
 -- The declaration of a block pool: its discriminants are evaluated, and where they are good its object is created and the pool is open from
 -- then on; where the creation raises it closes (3.3.1, 3.7.1, 13.11).
-use Rattle.std.proofs.Common.{◌≡◌, ℕ, zero, suc, ◌+◌, ◌≤◌, List, [], ◌∷◌, ◌++◌, length, Option, Some, None, Bool, true, false, refl, sym, ap, ◌∙◌, subst, arith, length-append}
+use Rattle.std.proofs.Common.{◌≡◌, ℕ, zero, suc, ◌+◌, ◌<◌, ◌≤◌, List, [], ◌∷◌, ◌++◌, length, Option, Some, None, Bool, true, false, refl, sym, ap, ◌∙◌, subst, arith, length-append}
 use Rattle.std.specs.Prelude.{slice_get, nat_eq, replicate, if◌then◌else◌}
 use Rattle.std.proofs.lemmas.Option.{slice_get_within}
 use Rattle.ctl_program.specs.declared.types.Ty.TheVariants.{Count, Record}
@@ -12,7 +12,7 @@ use Rattle.ctl_tree.specs.declared.event.Owner.TheVariants as OwnerOf
 use Rattle.ctl_meaning.specs.World.{Object, Declared, Single, Holds, holding, Log, World}
 use Rattle.ctl_meaning.specs.Lists.{last_of, opened_lists}
 use Rattle.ctl_meaning.specs.Pools.{push_block_pool}
-use Rattle.ctl_meaning.specs.Changes.{object_at, create, set_slot, add_layer, close_pool_at, in_pools, owner_of, opened_changes}
+use Rattle.ctl_meaning.specs.Changes.{object_at, new_object, create, home_of, set_slot, add_layer, close_pool_at, in_pools, owner_of, opened_changes}
 use Rattle.ctl_meaning.specs.Choice.{Ask, picked}
 use Rattle.ctl_meaning.specs.Outcome.{constraint_error, ByRaise, Result, Goes, Leaves, Out, Gives, Stops, Cut, Act, Done, Fine, add, bind, on_goes, ◌>>=◌, ◌>>◌, done, nothing, raise, change, look, told, either, on_some, attempt, opened_outcome}
 use Rattle.ctl_meaning.specs.Types.{Tables, begin_cells, depth, of_record, root_in, root_of}
@@ -41,9 +41,9 @@ use Rattle.ctl_layout.specs.Records.{descends_from_pool, is_block_pool}
 use Rattle.ctl_layout.specs.Values.{ValueCode}
 use Rattle.ctl_layout.specs.Layout.{order_of, pool_code, with_discriminants}
 use Rattle.ctl_gen.proofs.Known.{IsPlain}
-use Rattle.ctl_gen.proofs.Parted.{GivesDefaults}
+use Rattle.ctl_gen.proofs.Given.{GivesEach}
 use Rattle.ctl_gen.proofs.Worlds.{Since, Kept, keeps_itself, since_closed, since_layer, since_on, since_pools}
-use Rattle.ctl_gen.proofs.CreatedParts.{IsAround, new_part, parts_run, at_once_is}
+use Rattle.ctl_gen.proofs.CreatedParts.{IsAround, IsBornAmong, declared_among, new_part, parts_run, at_once_is}
 use Rattle.ctl_gen.proofs.Setting.{Setting, tools_with, returns, Told, Sees, Calls, seen}
 use Rattle.ctl_gen.proofs.Cells.{Any, by_code, here, landed}
 use Rattle.ctl_gen.proofs.Worth.{both_cell}
@@ -98,7 +98,7 @@ pub root_is : (k : Tables) (t : ℕ) (r : RecordType) → slice_get k.records t 
 unfolding root_of root_in
 root_is k t r here e = ap root_in here ∙ is_root r.root (sym (ap descends_from_pool here) ∙ e)
 
-module _ (ask : Ask) (k : Tables) (code : Code) (setting : Setting k code) (call : Call) (default : Default) (constants : GivesDefaults k default) (t : ℕ) (r : RecordType) (record_is : slice_get k.records t ≡ Some r) (plain : IsPlain k t r) (rooted : root_of k t ≡ RootOf.BlockPool) where
+module _ (ask : Ask) (k : Tables) (code : Code) (setting : Setting k code) (call : Call) (default : Default) (defaults : GivesEach ask k code setting call default) (t : ℕ) (r : RecordType) (record_is : slice_get k.records t ≡ Some r) (plain : IsPlain k t r) (rooted : root_of k t ≡ RootOf.BlockPool) where
   abbrev K : Tools
   K = tools_with ask k call default
 
@@ -170,13 +170,17 @@ module _ (ask : Ask) (k : Tables) (code : Code) (setting : Setting k code) (call
   opened_fits : (slot : ℕ) (size : ℕ × ℕ) (s : List Kind) (w0 : World) (d : List ℕ) (w : World) → IsDeclarable code (length d) t → Since k code w0 w → Sees d s w0 → Since k code w0 (with_pool code d slot t size w)
   unfolding push_block_pool
   opened_fits slot size s w0 d w declarable fits sees =
-      let object = D.created_fits ask k code setting call default constants t r record_is plain slot s w0 d w declarable fits sees in
+      let object = D.created_fits ask k code setting call default defaults t r record_is plain slot s w0 d w declarable fits sees in
       since_pools k code (push_block_pool w.ledger.next_object size.0 size.1) w0 (with_object code d slot t w) object.0.mark_pools object
+
+  opened_there : (slot : ℕ) (size : ℕ × ℕ) (w0 : World) (d : List ℕ) (w : World) → Since k code w0 w → object_at w.ledger.next_object (with_pool code d slot t size w) ≡ Some (new_object w.ledger.next_object (Record t) (replicate (size_of code t) 0) (Declared (last_of d)))
+  unfolding opened_changes
+  opened_there slot size w0 d w fits = D.created_there ask k code setting call default defaults t r record_is plain slot w0 d w fits
 
   -- its object is there, and its type is declared around its operations
   opened_around : (slot : ℕ) (size : ℕ × ℕ) (s : List Kind) (w0 : World) (d : List ℕ) (w : World) → IsDeclarable code (length d) t → Since k code w0 w → Sees d s w0 → IsAround code w.ledger.next_object t (with_pool code d slot t size w)
   unfolding opened_changes
-  opened_around slot size s w0 d w declarable fits sees = D.created_around ask k code setting call default constants t r record_is plain slot w0 d w fits (D.created_fits ask k code setting call default constants t r record_is plain slot s w0 d w declarable fits sees)
+  opened_around slot size s w0 d w declarable fits sees = D.created_around ask k code setting call default defaults t r record_is plain slot w0 d w fits (D.created_fits ask k code setting call default defaults t r record_is plain slot s w0 d w declarable fits sees)
 
   -- What its code does ----------------------------------------------------------------------------------
 
@@ -227,6 +231,12 @@ module _ (ask : Ask) (k : Tables) (code : Code) (setting : Setting k code) (call
         fits1 : Since k code w0 w1
         fits1 = opened_fits slot size s w0 d w declarable fits sees
 
+        -- its defaults are evaluated where it is declared
+        among : IsBornAmong (birth_of (Declared m) w) (home_of (opened_around slot size s w0 d w declarable fits sees).0.origin w1) (Creating ByPoolDeclaration n t p ∷ ks) w1
+        among =
+            let old : last_of d < w1.ledger.next_master = omega (arith, sees.old, fits1.1.later) in
+            declared_among code ByPoolDeclaration n t p ks _ w w1 (opened_around slot size s w0 d w declarable fits sees) (opened_there slot size w0 d w fits) (D.new_origin n (Record t) (replicate (size_of code t) 0) (Declared m)) (fits.1.homes (last_of d) sees.old ∙ sees.home) old (fits1.1.homes (last_of d) sees.old ∙ sees.home)
+
         -- where something is executed for its creation
         creates : step ask code s0 ≡ moved l (Table.begin_part code (new_part (whole_spot n) t (OwnerOf.Master m)) (Creating ByPoolDeclaration n t p ∷ ks) w1) → Runs ask code (Kept k code w0) 5 7 s0 c next (bind (begins n m w c l w1) (stands n m))
         creates go =
@@ -234,14 +244,14 @@ module _ (ask : Ask) (k : Tables) (code : Code) (setting : Setting k code) (call
             let s1 = gives (Filling (new_part (whole_spot n) t (OwnerOf.Master m)) (begun_of code t) (begun_of code t) ∷ mid) (Fine Complete) l w1 in
             one_step ask code (Kept k code w0) 4 6 5 7 s0 s1 c c next (bind (begins n m w c l w1) (stands n m)) (omega arith) (omega arith) (omega arith) (omega arith) go
             (both ask code (Told k code w1) (Kept k code w0) 3 3 1 3 4 6 s1 c (returns mid) next (begins n m w c l w1) (stands n m) (omega arith) (omega arith) (omega arith)
-            (parts_run ask k code setting call default constants bound calls (suc (length k.records)) t (let within = slice_get_within k.records t r record_is in omega (arith, within)) (r, record_is, plain) (whole_spot n) (OwnerOf.Master m) (birth_of (Declared m) w) refl w1 fits1.0 (opened_around slot size s w0 d w declarable fits sees) mid c l w1 le (fits1.0, keeps_itself k code w1))
+            (parts_run ask k code setting call default defaults bound calls (suc (length k.records)) t (let within = slice_get_within k.records t r record_is in omega (arith, within)) (r, record_is, plain) (whole_spot n) (OwnerOf.Master m) (birth_of (Declared m) w) refl w1 fits1.0 (opened_around slot size s w0 d w declarable fits sees) mid among c l w1 le (fits1.0, keeps_itself k code w1))
             (λ x c1 l1 w2 lo told1. stands_runs w0 w1 n e p ks fits1 x c1 l1 w2 told1))
 
         by : (once : Bool) → is_made_at_once (parts_of code t) (begun_of code t) ≡ once
             → step ask code s0 ≡ moved l (if once then come_to_life ByPoolDeclaration n (object_at n w1) p ks w1 else Table.begin_part code (new_part (whole_spot n) t (OwnerOf.Master m)) (Creating ByPoolDeclaration n t p ∷ ks) w1)
             → Runs ask code (Kept k code w0) 5 7 s0 c next (bind (begins n m w c l w1) (stands n m))
         by true is go =
-            subst (λ o. Runs ask code (Kept k code w0) 5 7 s0 c next (bind o (stands n m))) (sym (at_once_is ask k code setting call default constants bound calls (length k.records) (birth_of (Declared m) w) (whole_spot n) t c l w1 (r, record_is, plain) is))
+            subst (λ o. Runs ask code (Kept k code w0) 5 7 s0 c next (bind o (stands n m))) (sym (at_once_is ask k code setting call default defaults bound calls (length k.records) (birth_of (Declared m) w) (whole_spot n) t c l w1 (r, record_is, plain) is))
             (added ask code (Kept k code w0) 0 1 3 5 7 s0 c next (stands n m (Goes tt) c l w1) (omega arith) (omega arith) (lives_on w0 n e p ks s0 c l w1 fits1 go))
         by false is go = creates go
 

@@ -8,6 +8,7 @@ use Rattle.ctl_program.specs.declared.expression.Name.{Name}
 use Rattle.ctl_program.specs.declared.expression.Operand.{Operand}
 use Rattle.ctl_program.specs.declared.types.Component.{Component}
 use Rattle.ctl_program.specs.declared.types.RecordType.{RecordType}
+use Rattle.ctl_meaning.specs.World.{Log, World}
 use Rattle.ctl_meaning.specs.Lists.{item_or}
 use Rattle.ctl_meaning.specs.Choice.{Ask}
 use Rattle.ctl_meaning.specs.Outcome.{Goes, Gives, on_some, opened_outcome}
@@ -17,6 +18,7 @@ use Rattle.ctl_meaning.specs.Expressions.{Valued, eval, eval_step}
 use Rattle.ctl_meaning.proofs.Trees.{eval_roll}
 use Rattle.ctl_meaning.specs.Run.{Meaning, row_of, own_defaults, defaults_from, default_at, default_in, expression_tools}
 use Rattle.ctl_layout.specs.Records.{all_components, component_rows, constant_at, constant_in, constant_layer, inherited, none_if_absent, rows_by}
+use Rattle.ctl_gen.proofs.Known.{IsLaid}
 use Rattle.ctl_gen.proofs.Parted.{GivesDefaults}
 
 -- Rows ------------------------------------------------------------------------------------------
@@ -99,3 +101,18 @@ module _ (ask : Ask) (p : Meaning) (call : Call) (rows : p.defaults ≡ defaults
       by : (o : Option Expr) → constant_in o ≡ Some n → on_some (option_map eval o) gone (λ (e : Valued). e (expression_tools ask p call) env) c l w ≡ Gives (Goes (n ∷ [])) 1 c l w
       by None e = absurd (cc)
       by (Some y) e = ap (λ (m : Valued). m (expression_tools ask p call) env c l w) (constant_means y n e)
+
+  -- the default of each component is the value of its expression
+  pub default_means : (t : ℕ) (cs : List Component) → IsLaid p.tables.records t cs → (i : ℕ) (x : Component) (y : Expr) → slice_get cs i ≡ Some x → x.default ≡ Some y → (env : List ℕ) (c : ℕ) (l : Log) (w : World) → default_in p.defaults (expression_tools ask p call) t (i + 1) env c l w ≡ eval y (expression_tools ask p call) env c l w
+  unfolding default_in default_at item_or opened_outcome
+  default_means t cs laid i x y here is env c l w =
+      ap (λ o. on_some (item_or None (slice_get o (i + 1 - 1))) gone (λ (e : Valued). e (expression_tools ask p call) env) c l w) row
+      ∙ (ap (λ j. on_some (item_or None (slice_get (defaults_in cs) j)) gone (λ (e : Valued). e (expression_tools ask p call) env) c l w) back
+      ∙ (ap (λ o. on_some (item_or None o) gone (λ (e : Valued). e (expression_tools ask p call) env) c l w) (default_of cs i x here)
+      ∙ ap (λ o. on_some (option_map eval o) gone (λ (e : Valued). e (expression_tools ask p call) env) c l w) is))
+    where
+      row : row_of p.defaults t ≡ defaults_in cs
+      row = ap (λ z. row_of z t) (rows ∙ all_rows [] p.tables.records) ∙ (row_in (component_rows p.tables.records) t ∙ ap (λ o. defaults_in (none_if_absent o)) laid.has.row)
+
+      back : i + 1 - 1 ≡ i
+      back = omega arith

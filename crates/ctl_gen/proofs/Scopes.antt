@@ -11,7 +11,7 @@ use Rattle.ctl_meaning.specs.Changes.{object_at, home_of}
 use Rattle.ctl_meaning.specs.Types.{Tables}
 use Rattle.ctl_code.specs.declared.code.Begun.{Begun}
 use Rattle.ctl_code.specs.declared.code.Initial.{Initial}
-use Rattle.ctl_code.specs.declared.code.Initial.TheVariants.{Constant, ByType}
+use Rattle.ctl_code.specs.declared.code.Initial.TheVariants.{Constant, ByType, Computed}
 use Rattle.ctl_code.specs.declared.code.Layout.{Layout}
 use Rattle.ctl_code.specs.declared.code.Operations.{Operations}
 use Rattle.ctl_code.specs.declared.code.Code.{Code}
@@ -37,6 +37,7 @@ declarable_later code a b t le h = by (slice_get code.layouts.items t) h
 
 begun_by_later : (code : Code) (a b : ℕ) (x : Initial) → a ≤ b → IsBegunBy code a x → IsBegunBy code b x
 begun_by_later code a b (Constant v) le h = tt
+begun_by_later code a b Computed le h = tt
 begun_by_later code a b (ByType u) le h = declarable_later code a b u le h
 
 begun_later : (code : Code) (a b : ℕ) (xs : List Begun) → a ≤ b → AreBegunBy code a xs → AreBegunBy code b xs

@@ -1,6 +1,6 @@
 -- What the simulation of each construct stands on: the tables agree, and bodies behave when they are called.
 use Rattle.std.proofs.Common.{◌≡◌, ℕ, ◌+◌, ◌<◌, ◌≤◌, List, [], ◌∷◌, length, Option, Some, None, true, refl, ◌∙◌, subst, arith}
-use Rattle.std.specs.Prelude.{slice_get, option_map}
+use Rattle.std.specs.Prelude.{slice_get, option_map, take}
 use Rattle.ctl_program.specs.declared.program.Subprogram.{Subprogram}
 use Rattle.ctl_program.specs.declared.types.Ty.{Ty}
 use Rattle.ctl_program.specs.declared.types.Ty.TheVariants.{Record}
@@ -24,17 +24,20 @@ use Rattle.ctl_code.specs.declared.code.Instr.TheVariants as InstrOf
 use Rattle.ctl_code.specs.declared.code.Code.{Code}
 use Rattle.ctl_code.specs.declared.kinds.Kind.{Kind}
 use Rattle.ctl_code.specs.States.{Move, Word, Scalar, Handed, Complete, After, AfterBlock, AfterProcedure, AfterFunction, AfterBody, Frame, State}
-use Rattle.ctl_code.specs.Table.{Here, by_new, called_among, enter_body, given, new_with, offset_of, operation_of, or_complete, pool_in, set_seen, size_of, units_of, with_values}
+use Rattle.ctl_code.specs.Table.{Here, by_new, called_among, default_of, enter_body, given, new_with, offset_of, operation_of, or_complete, pool_in, set_seen, size_of, units_of, with_values}
 use Rattle.ctl_code.specs.Steps.{moved, step}
-use Rattle.ctl_code.specs.Valid.{IsValid, MayLie, kinds_at}
+use Rattle.ctl_code.specs.Valid.{IsDeclarable, IsValid, MayLie, kinds_at}
 use Rattle.ctl_code.specs.Windows.{depth}
 use Rattle.ctl_layout.specs.Parts.{first_position}
 use Rattle.ctl_layout.specs.Records.{adjust_by, is_laid}
-use Rattle.ctl_layout.specs.Layout.{home_of}
+use Rattle.ctl_layout.specs.Layout.{evaluation, home_of}
 use Rattle.ctl_layout.specs.Run.{IsBody}
+use Rattle.ctl_layout.specs.Values.{ValueCode, value_code}
 use Rattle.ctl_gen.proofs.Known.{IsPlainType, IsScalar}
-use Rattle.ctl_gen.proofs.Parted.{Agree, GivesDefaults}
+use Rattle.ctl_gen.proofs.Parted.{Agree, GivesDefaults, IsComputed}
+use Rattle.ctl_gen.proofs.Place.{Laid}
 use Rattle.ctl_gen.proofs.Each.{Each}
+use Rattle.ctl_gen.proofs.Entered.{IsAsLong}
 use Rattle.ctl_gen.proofs.Collections.{home}
 use Rattle.ctl_gen.proofs.Worlds.{IsNested, IsPlainSlot, Since, home_nested}
 use Rattle.ctl_gen.proofs.Scopes.{IsCallable, IsSurrounded}
@@ -46,6 +49,13 @@ pub record ArePlaced (k : Tables) (code : Code) : Type 0 where
   pub each : (t position : ℕ) → is_laid k.records t ≡ true → offset_of code t position ≡ offset_in position (placed k t)
   pub first : (t : ℕ) → offset_of code t first_position ≡ 0
 
+-- the code of a default stands where the table says, and evaluates it inside of some of the masters around the type that has it (3.8)
+pub record HasDefault (code : Code) (t position : ℕ) (x : ValueCode) (ty : Ty) : Type 0 where
+  pub level : ℕ
+  pub number : ℕ
+  pub laid : Laid code (default_of code t position) (evaluation level number x ty)
+  pub around : (masters : ℕ) → IsDeclarable code masters t → level ≤ masters
+
 -- the machine's table names the operations and the components of the record types, the operations and all that have an entry are among
 -- these subprograms, and the code is well formed
 pub record Setting (k : Tables) (code : Code) : Type 0 where
@@ -56,6 +66,7 @@ pub record Setting (k : Tables) (code : Code) : Type 0 where
   -- an object takes as many storage units (13.3)
   pub units : (t : ℕ) → is_laid k.records t ≡ true → units_of code t ≡ storage_size k (Record t)
   pub agrees : (default : Default) → GivesDefaults k default → Agree k code default
+  pub defaults : (t position : ℕ) (ty : Ty) (x : IsComputed k t position ty) → HasDefault code t position (value_code x.expression) ty
   pub initialize : (t : ℕ) → operation_of (λ x. x.initialize) code t ≡ operation (λ x. x.initialize) k t
   pub adjust : (t : ℕ) (r : RecordType) → slice_get k.records t ≡ Some r → operation_of (λ x. x.adjust) code t ≡ adjust_by r.root r.operations.adjust
   pub finalize : (t : ℕ) → operation_of (λ x. x.finalize) code t ≡ operation (λ x. x.finalize) k t
@@ -93,10 +104,10 @@ pub record Sees (d : List ℕ) (s : List Kind) (w : World) : Type 0 where
 
 -- what expressions want of a display, whatever operands stand over the others
 abbrev pub IsSeen : World → List ℕ → List Kind → Type 0
-IsSeen w d s = (last_of d < w.ledger.next_master) × (home (last_of d) w.activations ≡ d) × (length d ≡ depth s)
+IsSeen w d s = (last_of d < w.ledger.next_master) × (home (last_of d) w.activations ≡ d) × IsAsLong d s
 
 pub seen : {w : World} {d : List ℕ} {s : List Kind} → Sees d s w → IsSeen w d s
-seen sees = (sees.old, sees.home, sees.long)
+seen sees = (sees.old, sees.home, (let long = sees.long in omega (arith, long), λ entered. sees.long))
 
 -- its masters are nested in one another, also since then
 pub seen_nested : (k : Tables) (code : Code) (d : List ℕ) (s : List Kind) (w0 w : World) → IsSeen w0 d s → Since k code w0 w → IsNested w d
@@ -105,9 +116,7 @@ seen_nested k code d s w0 w sees since = subst (IsNested w) (since.1.homes (last
 -- an assignment there is among so many masters
 pub seen_surrounds : (k : Tables) (code : Code) (d : List ℕ) (s : List Kind) (w0 : World) (n : ℕ) → IsSeen w0 d s → IsSurrounded k code (Some d) w0 (depth s) n
 seen_surrounds k code d s w0 n sees w o since at =
-    let long = sees.2 in
-    let masters : depth s ≤ length d = omega (arith, long) in
-    (masters, seen_nested k code d s w0 w sees since)
+    (sees.2.0, seen_nested k code d s w0 w sees since)
 
 -- what is handed on with no value, where nothing but an exception leaves
 abbrev pub told : {A : Type 0} → Result A → Tried Handed
@@ -164,9 +173,13 @@ abbrev pub made_value : Made → Option (List ℕ)
 made_value (ByDefault ty) = None
 made_value (Copied t v) = Some v
 
--- objects of a type may lie in the collection that an access type has where a display is seen, if one stands
+-- where an object is created whose operations are declared in these masters, they are the first of those that are seen there
+abbrev pub IsMadeAmong : List ℕ → List ℕ → World → Type 0
+IsMadeAmong outer d w = (last_of d < w.ledger.next_master) × (home (last_of d) w.activations ≡ d) × (length outer ≤ length d) × (outer ≡ take (length outer) d)
+
+-- objects of a type may lie in the collection that an access type has where a display is seen, if one stands, whose master is one of those seen
 abbrev pub MayAllocate : Code → ℕ → Ty → List ℕ → World → Type 0
-MayAllocate code access ty d w = (x : Collection) → set_seen (slice_get code.accesses.items access) d w ≡ Some x → MayLie code (length (home x.master w.activations)) ty
+MayAllocate code access ty d w = (x : Collection) → set_seen (slice_get code.accesses.items access) d w ≡ Some x → MayLie code (length (home x.master w.activations)) ty × IsMadeAmong (home x.master w.activations) d w
 
 -- that step, with storage of a pool
 abbrev pub by_allocator : Code → Made → Option Var → Option Collection → List Word → Here → Move

@@ -39,7 +39,7 @@ use Rattle.ctl_gen.proofs.Each.{Each}
 use Rattle.ctl_gen.proofs.Collections.{home}
 use Rattle.ctl_gen.proofs.Worlds.{IsNested, IsPlainSlot, plain_unset, Since, Kept, home_new, keeps_itself, keeps_on, keeps_open, fits_open}
 use Rattle.ctl_gen.proofs.Setting.{Setting, tools_with, Sees, Told, Calls, seen, seen_nested}
-use Rattle.ctl_gen.proofs.Parted.{GivesDefaults}
+use Rattle.ctl_gen.proofs.Given.{GivesEach}
 use Rattle.ctl_gen.proofs.Cells.{by_code}
 use Rattle.ctl_gen.proofs.Does.{Does, IsRunIn, both_run}
 use Rattle.ctl_gen.proofs.Declare.{declare_runs}
@@ -84,7 +84,7 @@ inside_master s = record { stack = s; landing = OutOfMaster }
 abbrev pub with_handlers : List Doing → List Guarding → Doing
 with_handlers body handlers j env caught = then_always (do_each j env caught body) (handled (handle j env handlers))
 
-module _ (ask : Ask) (k : Tables) (code : Code) (setting : Setting k code) (call : Names.Call) (default : Default) (constants : GivesDefaults k default) (bound : ℕ) (calls : Calls ask k code setting bound call) where
+module _ (ask : Ask) (k : Tables) (code : Code) (setting : Setting k code) (call : Names.Call) (default : Default) (defaults : GivesEach ask k code setting call default) (bound : ℕ) (calls : Calls ask k code setting bound call) where
   abbrev K : Tools
   K = tools_with ask k call default
 
@@ -115,7 +115,7 @@ module _ (ask : Ask) (k : Tables) (code : Code) (setting : Setting k code) (call
   unfolding object if_given category_of opened_outcome
   bare_object slot (Record t) runs a w0 d place ks ops c l w le fits sees has =
       let known = plain_if k t runs in
-      added ask code (Kept k code w0) 1 5 7 0 0 _ c (arrives (lands a place) d (place + 1) ks ops) _ (omega arith) (omega arith) (added ask code (Kept k code w0) 0 5 7 5 7 _ c (arrives (lands a place) d (place + 1) ks ops) _ (omega arith) (omega arith) (declare_runs ask k code setting call default constants t known.0 known.1 known.2 bound calls slot (lands a place) a.stack w0 d place ks ops c l w le fits sees has))
+      added ask code (Kept k code w0) 1 5 7 0 0 _ c (arrives (lands a place) d (place + 1) ks ops) _ (omega arith) (omega arith) (added ask code (Kept k code w0) 0 5 7 5 7 _ c (arrives (lands a place) d (place + 1) ks ops) _ (omega arith) (omega arith) (declare_runs ask k code setting call default defaults t known.0 known.1 known.2 bound calls slot (lands a place) a.stack w0 d place ks ops c l w le fits sees has))
   bare_object slot Integer runs a w0 d place ks ops c l w le fits sees has = scalar_runs ask k code setting.valid bound call default slot Integer tt a w0 d place ks ops c l w le fits sees has
   bare_object slot Boolean runs a w0 d place ks ops c l w le fits sees has = scalar_runs ask k code setting.valid bound call default slot Boolean tt a w0 d place ks ops c l w le fits sees has
   bare_object slot Count runs a w0 d place ks ops c l w le fits sees has = scalar_runs ask k code setting.valid bound call default slot Count tt a w0 d place ks ops c l w le fits sees has
@@ -135,7 +135,7 @@ module _ (ask : Ask) (k : Tables) (code : Code) (setting : Setting k code) (call
   copied_object slot t e (Some x) is runs =
       let h = both_true _ _ runs in
       let known = plain_if k t h.0 in
-      copy_does ask k code setting call default constants t known.0 known.1 known.2 bound calls slot x e h.1 (λ w0. copied_means ask k code setting call default bound calls w0 e t x is (part_begun k.records x h.1))
+      copy_does ask k code setting call default defaults t known.0 known.1 known.2 bound calls slot x e h.1 (λ w0. copied_means ask k code setting call default bound calls w0 e t x is (part_begun k.records x h.1))
 
   given_object : (slot : ℕ) (ty : Ty) (e : Expr) → (with_value slot ty (value_code e)).runs k.records ≡ true → Does ask k code bound (λ a. (with_value slot ty (value_code e)).code a.stack) (λ d caught. object slot ty (Some (eval e)) K d (last_of d))
   given_object slot (Record t) e runs = copied_object slot t e (copied t (value_code e)) refl runs
@@ -154,7 +154,7 @@ module _ (ask : Ask) (k : Tables) (code : Code) (setting : Setting k code) (call
       let g = both_true _ _ h.0 in
       let f = both_true _ _ h.1 in
       let known = plain_if k t g.0 in
-      pool_does ask k code setting call default constants t known.0 known.1 known.2 (root_is k t known.0 known.1 g.1) bound calls slot x.position y.position order (value_code x.value) (value_code y.value) (eval x.value) (eval y.value) ordered
+      pool_does ask k code setting call default defaults t known.0 known.1 known.2 (root_is k t known.0 known.1 g.1) bound calls slot x.position y.position order (value_code x.value) (value_code y.value) (eval x.value) (eval y.value) ordered
       (λ w0. value_means ask k code setting call default bound calls w0 x.value f.0)
       (λ w0. value_means ask k code setting call default bound calls w0 y.value f.1)
 
@@ -344,7 +344,7 @@ module _ (ask : Ask) (k : Tables) (code : Code) (setting : Setting k code) (call
       (all_run xs ms each runs n texts (inside_master s) w2 d place frames [] c l w le front.fits opened.sees has)
       (λ r t1 c1 l1 w1 lo fits1 there.
       subst (λ o. Runs ask code (Told k code w0) 0 2 s0 c0 (leaves after ks) (add t1 o)) (sym (ap (λ o. bind o (leave K master)) (unhandled d r c1 l1 w1) ∙ add_none (leave K master r c1 l1 w1)))
-      (left_after ask k code setting call default constants bound calls 1 (omega arith) r master after w0 ks c0 c1 t1 l1 w1 s0 _ opened.young (omega (arith, lo, le)) (opened.since w1 fits1) there (steps_out ask code master caught after d end ks at_end r l1 w1))))
+      (left_after ask k code setting call default defaults.constants bound calls 1 (omega arith) r master after w0 ks c0 c1 t1 l1 w1 s0 _ opened.young (omega (arith, lo, le)) (opened.since w1 fits1) there (steps_out ask code master caught after d end ks at_end r l1 w1))))
 
   -- a master, from the step that enters it
   abbrev pub Masters : StatementCode → Doing → Type 0
@@ -415,7 +415,7 @@ module _ (ask : Ask) (k : Tables) (code : Code) (setting : Setting k code) (call
           closes (runs.0, (both_true _ _ runs.1).1) n texts (new ∷ s) master w0 w2 inner opened after ks caught c0 c1 t l1 w1 s0 (place + length is) (omega (arith, lo1, le)) (laid_back code place is js inside_it) at_end there
       on (Leaves y) t c1 l1 w1 lo1 fits1 there =
           subst (λ o. Runs ask code (Told k code w0) 0 2 s0 c0 (leaves after ks) (add t o)) (sym (add_none (leave K master (Leaves y) c1 l1 w1)))
-          (left_after ask k code setting call default constants bound calls 1 (omega arith) (Leaves y) master after w0 ks c0 c1 t l1 w1 s0 _ opened.young (omega (arith, lo1, le)) (opened.since w1 fits1) there (steps_out ask code master caught after inner (place + length is + length js) ks at_end (Leaves y) l1 w1))
+          (left_after ask k code setting call default defaults.constants bound calls 1 (omega arith) (Leaves y) master after w0 ks c0 c1 t l1 w1 s0 _ opened.young (omega (arith, lo1, le)) (opened.since w1 fits1) there (steps_out ask code master caught after inner (place + length is + length js) ks at_end (Leaves y) l1 w1))
 
   -- a master as a body has it
   pub record Mastered (x : MasterCode) (b : Body) : Type 0 where

@@ -28,7 +28,7 @@ use Rattle.ctl_program.specs.declared.types.Ty.TheVariants.{Integer, Boolean}
 use Rattle.ctl_program.specs.declared.expression.Expr.{Expr}
 use Rattle.ctl_code.specs.declared.code.Named.TheVariants.{Operand}
 use Rattle.ctl_code.specs.declared.kinds.Kind.{Kind}
-use Rattle.ctl_code.specs.Windows.{depth, height}
+use Rattle.ctl_code.specs.Windows.{height}
 use Rattle.ctl_layout.specs.Around.{Line, new_operand}
 use Rattle.ctl_layout.specs.Values.{value_code}
 use Rattle.ctl_layout.specs.Texts.{part_of, parts_of, piece_code, piece_is_run, pieces_are_run, pieces_code, print_code, print_of, with_piece, with_pieces}
@@ -110,10 +110,10 @@ module _ (ask : Ask) (k : Tables) (code : Code) (setting : Setting k code) (call
     text = ap (text_of (qs ++ BooleanImage ∷ [])) (reverse_onto rs n []) ∙ text_both qs (BooleanImage ∷ []) (reverse rs) (n ∷ []) (h.count ∙ sym (length-reverse rs)) ∙ ap (λ x. x ++ (boolean_image n ++ [])) h.text ∙ ap (λ x. u ++ x) (append-nil (boolean_image n));
   }
 
-  piece_depth : (p : Piece) (s : List Kind) → depth (with_piece p s) ≡ depth s
-  piece_depth (PieceOf.Text v) s = refl
-  piece_depth (PieceOf.IntegerImage e) s = refl
-  piece_depth (PieceOf.BooleanImage e) s = refl
+  piece_seen : (p : Piece) (s : List Kind) (w0 : World) (d : List ℕ) → IsSeen w0 d s → IsSeen w0 d (with_piece p s)
+  piece_seen (PieceOf.Text v) s w0 d h = h
+  piece_seen (PieceOf.IntegerImage e) s w0 d h = h
+  piece_seen (PieceOf.BooleanImage e) s w0 d h = h
 
   -- the image of a value, and what follows it
   image_runs : (e : Expr) (ty : Ty) (image : ℕ → List ℕ) → (value_code e).runs k.records ≡ true → (f : Result (List ℕ) → Act Done) (s : List Kind) (w0 : World) (d : List ℕ) (place : ℕ) (ks : List Frame) (ops : List Word) (c : ℕ) (l : Log) (w : World) (next : Result Done → Log → World → State) → c ≤ bound → Since k code w0 w → IsSeen w0 d s → Laid code place ((value_code e).code (new_operand s) ty s) → ((y c1 : ℕ) (l1 : Log) (w1 : World) → c1 ≤ c → Since k code w0 w1 → Runs ask code (Kept k code w0) 1 1 (transferred (ByRaise y) ks l1 w1) c1 next (f (Leaves (ByRaise y)) c1 l1 w1)) → ((n c1 : ℕ) (l1 : Log) (w1 : World) → c1 ≤ c → Since k code w0 w1 → Runs ask code (Kept k code w0) 1 1 (at d (place + length ((value_code e).code (new_operand s) ty s)) ks (Scalar n ∷ ops) l1 w1) c1 next (f (Goes (image n)) c1 l1 w1)) → Runs ask code (Kept k code w0) 1 1 (at d place ks ops l w) c next (bind (ticked (eval e K d >>= (λ x. done (image (scalar_of x)))) c l w) f)
@@ -175,7 +175,7 @@ module _ (ask : Ask) (k : Tables) (code : Code) (setting : Setting k code) (call
       (piece_runs p (both_true _ _ known).0 qs rs u holds (λ r c1 l1 w1. bind (on_goes (λ x. join_pieces K d (map eval_piece ps) (u ++ x)) r c1 l1 w1) (on_goes (printed b))) s w0 d place ks ops c l w (arrives e d (place + length (printing b n first t (p ∷ ps) s)) ks ops) le fits long (laid_front code place (piece_code p s) is has1)
       (λ y c1 l1 w1 lo fits1. no_step ask code (Kept k code w0) 1 1 (transferred (ByRaise y) ks l1 w1) c1 0 (arrives e d (place + length (printing b n first t (p ∷ ps) s)) ks ops) (Leaves (ByRaise y)) l1 w1 fits1 refl)
       (λ rs1 x c1 l1 w1 lo fits1 holds1. subst (λ q. Runs ask code (Kept k code w0) 1 1 (at d (place + length (piece_code p s)) ks (operands rs1 ++ ops) l1 w1) c1 (arrives e d q ks ops) (bind (join_pieces K d (map eval_piece ps) (u ++ x) c1 l1 w1) (on_goes (printed b)))) far
-      (join_runs b n first t full texts ps (both_true _ _ known).1 (qs ++ part_of p ∷ []) rs1 (u ++ x) holds1 (append_assoc qs (part_of p ∷ []) (parts_of ps) ∙ same) (with_piece p s) e w0 d (place + length (piece_code p s)) ks ops c1 l1 w1 (omega (arith, lo, le)) fits1 (long.0, long.1, long.2 ∙ sym (piece_depth p s)) (laid_back code place (piece_code p s) is has1)))))
+      (join_runs b n first t full texts ps (both_true _ _ known).1 (qs ++ part_of p ∷ []) rs1 (u ++ x) holds1 (append_assoc qs (part_of p ∷ []) (parts_of ps) ∙ same) (with_piece p s) e w0 d (place + length (piece_code p s)) ks ops c1 l1 w1 (omega (arith, lo, le)) fits1 (piece_seen p s w0 d long) (laid_back code place (piece_code p s) is has1)))))
 
   -- the pieces in turn, and then the text
   pub print_runs : (b : Bool) (ps : List Piece) → pieces_are_run k.records ps ≡ true → (n : ℕ) → HasAt code.texts.items n (parts_of ps ∷ []) → Does ask k code bound (λ a. print_code b n ps a.stack) (λ d caught. ticked (eval_text K d (map eval_piece ps) >>= printed b))
@@ -197,4 +197,4 @@ module _ (ask : Ask) (k : Tables) (code : Code) (setting : Setting k code) (call
       (piece_runs p (both_true _ _ known).0 [] [] [] (record { count = refl; text = refl }) (λ r c1 l1 w1. bind (on_goes (λ x. join_pieces K d (map eval_piece ps) x) r c1 l1 w1) (on_goes (printed b))) s w0 d place ks ops c l w (arrives e d (place + length (printing b n first t (p ∷ ps) s)) ks ops) le fits (seen sees) (laid_front code place (piece_code p s) is has1)
       (λ y c1 l1 w1 lo fits1. no_step ask code (Kept k code w0) 1 1 (transferred (ByRaise y) ks l1 w1) c1 0 (arrives e d (place + length (printing b n first t (p ∷ ps) s)) ks ops) (Leaves (ByRaise y)) l1 w1 fits1 refl)
       (λ rs1 x c1 l1 w1 lo fits1 holds1. subst (λ q. Runs ask code (Kept k code w0) 1 1 (at d (place + length (piece_code p s)) ks (operands rs1 ++ ops) l1 w1) c1 (arrives e d q ks ops) (bind (join_pieces K d (map eval_piece ps) x c1 l1 w1) (on_goes (printed b)))) far
-      (join_runs b n first t (parts_of (p ∷ ps)) texts ps (both_true _ _ known).1 (part_of p ∷ []) rs1 x holds1 refl (with_piece p s) e w0 d (place + length (piece_code p s)) ks ops c1 l1 w1 (omega (arith, lo, le)) fits1 (sees.old, sees.home, sees.long ∙ sym (piece_depth p s)) (laid_back code place (piece_code p s) is has1)))))
+      (join_runs b n first t (parts_of (p ∷ ps)) texts ps (both_true _ _ known).1 (part_of p ∷ []) rs1 x holds1 refl (with_piece p s) e w0 d (place + length (piece_code p s)) ks ops c1 l1 w1 (omega (arith, lo, le)) fits1 (piece_seen p s w0 d (seen sees)) (laid_back code place (piece_code p s) is has1)))))

@@ -13,7 +13,7 @@ use Rattle.ctl_meaning.specs.Choice.{Ask, Obeys, replayed}
 use Rattle.ctl_meaning.specs.Outcome.{Goes, Leaves, Out, Gives, Stops, Cut}
 use Rattle.ctl_meaning.specs.Types.{tables_of, operation, operation_in}
 use Rattle.ctl_meaning.specs.Names.{Returned}
-use Rattle.ctl_meaning.specs.Run.{Outcome, end_by, meaning_of, outcome, outcome_of, routine_of, run}
+use Rattle.ctl_meaning.specs.Run.{Outcome, default_in, end_by, execution, expression_tools, meaning_of, outcome, outcome_of, routine_of, run}
 use Rattle.ctl_meaning.proofs.Cuts.{begun_bounded}
 use Rattle.ctl_code.specs.declared.code.Instr.TheVariants as InstrOf
 use Rattle.ctl_code.specs.declared.template.TextPart.{TextPart}
@@ -26,14 +26,18 @@ use Rattle.ctl_code.specs.Steps.{step, steps, start, machine, end_at, end_of}
 use Rattle.ctl_code.specs.Laws.{IsPrefix, Grows}
 use Rattle.ctl_code.proofs.Logs.{obeys_none, obeys_itself, no_more_than, Stays, steps_obey, grow, stay, meet, ended_stays, agree}
 use Rattle.ctl_layout.specs.Around.{Line}
-use Rattle.ctl_layout.specs.Layout.{HasKinds, IsLaidOut, bodies, body_code, entries_from, entry_at, instructions_of, kinds_of, nowhere, outside, operations_of, program_code}
+use Rattle.ctl_layout.specs.Layout.{HasKinds, IsLaidOut, all_defaults, behind_bodies, bodies, body_code, entries_from, entry_at, instructions_of, kinds_of, nowhere, outside, operations_of, program_code}
 use Rattle.ctl_gen.proofs.Defaults.{agrees}
 use Rattle.ctl_gen.proofs.FirstComponent.{first_offset}
 use Rattle.ctl_gen.proofs.Layouts.{places, sizes, units}
 use Rattle.ctl_gen.proofs.Rows.{gives_defaults}
 use Rattle.ctl_layout.specs.Records.{adjust_by}
-use Rattle.ctl_layout.specs.Run.{AreLinked, IsBody, IsRun, IsWritten}
+use Rattle.ctl_layout.specs.Run.{AreLinked, IsBody, IsRun, IsWritten, are_defaults_run}
+use Rattle.ctl_gen.proofs.DefaultsAlike.{alike, values}
+use Rattle.ctl_gen.proofs.DefaultsLaid.{has_default}
+use Rattle.ctl_gen.proofs.Given.{GivesEach}
 use Rattle.ctl_gen.proofs.Known.{both_true}
+use Rattle.ctl_gen.proofs.Parted.{GivesDefaults}
 use Rattle.ctl_gen.specs.Correct.{HasReached, RunsAs, Behaves}
 use Rattle.ctl_gen.proofs.Place.{HasAt, has_front, has_back, has_all, Laid, laid_front, laid_back}
 use Rattle.ctl_gen.proofs.Scopes.{IsCallable}
@@ -198,6 +202,13 @@ module _ (program : Checked) (code : Code) (laid : IsLaidOut program code) (kind
   has_texts : HasAt code.texts.items 0 (bodies 0 program.subprograms).texts
   has_texts = subst (λ ts. HasAt ts 0 (bodies 0 program.subprograms).texts) (sym laid.texts) (has_all (bodies 0 program.subprograms).texts [])
 
+  -- the lines of the defaults stand behind those of the bodies
+  defaults_stand : Laid code (behind_bodies program) (all_defaults 0 program.records)
+  defaults_stand = laid_back code 1 ((bodies 0 program.subprograms).code nowhere 0) (all_defaults 0 program.records) has_whole.2
+
+  defaults_run : are_defaults_run program.records program.records ≡ true
+  defaults_run = (both_true ((bodies 0 program.subprograms).runs (outside program.records)) (are_defaults_run program.records program.records) run_it).1
+
   setting : Setting (tables_of program) code
   unfolding tables_of operation
   setting = record {
@@ -208,6 +219,7 @@ module _ (program : Checked) (code : Code) (laid : IsLaidOut program code) (kind
     sizes = sizes (tables_of program) code.layouts.items laid.layouts;
     units = units (tables_of program) code.layouts.items laid.layouts;
     agrees = agrees (tables_of program) code laid.layouts;
+    defaults = λ t position ty x. has_default program code valid laid defaults_stand t position ty x;
     initialize = λ t. ap (λ xs. Table.operation_in (λ x. x.initialize) (slice_get xs t)) laid.records ∙ initialize_in program.records t;
     adjust = λ t r e. ap (λ xs. Table.operation_in (λ x. x.adjust) (slice_get xs t)) laid.records ∙ adjust_in program.records t r e;
     finalize = λ t. ap (λ xs. Table.operation_in (λ x. x.finalize) (slice_get xs t)) laid.records ∙ finalize_in program.records t;
@@ -221,12 +233,24 @@ module _ (program : Checked) (code : Code) (laid : IsLaidOut program code) (kind
     deallocate_body = λ t f e. deallocate_written program.subprograms (slice_get program.records t) (linked.deallocate t) f e;
   }
 
+  constants : (ask : Ask) (n : ℕ) → GivesDefaults (tables_of program) (default_in (meaning_of program).defaults (expression_tools ask (meaning_of program) (execution ask (meaning_of program) n)))
+  unfolding meaning_of tables_of
+  constants ask n = gives_defaults ask (meaning_of program) (execution ask (meaning_of program) n) refl
+
+  -- constants need no code; that of each other default is run, and means the same wherever its type is seen
+  defaults : (ask : Ask) (n : ℕ) → GivesEach ask (tables_of program) code setting (execution ask (meaning_of program) n) (default_in (meaning_of program).defaults (expression_tools ask (meaning_of program) (execution ask (meaning_of program) n)))
+  defaults ask n = record {
+    constants = constants ask n;
+    values = λ bound calls t position ty x w0. values program ask code valid laid defaults_stand defaults_run n setting bound calls t position ty x w0;
+    alike = λ t position ty x masters d inside c l w. alike program ask code valid laid defaults_stand defaults_run n t position ty x masters d inside c l w;
+  }
+
   stands : (f : ℕ) (s : Subprogram) → slice_get program.subprograms f ≡ Some s → Stands (tables_of program) code f s
   unfolding tables_of
   stands f s here =
       let own : 0 + f ≡ f = omega arith in
-      let x = subst (λ n. Found code code.texts.items (slice_get (entries_from 0 1 0 program.subprograms) f) n s) own (find code code.texts.items program.subprograms 0 1 0 has_whole.2 has_texts f s here) in
-      record { place = x.place; before = x.before; entry = ap (λ es. slice_get es f) laid.entries ∙ x.is; instructions = x.instructions; texts = x.printed; runs = body_is_run program.records program.subprograms 0 run_it f f s here }
+      let x = subst (λ n. Found code code.texts.items (slice_get (entries_from 0 1 0 program.subprograms) f) n s) own (find code code.texts.items program.subprograms 0 1 0 (laid_front code 1 ((bodies 0 program.subprograms).code nowhere 0) (all_defaults 0 program.records) has_whole.2) has_texts f s here) in
+      record { place = x.place; before = x.before; entry = ap (λ es. slice_get es f) laid.entries ∙ x.is; instructions = x.instructions; texts = x.printed; runs = body_is_run program.records program.subprograms 0 (both_true ((bodies 0 program.subprograms).runs (outside program.records)) (are_defaults_run program.records program.records) run_it).0 f f s here }
 
   -- the main procedure can be called where no master is around
   start_callable : slice_get code.instructions.items 0 ≡ Some (InstrOf.Start program.main) → kinds_at code 0 ≡ Some [] → IsCallable code Procedure 0 program.main 0
@@ -234,7 +258,7 @@ module _ (program : Checked) (code : Code) (laid : IsLaidOut program code) (kind
 
   whole_runs : (ask : Ask) (clock : ℕ) → Runs ask code (Told (tables_of program) code empty_world) 0 2 start clock (returns []) (run program ask clock)
   unfolding run meaning_of setting
-  whole_runs ask clock = main_runs ask (meaning_of program) code setting stands (routine_at program.subprograms) (λ call. gives_defaults ask (meaning_of program) call refl) (λ n bound less default m. begun_bounded program ask n bound less default Collection m) program.main linked.main.0 linked.main.1 (start_callable has_whole.0 has_whole.1) has_whole.0 clock
+  whole_runs ask clock = main_runs ask (meaning_of program) code setting stands (routine_at program.subprograms) (defaults ask) (λ n bound less default m. begun_bounded program ask n bound less default Collection m) program.main linked.main.0 linked.main.1 (start_callable has_whole.0 has_whole.1) has_whole.0 clock
 
   moment_of : (ask : Ask) (clock : ℕ) (o : Out Returned) → Runs ask code (Told (tables_of program) code empty_world) 0 2 start clock (returns []) o → Moment code ask clock (outcome_of program.exceptions o).ticks (outcome_of program.exceptions o)
   unfolding outcome_of

@@ -2,7 +2,7 @@
 -- or which its collection belongs to, inside those around the operations of its type and inside the main procedure's own one; so does each
 -- collection, and it is found in no slot of another master; the numbers of objects rise; the masters of a display are nested in one another;
 -- no record is copied, and no pool has subpools.
-use Rattle.std.proofs.Common.{◌≡◌, ℕ, zero, suc, ◌+◌, ◌<◌, ◌≤◌, List, [], ◌∷◌, ◌++◌, length, Option, Some, None, Bool, true, false, refl, sym, ap, ◌∙◌, subst, arith, length-append}
+use Rattle.std.proofs.Common.{◌≡◌, ℕ, zero, suc, ◌+◌, ◌<◌, ◌≤◌, List, [], ◌∷◌, ◌++◌, length, Option, Some, None, Bool, true, false, refl, sym, ap, ◌∙◌, subst, arith}
 use Rattle.std.specs.Prelude.{if◌then◌else◌, nat_eq, not, slice_get, replicate}
 use Rattle.std.proofs.lemmas.Bool.{eqb-true, eqb-false, eq-eqb, ne_eqb}
 use Rattle.ctl_program.specs.declared.types.Ty.{Ty}
@@ -23,7 +23,7 @@ use Rattle.ctl_code.specs.Valid.{MayLie}
 use Rattle.ctl_code.proofs.Storage.{OnGrant, OnReturn, granted_keeps, granted_of_pool, returned_keeps, returned_to_pool, end_keeps}
 use Rattle.ctl_gen.proofs.Known.{IsPlainType}
 use Rattle.ctl_gen.proofs.Each.{Each, IfFound, each_found, each_and, each_changed, each_changed_first, each_kept, not_true, found_passes, each_all, each_set, each_get}
-use Rattle.ctl_gen.proofs.Collections.{home, home_slot, home_kept, home_gone, HasLevel, AreNested, nested_in, nested_alike, nested_and, IsMadeIn, IsHeldBy, held_in, IsOf, Gathered, gathered_in, of_gathered, of_pushed, of_started, of_kept, Belongs, belongs_in, belongs_home, belongs_other}
+use Rattle.ctl_gen.proofs.Collections.{home, home_slot, home_kept, home_gone, HasDisplay, AreNested, nested_in, nested_alike, nested_and, IsMadeIn, IsHeldBy, held_in, IsOf, Gathered, gathered_in, of_gathered, of_pushed, of_started, of_kept, Belongs, belongs_in, belongs_home, belongs_other}
 
 -- Slots -----------------------------------------------------------------------------------------------
 
@@ -141,14 +141,14 @@ no_marks_shut n x none = ap (change_each (λ p. nat_eq p.object n) closed_mark_p
 
 -- the masters of a display are nested in one another
 abbrev pub IsNested : World → List ℕ → Type 0
-IsNested w d = AreNested w.ledger.next_master w.activations 0 d
+IsNested w d = AreNested w.ledger.next_master w.activations [] d
 
 -- and so are those that an active one sees
 abbrev pub SeesNested : ℕ → List Activation → Activation → Type 0
-SeesNested next as' a = AreNested next as' 0 a.display
+SeesNested next as' a = AreNested next as' [] a.display
 
 nested_all : (next next1 : ℕ) (as' bs cs : List Activation) → next ≤ next1 → ((m : ℕ) → m < next → home m bs ≡ home m as') → Each (SeesNested next as') cs → Each (SeesNested next1 bs) cs
-nested_all next next1 as' bs cs le same h = each_all (SeesNested next as') (SeesNested next1 bs) (λ a. nested_alike next next1 as' bs le same 0 a.display) cs h
+nested_all next next1 as' bs cs le same h = each_all (SeesNested next as') (SeesNested next1 bs) (λ a. nested_alike next next1 as' bs le same [] a.display) cs h
 
 module _ (k : Tables) (code : Code) where
   -- where the next master has this number, and these masters and collections are active
@@ -618,7 +618,7 @@ module _ (k : Tables) (code : Code) where
     counted = h.counted;
     slots = (each_all IsPlainSlot (λ s. IsHeldBy w.ledger.next_collection w.ledger.collections w.ledger.next_master s.content) (λ s. plain_held w.ledger.next_collection w.ledger.collections w.ledger.next_master s.content) slots plain, h.slots);
     displays = (
-      nested_and (w.ledger.next_master + 1) bs 0 d w.ledger.next_master (omega arith) long (nested_alike w.ledger.next_master (w.ledger.next_master + 1) w.activations bs (omega arith) (λ n lt. home_open n d slots w lt) 0 d nested),
+      nested_and (w.ledger.next_master + 1) bs [] d w.ledger.next_master (omega arith) (home_new d slots w) (nested_alike w.ledger.next_master (w.ledger.next_master + 1) w.activations bs (omega arith) (λ n lt. home_open n d slots w lt) [] d nested),
       nested_all w.ledger.next_master (w.ledger.next_master + 1) w.activations bs w.activations (omega arith) (λ n lt. home_open n d slots w lt) h.displays,
     );
     mark_pools = h.mark_pools;
@@ -626,9 +626,6 @@ module _ (k : Tables) (code : Code) where
     where
       bs : List Activation
       bs = (open_master d slots w).activations
-
-      long : length (home w.ledger.next_master bs) ≡ 0 + length d + 1
-      long = ap (λ (x : List ℕ). length x) (home_new d slots w) ∙ omega (arith, length-append d (w.ledger.next_master ∷ []))
 
   -- and left: no object of it is left behind, and no collection
   fits_close : (m : ℕ) (w : World) → Fits w → Fits (close_master m w)
@@ -640,7 +637,7 @@ module _ (k : Tables) (code : Code) where
     collections = each_kept (Gathered w.ledger.next_collection w.ledger.next_master w.activations) (Gathered w.ledger.next_collection w.ledger.next_master bs) _ others w.ledger.collections h.collections;
     counted = h.counted;
     slots = each_kept (HoldsOwn w.ledger.next_collection w.ledger.collections) (HoldsOwn w.ledger.next_collection ds) (λ a. not (nat_eq a.master m)) (λ a e. own_in w.ledger.next_collection w.ledger.next_collection w.ledger.collections ds (omega arith) (λ c n less. each_kept (IsMadeIn c n) (IsMadeIn c n) _ (λ x e1 y. y) w.ledger.collections) a) w.activations h.slots;
-    displays = each_kept (SeesNested w.ledger.next_master w.activations) (SeesNested w.ledger.next_master bs) (λ a. not (nat_eq a.master m)) (λ a e. nested_in w.ledger.next_master w.ledger.next_master w.activations bs (omega arith) (λ n level less. at_level n level (nat_eq m n) refl) 0 a.display) w.activations h.displays;
+    displays = each_kept (SeesNested w.ledger.next_master w.activations) (SeesNested w.ledger.next_master bs) (λ a. not (nat_eq a.master m)) (λ a e. nested_in w.ledger.next_master w.ledger.next_master w.activations bs (omega arith) (λ n whole less. still_seen n whole (nat_eq m n) refl) [] a.display) w.activations h.displays;
     mark_pools = ap (keep _) h.mark_pools;
   }
     where
@@ -654,9 +651,9 @@ module _ (k : Tables) (code : Code) where
       flip a b e = ne_eqb b a (λ e1. eqb-false a b e (sym e1))
 
       -- one that is left has no display any more, and the others keep theirs
-      at_level : (n level : ℕ) (b : Bool) → nat_eq m n ≡ b → HasLevel level (home n w.activations) → HasLevel level (home n bs)
-      at_level n level true e has = subst (λ z. HasLevel level (home z bs)) (eqb-true m n e) (subst (HasLevel level) (sym (home_gone m w.activations)) (λ any. absurd (omega (arith, any))))
-      at_level n level false e has = subst (HasLevel level) (sym (home_kept n m e w.activations)) has
+      still_seen : (n : ℕ) (whole : List ℕ) (b : Bool) → nat_eq m n ≡ b → HasDisplay whole (home n w.activations) → HasDisplay whole (home n bs)
+      still_seen n whole true e has = subst (λ z. HasDisplay whole (home z bs)) (eqb-true m n e) (subst (HasDisplay whole) (sym (home_gone m w.activations)) (λ any. absurd (omega (arith, any))))
+      still_seen n whole false e has = subst (HasDisplay whole) (sym (home_kept n m e w.activations)) has
 
       others : (x : Collection) → not (nat_eq x.master m) ≡ true → Gathered w.ledger.next_collection w.ledger.next_master w.activations x → Gathered w.ledger.next_collection w.ledger.next_master bs x
       others x e y = record { counted = y.counted; numbered = y.numbered; old = y.old; deep = subst (λ (d : List ℕ). 1 ≤ length d) (sym (home_kept x.master m (flip x.master m (not_true (nat_eq x.master m) e)) w.activations)) y.deep }

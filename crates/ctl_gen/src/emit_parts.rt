@@ -60,10 +60,9 @@ impl Emitter {
     pub fn locate(&mut self, of: Var, record: usize) -> Result<(), AllocError>
         ensures { OnOk result (self.new ≡ lined (spec.located_code (OfVariable of) [] «record») self.old) }
     {
-        let (out, slot, at) = (self.out_to(of), of.slot, self.height());
+        let at = self.height();
         self.put(Instr::Locate {
-            out,
-            slot,
+            variable: of,
             record,
             at,
         })
@@ -278,8 +277,7 @@ impl Emitter {
         match of {
             Name::Variable(variable, _) => match steps {
                 [] => self.put(Instr::FetchPart {
-                    out: self.out_to(*variable),
-                    slot: variable.slot,
+                    variable: *variable,
                     record,
                     position,
                     ty,

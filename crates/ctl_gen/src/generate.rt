@@ -4,26 +4,30 @@ ghost use Rattle.std.specs.Prelude.{◌≡◌, ◌⊎◌, ◌+◌, ◌++◌, [],
 ghost use Rattle.ctl_tree.specs.declared.fault.FaultCode.TheVariants.{LeftOut, Memory};
 ghost use Rattle.ctl_well_typed.specs.Programs.{WellTyped};
 ghost use Rattle.ctl_gen.specs.Correct.{Behaves};
+ghost use Rattle.ctl_gen.specs.Emitted.{appended};
 ghost use Rattle.ctl_layout.specs.Run.{AreLinked, IsRun};
 ghost use Rattle.ctl_meaning.specs.Types.{total};
 ghost use Rattle.ctl_meaning.specs.Types as sizes;
 ghost use Rattle.ctl_code.specs.Table.{begun_in, size_in};
 ghost use Rattle.ctl_code.specs.Table as table;
 ghost use Rattle.ctl_code.specs.Demands.{with_counts};
+ghost use Rattle.ctl_code.specs.declared.code.Defaults.{Defaults as DefaultsOf};
 ghost use Rattle.ctl_code.specs.Valid.{IsValid};
 ghost use Rattle.ctl_code.specs.Windows.{Counts};
 ghost use Rattle.ctl_layout.specs.Defaults as starts;
 ghost use Rattle.ctl_layout.specs.Defaults.{begun_before, begun_from, finalized_by};
 ghost use Rattle.ctl_layout.specs.Records as types;
-ghost use Rattle.ctl_layout.specs.Records.{constant_of};
 ghost use Rattle.ctl_layout.specs.Layout as spec;
 ghost use Rattle.ctl_layout.specs.Layout.{AreLayouts, HasKinds, IsLaidOut, IsLayout, entry_at, home_of, operations_of};
 
 use crate::emit::Emitter;
-use ctl_code::code::{AccessHome, Begun, Code, Entry, Initial, Instr, Layout, Operations, Parts};
+use ctl_code::code::{
+    AccessHome, Begun, Code, Defaults, Entry, Initial, Instr, Layout, Operations, Parts,
+};
 use ctl_code::homes::Homes;
 use ctl_code::least::least_homes;
 use ctl_code::valid::ValidCode;
+use ctl_layout::forms::run_default;
 use ctl_layout::right::constant;
 use ctl_program::program::{Checked, Subprogram};
 use ctl_program::types::{AccessType, Component, RecordType, Root, Ty};
@@ -98,6 +102,7 @@ fn tables_of(alloc: Global, program: &Checked) -> Result<Code, Fault>
         entries.push(entry_of(&emitter, subprogram))?;
         emitter.body(number, subprogram)?;
     }
+    let defaults = defaults_of(alloc, &mut emitter, program.records.as_slice())?;
     let records = records_of(alloc, program.records.as_slice())?;
     let layouts = layouts_of(alloc, program.records.as_slice())?;
     let accesses = accesses_of(alloc, program.accesses.as_slice())?;
@@ -111,6 +116,7 @@ fn tables_of(alloc: Global, program: &Checked) -> Result<Code, Fault>
         entries,
         records,
         layouts,
+        defaults,
         accesses,
         homes: Homes::new(alloc),
         texts,
@@ -157,13 +163,50 @@ fn records_of(alloc: Global, records: &[RecordType]) -> Result<Vec<Operations>, 
     Ok(all)
 }
 
-/// Gives the constant that is the default of a component, if it has one (RM 3.8).
-fn default_of(component: &Component) -> Option<u64>
-    ensures { result ≡ constant_of component.now }
+/// Copies the places of the defaults that a type inherits from its parent, whose row is one of these (RM 3.4).
+fn inherited_places(
+    alloc: Global,
+    rows: &[Defaults],
+    parent: Option<usize>,
+) -> Result<Vec<usize>, AllocError>
+    ensures { IfOk result (λ row. row.items ≡ spec.inherited_places (map (λ (x : DefaultsOf). x.places.items) rows.now) parent) }
 {
-    match &component.default {
-        Some(default) => constant(default),
-        None => None,
+    let Some(parent) = parent else {
+        return Ok(Vec::new(alloc));
+    };
+    match rows.get(parent) {
+        Some(row) => Vec::from_slice(alloc, row.places.as_slice()),
+        None => Ok(Vec::new(alloc)),
+    }
+}
+
+/// Emits the evaluation of the defaults of record types that are no constants, and gives their places (RM 3.8).
+fn defaults_of(
+    alloc: Global,
+    emitter: &mut Emitter,
+    records: &[RecordType],
+) -> Result<Vec<Defaults>, AllocError>
+    requires { emitter.old.notes.standing ≡ [] }
+    ensures emitted { OnOk result (emitter.new ≡ appended (spec.all_defaults 0 records.now) [] [] emitter.old) }
+    ensures rows { IfOk result (λ all. map (λ (x : DefaultsOf). x.places.items) all.items ≡ spec.rows_from 0 (length emitter.old.instructions) [] records.now) }
+{
+    let mut rows = Vec::new(alloc);
+    for entry in records {
+        let number = rows.len();
+        let inherited = inherited_places(alloc, rows.as_slice(), entry.parent)?;
+        let places = emitter.defaults(number, entry, inherited)?;
+        rows.push(Defaults { places })?;
+    }
+    Ok(rows)
+}
+
+/// Answers what a component begins with whose default is this constant, or is evaluated (RM 3.8).
+fn initial_in(constant: Option<u64>) -> Initial
+    ensures { result ≡ starts.initial_in constant }
+{
+    match constant {
+        Some(value) => Initial::Constant(value),
+        None => Initial::Computed,
     }
 }
 
@@ -246,8 +289,8 @@ fn by_type(layouts: &[Layout], ty: Ty) -> Option<Initial>
 fn initial_of(layouts: &[Layout], component: &Component) -> Option<Initial>
     ensures { result ≡ starts.initial_of layouts.now component.now }
 {
-    match default_of(component) {
-        Some(value) => Some(Initial::Constant(value)),
+    match run_default(component) {
+        Some(default) => Some(initial_in(constant(default))),
         None => by_type(layouts, component.ty),
     }
 }

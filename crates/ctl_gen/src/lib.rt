@@ -3,6 +3,7 @@
 
 mod emit;
 mod emit_calls;
+mod emit_defaults;
 mod emit_expressions;
 mod emit_handlers;
 mod emit_parts;

@@ -4,19 +4,20 @@ use Rattle.std.specs.Prelude.{ℕ, ◌+◌, List, [], ◌∷◌, slice_get, Opti
 use Rattle.ctl_program.specs.declared.types.Ty.{Ty}
 use Rattle.ctl_program.specs.declared.types.Ty.TheVariants.{Record}
 use Rattle.ctl_program.specs.declared.types.Component.{Component}
+use Rattle.ctl_program.specs.declared.expression.Expr.{Expr}
 use Rattle.ctl_program.specs.declared.types.RecordType.{RecordType}
 use Rattle.ctl_program.specs.declared.types.Root.{Root}
 use Rattle.ctl_program.specs.declared.types.Root.TheVariants.{Untagged}
 use Rattle.ctl_meaning.specs.Lists.{keep}
 use Rattle.ctl_code.specs.declared.code.Begun.{Begun}
 use Rattle.ctl_code.specs.declared.code.Initial.{Initial}
-use Rattle.ctl_code.specs.declared.code.Initial.TheVariants.{Constant, ByType}
+use Rattle.ctl_code.specs.declared.code.Initial.TheVariants.{Constant, ByType, Computed}
 use Rattle.ctl_code.specs.declared.code.Layout.{Layout}
 use Rattle.ctl_code.specs.declared.code.Parts.{Parts}
 use Rattle.ctl_code.specs.declared.code.Parts.TheVariants as PartsOf
 use Rattle.ctl_code.specs.Table.{has_part, parts_in}
-pub use Rattle.ctl_layout.specs.Records.{constant_of, have_constants, is_plain}
-use Rattle.ctl_layout.specs.Records.{is_plain, is_run_type}
+pub use Rattle.ctl_layout.specs.Records.{constant_at, constant_of, is_plain}
+use Rattle.ctl_layout.specs.Records.{constant_at, is_plain, is_run_type, run_default}
 use Rattle.ctl_layout.specs.Around.{Site}
 
 -- a type of the table whose objects are declared, or a scalar one
@@ -53,13 +54,18 @@ abbrev pub by_type : List Layout → Ty → Option Initial
 by_type layouts (Record t) = type_if t (is_begun (slice_get layouts t))
 by_type layouts ty = None
 
+-- with the value of its default, which is a constant, or is evaluated
+abbrev pub initial_in : Option ℕ → Initial
+initial_in (Some n) = Constant n
+initial_in None = Computed
+
 -- how a component begins: with its default, or else by its type (3.8); most begin with nothing
-abbrev pub initial_by : Option ℕ → Option Initial → Option Initial
-initial_by (Some n) other = Some (Constant n)
+abbrev pub initial_by : Option Expr → Option Initial → Option Initial
+initial_by (Some e) other = Some (initial_in (constant_at e))
 initial_by None other = other
 
 abbrev pub initial_of : List Layout → Component → Option Initial
-initial_of layouts c = initial_by (constant_of c) (by_type layouts c.ty)
+initial_of layouts c = initial_by (run_default c) (by_type layouts c.ty)
 
 abbrev pub begun_before : ℕ → ℕ → Option Initial → List Begun → List Begun
 begun_before position offset None rest = rest
@@ -76,6 +82,7 @@ begun_from layouts cells position offset (c ∷ cs) = begun_before position offs
 -- whether what begins so has a controlled part, where the types that stand before have these layouts
 abbrev pub is_finalized_by : List Layout → Initial → Bool
 is_finalized_by layouts (Constant n) = false
+is_finalized_by layouts Computed = false
 is_finalized_by layouts (ByType t) = has_part (parts_in (slice_get layouts t))
 
 abbrev pub finalized_by : List Layout → List Begun → List Begun

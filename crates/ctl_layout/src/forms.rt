@@ -1,7 +1,8 @@
 //! Which record types this version lays out (RM 3.8, 3.9.1), and the objects of which it declares, copies and assigns to (RM 7.6): found once
 //! for the whole table, from the first type to the last.
 
-ghost use Rattle.std.specs.Prelude.{◌≡◌, List, IfOk, slice_get};
+ghost use Rattle.std.specs.Prelude.{◌≡◌, List, IfOk, option_copied, slice_get};
+ghost use Rattle.ctl_layout.specs.Layout as spec;
 ghost use Rattle.ctl_layout.specs.Records as types;
 
 use crate::right::constant;
@@ -44,26 +45,24 @@ pub(crate) fn is_number(ty: Ty) -> bool
     matches!(ty, Ty::Integer | Ty::Count)
 }
 
-/// Tells whether a component has no default, or a constant (RM 3.8).
-fn may_default(component: &Component) -> bool
-    ensures { result ≡ types.may_default component.now }
+/// Answers the default expression that a component takes the value of, where variables of its type are run (RM 3.8).
+pub fn run_default(component: &Component) -> Option<&Expr>
+    ensures { option_copied result ≡ types.run_default component.now }
 {
     match &component.default {
-        Some(default) => constant(default).is_some(),
-        None => true,
+        Some(default) if is_run_type(component.ty) => Some(default),
+        _ => None,
     }
 }
 
-/// Tells whether the defaults of these components are constants.
-fn have_constants(components: &[Component]) -> bool
-    ensures { result ≡ types.have_constants components.now }
+/// Answers that expression, if it is no constant: it is evaluated.
+pub fn computed(component: &Component) -> Option<&Expr>
+    ensures { option_copied result ≡ spec.computed component.now }
 {
-    for component in components {
-        if !may_default(component) {
-            return false;
-        }
+    match run_default(component) {
+        Some(default) if constant(default).is_none() => Some(default),
+        _ => None,
     }
-    true
 }
 
 /// Tells whether objects of a type with this root are run: of one that descends from Controlled, Limited_Controlled or Block_Pool (RM 7.6, 13.11),
@@ -142,10 +141,7 @@ fn is_plain_by(forms: &[Form], entry: &RecordType) -> bool
         Some(number) => is_plain_form(forms, number),
         None => true,
     };
-    is_root_run(entry)
-        && is_parent_run
-        && are_parts(forms, entry.own.as_slice())
-        && have_constants(entry.own.as_slice())
+    is_root_run(entry) && is_parent_run && are_parts(forms, entry.own.as_slice())
 }
 
 /// Gives the form of a type, where the types that stand before have these.

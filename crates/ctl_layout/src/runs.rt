@@ -15,13 +15,13 @@ ghost use Rattle.ctl_layout.specs.Values as values;
 ghost use Rattle.ctl_layout.specs.Values.{denoted};
 
 use crate::copies::goes_back;
-use crate::forms::{Table, is_number, is_run_type};
+use crate::forms::{Table, computed, is_number, is_run_type};
 use crate::right::{Denoted, Reached, gives_record, reached_by, sourced};
 use crate::typing::{copied_from, is_of, type_of, value_type};
 use ctl_program::expression::{Actual, Expr, Name, Operand, Step};
 use ctl_program::program::{Checked, Subprogram};
 use ctl_program::statement::{Arm, Association, Choices, Handler, Item, Master, Piece, Stmt};
-use ctl_program::types::Ty;
+use ctl_program::types::{Component, RecordType, Ty};
 use sqlite_items::Boxed;
 use std::alloc::{AllocError, Global};
 
@@ -30,7 +30,44 @@ pub fn is_run(alloc: Global, program: &Checked) -> Result<bool, AllocError>
     ensures { IfOk result (λ runs. runs ≡ whole.is_run program.now) }
 {
     let table = Table::new(alloc, program.records.as_slice())?;
+    if !are_defaults_run(&table, program.records.as_slice()) {
+        return Ok(false);
+    }
     bodies(&table, program.subprograms.as_slice())
+}
+
+/// Tells whether the default of a component is run, if it has one that is evaluated (RM 3.8).
+fn is_default_run(table: &Table, component: &Component) -> bool
+    ensures { result ≡ whole.is_default_run table.now.records.now component.now }
+{
+    match computed(component) {
+        Some(default) => value(default, table),
+        None => true,
+    }
+}
+
+/// Tells whether those of these components are.
+fn are_own_run(table: &Table, components: &[Component]) -> bool
+    ensures { result ≡ whole.are_own_run table.now.records.now components.now }
+{
+    for component in components {
+        if !is_default_run(table, component) {
+            return false;
+        }
+    }
+    true
+}
+
+/// Tells whether those of the components that each of these types adds are, also where no object has the type.
+fn are_defaults_run(table: &Table, records: &[RecordType]) -> bool
+    ensures { result ≡ whole.are_defaults_run table.now.records.now records.now }
+{
+    for entry in records {
+        if !are_own_run(table, entry.own.as_slice()) {
+            return false;
+        }
+    }
+    true
 }
 
 /// Tells whether the bodies of these subprograms are run.

@@ -52,7 +52,7 @@ pub declared_awaits : (code : Code) (old : Engine) (type place first : ℕ) (x :
 declared_awaits code old type place first x c begins = record {
   holds = stage_begins DeclaredOf.Object (Copies first []) code (kept old) c.master c.others x.number type place x.point x.control x.world (noted_from code old x first begins c.holds, refl) c.holds c.masters c.object c.goes_on c.seen;
   spots = c.spots;
-  sized = (c.stack, subst (λ i. Leads code i c.stack) (sym c.goes_on) c.leads, c.sized);
+  sized = (c.stack, (c.owns, subst (λ i. Leads code i c.stack) (sym c.goes_on) c.leads), c.sized);
 }
 
 -- Its adjustment begins ----------------------------------------------------------------------------------

@@ -17,6 +17,8 @@ use Rattle.ctl_code.specs.States as T
 use Rattle.ctl_code.specs.States.{Word, Move, State}
 use Rattle.ctl_code.specs.Table as Table
 use Rattle.ctl_code.specs.Table.{Here, adjust_new, by_instr, by_declare_copy, gone, parts_of, size_of, by_copy, declare_with}
+use Rattle.ctl_code.specs.Fits.{OwnsOne}
+use Rattle.ctl_code.specs.Windows.{OwnsSlot}
 use Rattle.ctl_machine.specs.declared.engine.Engine.{Engine}
 use Rattle.ctl_machine.specs.declared.frame.Master.{Master}
 use Rattle.ctl_machine.specs.declared.frame.Mode.TheVariants as ModeOf
@@ -135,14 +137,14 @@ record IsMade (code : Code) (mid : Engine) (slot t : ℕ) (s : State) (m : Maste
   pub number : mid.numbered.objects + 1 ≡ s.world.ledger.next_object
 
 -- the object is created, and takes the value
-made_so : (code : Code) (mid : Engine) (below : List Kind) (slot t : ℕ) (s : State) (m : Master) (value : List ℕ) → Inside code (kept mid) below s.control (drop 1 s.operands) s.world → slice_get mid.masters.items (length mid.masters.items - 1) ≡ Some m
+made_so : (code : Code) (mid : Engine) (below : List Kind) (slot t : ℕ) (s : State) (m : Master) (value : List ℕ) → Inside code (kept mid) below s.control (drop 1 s.operands) s.world → OwnsOne below → slice_get mid.masters.items (length mid.masters.items - 1) ≡ Some m
     → IsMade code mid slot t s m value
 unfolding opened_changes
-made_so code mid below slot t s m value inside newest =
+made_so code mid below slot t s m value inside owns newest =
     let w = s.world in
     let j = w.ledger.next_object in
     let rest = drop 1 s.operands in
-    let has = has_object code mid below slot t s rest m inside newest in
+    let has = has_object code mid below slot t s rest m inside owns newest in
     let x = new_object (mid.numbered.objects + 1) (Record t) (replicate (size_of code t) 0) (Declared m.number) in
     let zeros : Kept = with_object m slot t (replicate (size_of code t) 0) (kept mid) in
     let created = Table.with_object code (first_display (heads_of w.activations)) slot t w in
@@ -172,7 +174,8 @@ declared_is code old mid new place slot t s m value b mid_is newest move are giv
     let rest = drop 1 s.operands in
     let g = copied_part code old place slot t s b in
     let inside : Inside code (kept mid) below s.control rest w = subst (λ (e : Kept). Inside code e below s.control rest w) (sym mid_is) g.left in
-    let made = made_so code mid below slot t s m value inside newest in
+    let owns : OwnsOne below = (slot, subst (λ stack. OwnsSlot stack slot) b.fine.1.1 b.fine.2) in
+    let made = made_so code mid below slot t s m value inside owns newest in
     let e : Kept = with_copy m slot t (size_of code t) value (kept mid) in
     let x = copied_by code (place + 1) slot t value s in
     let i : IsCreated w.ledger.next_object t m e.owned = record { before = mid.owned.items; object = newborn (kept mid) slot t m; is_newest = refl; is_own = made.owned; number = made.number; role = refl; no_layer = refl } in
@@ -181,6 +184,7 @@ declared_is code old mid new place slot t s m value b mid_is newest move are giv
         stack = below;
         leads = b.fine.1.2;
         stands = inside.stands;
+        owns = owns;
         sized = subst (λ (l : List Head). Sized code below s.control l) (sym heads) inside.sized;
         holds = subst (λ (z : Kept). Holds code z s.control rest x.world) (sym are) made.holds;
         spots = ap (λ (z : Kept). z.spots) are ∙ ap (λ (z : Kept). z.spots) mid_is;

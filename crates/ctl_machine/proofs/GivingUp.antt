@@ -46,7 +46,7 @@ pub record IsCreating (code : Code) (fs : List Frame) (k : List T.Frame) (s : Sp
 
 filling_so : (code : Code) {fs : List Frame} {ms : List Master} {hs : List Head} {owned : List Owned} {x : T.Newborn} {left incomplete : List Begun} {k : List T.Frame} (s : Spot) → x.spot ≡ s → Wait fs ms hs owned (T.Filling x left incomplete ∷ k) → AllLeaveSame code fs (T.Filling x left incomplete ∷ k)
     → IsCreating code fs (T.Filling x left incomplete ∷ k) s k
-filling_so code s is (filling_waits i j w) h = record { top = _; below = _; frame = _; control = refl; is = refl; part = fills is i j h.0.0 h.0.1 }
+filling_so code s is (filling_waits i j w) h = record { top = _; below = _; frame = _; control = refl; is = refl; part = fills is i j h.0.0 h.0.1 h.0.2 }
 
 initializing_so : (code : Code) {fs : List Frame} {ms : List Master} {hs : List Head} {owned : List Owned} {x : T.Newborn} {k : List T.Frame} (s : Spot) → x.spot ≡ s → Wait fs ms hs owned (T.Initializing x ∷ k) → IsCreating code fs (T.Initializing x ∷ k) s k
 initializing_so code s is (initializing_waits i j w) = record { top = _; below = _; frame = _; control = refl; is = refl; part = initializes is i j }

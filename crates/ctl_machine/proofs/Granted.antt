@@ -77,9 +77,14 @@ master_seen code e k ops w v level count m h some same bound display shallow lon
     (found, sym (level_seen d v level same) ∙ level_is d (record v { level = level }) count e.masters.items hs m some (linked_in code e k ops w h) found (omega (arith, shallow, long, some)) display long)
 
 -- a slot that is not there holds none
-pub no_object_held : (n slot : ℕ) (w : World) → slot_in n slot w.activations ≡ W.unset → None ≡ number_in (word_of (slot_at n slot w).content)
+pub nothing_held : (n slot : ℕ) (w : World) → slot_in n slot w.activations ≡ W.unset → word_of (slot_at n slot w).content ≡ None
 unfolding opened_changes
-no_object_held n slot w is = ap (λ (y : Slot). number_in (word_of y.content)) (sym is)
+nothing_held n slot w is = ap (λ (y : Slot). word_of y.content) is
+
+-- and its value is 0
+pub nothing_valued : (n slot : ℕ) (w : World) → slot_in n slot w.activations ≡ W.unset → (slot_at n slot w).value ≡ 0
+unfolding opened_changes
+nothing_valued n slot w is = ap (λ (y : Slot). y.value) is
 
 -- what was found in a slot is what it holds
 pub part_held : (code : Code) (e : Engine) (k : List T.Frame) (ops : List Word) (w : World) (n slot i end : ℕ) (x : Master) (owned : List Owned) (formals : List Formal) (r : Option Holder) → Holds code (kept e) k ops w → slice_get e.masters.items i ≡ Some x → n ≡ x.number → slot < x.slots

@@ -4,25 +4,22 @@ use Rattle.std.specs.Prelude.{slice_get}
 use Rattle.std.proofs.lemmas.List.{reverse-append, reverse-reverse, take_all}
 use Rattle.std.proofs.lemmas.Option.{slice_get_within}
 use Rattle.ctl_meaning.specs.World as W
-use Rattle.ctl_meaning.specs.World.{World, Content, Slot, unset, Activation}
+use Rattle.ctl_meaning.specs.World.{World, Slot, Activation}
 use Rattle.ctl_meaning.specs.Activations.{slot_in}
 use Rattle.ctl_meaning.specs.Changes.{opened_changes, slot_at}
 use Rattle.ctl_code.specs.declared.code.Code.{Code}
 use Rattle.ctl_code.specs.States as T
 use Rattle.ctl_code.specs.States.{Word}
-use Rattle.ctl_code.specs.Table.{out_of, holder_at, word_of}
 use Rattle.ctl_machine.specs.declared.engine.Engine.{Engine}
 use Rattle.ctl_machine.specs.declared.frame.Formal.{Formal}
 use Rattle.ctl_machine.specs.declared.frame.Master.{Master}
 use Rattle.ctl_machine.specs.declared.frame.Owned.{Owned}
 use Rattle.ctl_machine.specs.Masters.{Head, heads_of, AreMasters, newest_master, AreBelow, IsAmong}
 use Rattle.ctl_machine.specs.Holders.{holder_in, formal_in, own_formals, AreHeld, own_end}
-use Rattle.ctl_machine.specs.Variables.{IsNoVariable}
 use Rattle.ctl_machine.specs.Shows.{Holds, kept}
 use Rattle.ctl_machine.proofs.Lists.{length_taken, get_right}
 use Rattle.ctl_machine.proofs.Links.{get_split}
 use Rattle.ctl_machine.proofs.Slots.{is_older, slot_of_own, slot_of_other}
-use Rattle.ctl_machine.proofs.Reached.{no_variable_slot}
 
 -- Where the objects of a master end -------------------------------------------------------------------
 
@@ -142,13 +139,3 @@ unfolding opened_changes
 content_is code e k ops w n slot i x h found number less =
     ap (λ j. (slot_in j slot w.activations).content) number
     ∙ content_there (reverse e.masters.items) w.activations w.ledger.masters e.owned.items e.formals.items (e.given_masters + 1) x _ slot h.masters h.below h.held (ends_own e.masters.items i (length e.owned.items) x found) less
-
-pub holder_is : (code : Code) (e : Engine) (k : List T.Frame) (ops : List Word) (w : World) (d : List ℕ) (out slot i : ℕ) (x : Master) → Holds code (kept e) k ops w → slice_get e.masters.items i ≡ Some x → out_of d out ≡ x.number → slot < x.slots
-    → holder_at d out slot w ≡ word_of (holder_in (drop x.owned (take (own_end (slice_get e.masters.items (i + 1)) (length e.owned.items)) e.owned.items)) slot (formal_in (own_formals x e.formals.items) slot))
-unfolding opened_changes
-holder_is code e k ops w d out slot i x h found number less =
-    ap (λ c. word_of c) (content_is code e k ops w (out_of d out) slot i x h found number less)
-
-pub no_holder : (code : Code) (e : Engine) (k : List T.Frame) (ops : List Word) (w : World) (d : List ℕ) (out slot : ℕ) → Holds code (kept e) k ops w → IsNoVariable d out slot (reverse e.masters.items) → holder_at d out slot w ≡ None
-unfolding opened_changes
-no_holder code e k ops w d out slot h none = ap (λ (y : Slot). word_of y.content) (no_variable_slot code (kept e) k ops w d out slot h none)

@@ -4,11 +4,11 @@ use Rattle.ctl_meaning.specs.World as W
 use Rattle.ctl_meaning.specs.World.{World}
 use Rattle.ctl_meaning.specs.Lists.{last_of, opened_lists}
 use Rattle.ctl_code.specs.declared.kinds.Kind.{Kind}
-use Rattle.ctl_code.specs.declared.kinds.Kind.TheVariants.{Operand, RecordValue, Block, Body}
+use Rattle.ctl_code.specs.declared.kinds.Kind.TheVariants.{Operand, RecordValue, Block, Body, Default}
 use Rattle.ctl_code.specs.declared.code.Code.{Code}
 use Rattle.ctl_code.specs.States as T
 use Rattle.ctl_code.specs.States.{Word, InMaster, AfterBlock, AfterProcedure, AfterFunction, AfterBody}
-use Rattle.ctl_code.specs.Fits.{Stands}
+use Rattle.ctl_code.specs.Fits.{OwnsOne, Stands}
 use Rattle.ctl_machine.specs.declared.frame.After.{After}
 use Rattle.ctl_machine.specs.declared.frame.Frame.{Frame}
 use Rattle.ctl_machine.specs.declared.frame.Handling.{Handling}
@@ -20,14 +20,15 @@ use Rattle.ctl_machine.specs.Shows.{Wait, Kept, Holds}
 use Rattle.ctl_machine.proofs.Left.{top_of}
 
 -- where something stands, a master is being executed
-pub inside_master : (code : Code) (stack : List Kind) (k : List T.Frame) (ops : List Word) → Stands code stack k ops → (n : ℕ) × (handling : T.Handling) × (leads : T.After) × (waiting : List T.Frame) × (k ≡ InMaster n handling leads ∷ waiting)
-inside_master code (Operand ty ∷ stack) k (x ∷ ops) stands = inside_master code stack k ops stands.1
-inside_master code (RecordValue ∷ stack) k (T.Cells v ∷ ops) stands = inside_master code stack k ops stands
-inside_master code (Block slots ∷ stack) (InMaster n g (AfterBlock p) ∷ k) [] stands = (n, g, AfterBlock p, k, refl)
-inside_master code (Body level slots number ∷ []) (InMaster n g (AfterProcedure copies p) ∷ k) [] stands = (n, g, (AfterProcedure copies p), k, refl)
-inside_master code (Body level slots number ∷ []) (InMaster n g (AfterFunction given p) ∷ k) [] stands = (n, g, (AfterFunction given p), k, refl)
-inside_master code (Body level slots number ∷ []) (InMaster n g AfterBody ∷ k) [] stands = (n, g, AfterBody, k, refl)
-inside_master code _ _ _ stands = elim stands [ ]
+pub inside_master : (code : Code) (stack : List Kind) (k : List T.Frame) (ops : List Word) → Stands code stack k ops → OwnsOne stack → (n : ℕ) × (handling : T.Handling) × (leads : T.After) × (waiting : List T.Frame) × (k ≡ InMaster n handling leads ∷ waiting)
+inside_master code (Operand ty ∷ stack) k (x ∷ ops) stands owns = inside_master code stack k ops stands.1 owns
+inside_master code (RecordValue ∷ stack) k (T.Cells v ∷ ops) stands owns = inside_master code stack k ops stands owns
+inside_master code (Block slots ∷ stack) (InMaster n g (AfterBlock p) ∷ k) [] stands owns = (n, g, AfterBlock p, k, refl)
+inside_master code (Body level slots number ∷ []) (InMaster n g (AfterProcedure copies p) ∷ k) [] stands owns = (n, g, (AfterProcedure copies p), k, refl)
+inside_master code (Body level slots number ∷ []) (InMaster n g (AfterFunction given p) ∷ k) [] stands owns = (n, g, (AfterFunction given p), k, refl)
+inside_master code (Body level slots number ∷ []) (InMaster n g AfterBody ∷ k) [] stands owns = (n, g, AfterBody, k, refl)
+inside_master code (Default level number ∷ stack) k ops stands owns = absurd owns.1
+inside_master code _ _ _ stands owns = elim stands [ ]
 
 last_is : (d : List ℕ) (n : ℕ) → last_of (d ++ n ∷ []) ≡ n
 unfolding opened_lists
@@ -55,10 +56,10 @@ pub record IsInnermost (e : Kept) (k : List T.Frame) (hs : List Head) : Type 0 w
   pub masters : e.masters ≡ master ∷ others
   pub last : last_of (first_display hs) ≡ master.number
 
-pub innermost : (code : Code) (e : Kept) (stack : List Kind) (k : List T.Frame) (there ops : List Word) (w : World) → Stands code stack k there → Holds code e k ops w → IsInnermost e k (heads_of w.activations)
-innermost code e stack k there ops w stands h =
+pub innermost : (code : Code) (e : Kept) (stack : List Kind) (k : List T.Frame) (there ops : List Word) (w : World) → Stands code stack k there → OwnsOne stack → Holds code e k ops w → IsInnermost e k (heads_of w.activations)
+innermost code e stack k there ops w stands owns h =
     let hs = heads_of w.activations in
-    let i = inside_master code stack k there stands in
+    let i = inside_master code stack k there stands owns in
     let t = top_of (subst (λ (l : List T.Frame). Wait e.control e.masters hs e.owned l) i.4 h.waits) in
     record {
       number = i.0;

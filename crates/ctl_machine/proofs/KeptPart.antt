@@ -12,7 +12,7 @@ use Rattle.ctl_meaning.specs.World.{World}
 use Rattle.ctl_meaning.specs.Finalization.{Spot}
 use Rattle.ctl_meaning.specs.Changes.{object_at}
 use Rattle.ctl_code.specs.declared.kinds.Kind.{Kind}
-use Rattle.ctl_code.specs.declared.kinds.Kind.TheVariants.{Operand, RecordValue, Block, Body}
+use Rattle.ctl_code.specs.declared.kinds.Kind.TheVariants.{Operand, RecordValue, Block, Body, Default}
 use Rattle.ctl_code.specs.declared.code.Code.{Code}
 use Rattle.ctl_code.specs.declared.code.Named.TheVariants as NamedOf
 use Rattle.ctl_code.specs.declared.code.Instr.TheVariants.{KeepPart}
@@ -144,6 +144,7 @@ operands_high (suc n) [] h = absurd h
 operands_high (suc n) (RecordValue ∷ stack) h = absurd h
 operands_high (suc n) (Block slots ∷ stack) h = absurd h
 operands_high (suc n) (Body level slots number ∷ stack) h = absurd h
+operands_high (suc n) (Default level number ∷ stack) h = absurd h
 
 -- two numbers under so many operands, the lower of which stands in this cell
 record HaveTwo (n at : ℕ) (stack : List Kind) : Type 0 where

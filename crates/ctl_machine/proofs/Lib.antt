@@ -33,6 +33,7 @@ pub mod Candidates
 pub mod Emptied
 pub mod Starting
 pub mod EmptiedLayers
+pub mod Lent
 pub mod Links
 pub mod Bodies
 pub mod PartFrames
@@ -154,3 +155,4 @@ pub mod PlacedMember
 pub mod UserAllocates
 pub mod Deallocated
 pub mod ValueKept
+pub mod Evaluated

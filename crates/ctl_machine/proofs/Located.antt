@@ -4,6 +4,7 @@ use Rattle.std.specs.Prelude.{slice_set}
 use Rattle.std.proofs.lemmas.List.{append-nil, append_assoc}
 use Rattle.ctl_tree.specs.declared.ending.Stop.TheVariants.{UseAfterFree}
 use Rattle.ctl_program.specs.declared.types.Ty.{Ty}
+use Rattle.ctl_program.specs.declared.types.Var.{Var}
 use Rattle.ctl_program.specs.declared.types.Ty.TheVariants.{Record}
 use Rattle.ctl_meaning.specs.World.{World}
 use Rattle.ctl_meaning.specs.Finalization.{Spot}
@@ -15,12 +16,13 @@ use Rattle.ctl_code.specs.declared.code.Cell.{Cell}
 use Rattle.ctl_code.specs.declared.code.Instr.TheVariants.{DropPart, Locate, Select, TakePart}
 use Rattle.ctl_code.specs.States as T
 use Rattle.ctl_code.specs.Fits.{IsOperandOf}
+use Rattle.ctl_meaning.specs.Activations.{master_of}
 use Rattle.ctl_meaning.specs.Changes.{slot_at}
 use Rattle.ctl_meaning.specs.World as W
 use Rattle.ctl_meaning.specs.World.{Content}
 use Rattle.ctl_code.specs.States.{Word, Scalar, Located, Cells, Move, State}
 use Rattle.ctl_machine.specs.RecordValues.{IsPart, IsValue}
-use Rattle.ctl_code.specs.Table.{Here, by_instr, by_locate, component_in, component_of, fetch_from, gone, holder_at, locating, offset_of, on, on_record, on_top, out_of, quiet, word_of}
+use Rattle.ctl_code.specs.Table.{Here, by_instr, by_locate, component_in, component_of, fetch_from, gone, holder_at, locating, offset_of, on, on_record, on_top, quiet, word_of}
 use Rattle.ctl_code.specs.Valid.{IsValid, Leads}
 use Rattle.ctl_code.specs.Windows.{height}
 use Rattle.ctl_machine.specs.declared.engine.Engine.{Engine}
@@ -96,25 +98,25 @@ held_operand t (W.Copies v) x is = subst (λ (y : Word). IsOperandOf (Record t) 
 held_operand t W.Nothing x is = absurd (let f : Some x ≡ None = is in cc)
 held_operand t (W.Gathers n) x is = absurd (let f : Some x ≡ None = is in cc)
 
-locate_move : (code : Code) (place : ℕ) (s : State) (out slot t at : ℕ) (x : Option Word) → x ≡ holder_at (first_display (heads_of s.world.activations)) out slot s.world
-    → by_instr code (Some (Locate out slot t at)) s.operands (here_of place s) ≡ by_locate x s.operands (here_of place s)
-locate_move code place s out slot t at x is = ap (λ y. by_locate y s.operands (here_of place s)) (sym is)
+locate_move : (code : Code) (place : ℕ) (s : State) (v : Var) (t at : ℕ) (x : Option Word) → x ≡ holder_at (first_display (heads_of s.world.activations)) v s.world
+    → by_instr code (Some (Locate v t at)) s.operands (here_of place s) ≡ by_locate x s.operands (here_of place s)
+locate_move code place s v t at x is = ap (λ y. by_locate y s.operands (here_of place s)) (sym is)
 
-pub locate_within : (code : Code) (e : Engine) (place : ℕ) (s : State) (out slot t at : ℕ) → IsValid code → Before code e place (Locate out slot t at) s → first_window (reverse e.masters.items) + at < length e.cells.items
-locate_within code e place s out slot t at valid b = (located_put code (kept e) (place + 1) t at b.stack s.control s.operands s.world (Located (record { object = 0; offset = 0; path = [] })) valid b.inside b.fine.0 b.fine.1 tt).0
+pub locate_within : (code : Code) (e : Engine) (place : ℕ) (s : State) (v : Var) (t at : ℕ) → IsValid code → Before code e place (Locate v t at) s → first_window (reverse e.masters.items) + at < length e.cells.items
+locate_within code e place s v t at valid b = (located_put code (kept e) (place + 1) t at b.stack s.control s.operands s.world (Located (record { object = 0; offset = 0; path = [] })) valid b.inside b.fine.0 b.fine.1 tt).0
 
-pub locate_makes : (code : Code) (old new : Engine) (place : ℕ) (s : State) (out slot t at : ℕ) (x : Word) → IsValid code → Before code old place (Locate out slot t at) s → Some x ≡ holder_at (first_display (heads_of s.world.activations)) out slot s.world
+pub locate_makes : (code : Code) (old new : Engine) (place : ℕ) (s : State) (v : Var) (t at : ℕ) (x : Word) → IsValid code → Before code old place (Locate v t at) s → Some x ≡ holder_at (first_display (heads_of s.world.activations)) v s.world
     → new.mode ≡ ModeOf.At (place + 1) → kept new ≡ with_word_at (first_window (reverse old.masters.items) + at) x (kept old) → new.events.items ≡ old.events.items → new.picks.items ≡ old.picks.items
-    → Makes code old new (by_instr code (Some (Locate out slot t at)) s.operands (here_of place s))
-locate_makes code old new place s out slot t at x valid b is mode kept_is events picks =
-    subst (λ (m : Move). Makes code old new m) (sym (locate_move code place s out slot t at (Some x) is))
+    → Makes code old new (by_instr code (Some (Locate v t at)) s.operands (here_of place s))
+locate_makes code old new place s v t at x valid b is mode kept_is events picks =
+    subst (λ (m : Move). Makes code old new m) (sym (locate_move code place s v t at (Some x) is))
     (goes_keeping code old new (with_word_at (first_window (reverse old.masters.items) + at) x (kept old)) (place + 1) (Operand (Record t) ∷ b.stack) s.control (x ∷ s.operands) s.world b.fine.1
-    (located_put code (kept old) (place + 1) t at b.stack s.control s.operands s.world x valid b.inside b.fine.0 b.fine.1 (held_operand t (slot_at (out_of (first_display (heads_of s.world.activations)) out) slot s.world).content x is)).1 mode kept_is events picks)
+    (located_put code (kept old) (place + 1) t at b.stack s.control s.operands s.world x valid b.inside b.fine.0 b.fine.1 (held_operand t (slot_at (master_of (first_display (heads_of s.world.activations)) v) v.slot s.world).content x is)).1 mode kept_is events picks)
 
-pub locate_gone : (code : Code) (old new : Engine) (place : ℕ) (s : State) (out slot t at : ℕ) → Before code old place (Locate out slot t at) s → None ≡ holder_at (first_display (heads_of s.world.activations)) out slot s.world
-    → GoesOn old new (ModeOf.Stopped UseAfterFree) old.cells.items → Makes code old new (by_instr code (Some (Locate out slot t at)) s.operands (here_of place s))
-locate_gone code old new place s out slot t at b is g =
-    subst (λ (m : Move). Makes code old new m) (sym (locate_move code place s out slot t at None is))
+pub locate_gone : (code : Code) (old new : Engine) (place : ℕ) (s : State) (v : Var) (t at : ℕ) → Before code old place (Locate v t at) s → None ≡ holder_at (first_display (heads_of s.world.activations)) v s.world
+    → GoesOn old new (ModeOf.Stopped UseAfterFree) old.cells.items → Makes code old new (by_instr code (Some (Locate v t at)) s.operands (here_of place s))
+locate_gone code old new place s v t at b is g =
+    subst (λ (m : Move). Makes code old new m) (sym (locate_move code place s v t at None is))
     (gone_makes code old new s.control s.operands s.world b.inside.holds g)
 
 -- A component takes the place of a part (4.1.3) --------------------------------------------------------

@@ -16,6 +16,7 @@ use Rattle.ctl_code.specs.declared.code.Instr.TheVariants.{Gather}
 use Rattle.ctl_code.specs.States as T
 use Rattle.ctl_code.specs.States.{Move, State, Word}
 use Rattle.ctl_code.specs.Table.{by_instr, numbers_to, quiet, with_sets}
+use Rattle.ctl_code.specs.Fits.{OwnsOne}
 use Rattle.ctl_machine.specs.declared.engine.Engine.{Engine}
 use Rattle.ctl_machine.specs.declared.frame.After.{After}
 use Rattle.ctl_machine.specs.declared.frame.Frame.{Frame}
@@ -210,11 +211,11 @@ pub record Gathers (code : Code) (old : Engine) (stack : List Kind) (slot count 
   pub heads : heads_of (with_sets (first_display (heads_of s.world.activations)) s.world.ledger.next_collection count (add_collection (last_of (first_display (heads_of s.world.activations))) slot (W.holding (W.Gathers s.world.ledger.next_collection)) s.world)).activations ≡ heads_of s.world.activations
   pub within : slot < m.slots → m.base + slot < length old.cells.items
 
-pub gathers : (code : Code) (old : Engine) (stack : List Kind) (slot count : ℕ) (s : State) (m : Master) → Inside code (kept old) stack s.control s.operands s.world → slice_get old.masters.items (length old.masters.items - 1) ≡ Some m → Gathers code old stack slot count s m
-gathers code old stack slot count s m inside newest =
+pub gathers : (code : Code) (old : Engine) (stack : List Kind) (slot count : ℕ) (s : State) (m : Master) → Inside code (kept old) stack s.control s.operands s.world → OwnsOne stack → slice_get old.masters.items (length old.masters.items - 1) ≡ Some m → Gathers code old stack slot count s m
+gathers code old stack slot count s m inside owns newest =
     let w = s.world in
     let d = first_display (heads_of w.activations) in
-    let f = stands_in code stack s.control s.operands inside.stands in
+    let f = stands_in code stack s.control s.operands inside.stands owns in
     let k' : List T.Frame = T.InMaster f.0 f.1 f.2 ∷ f.3 in
     let h' : Holds code (kept old) k' s.operands w = subst (λ (k : List T.Frame). Holds code (kept old) k s.operands w) f.4 inside.holds in
     let i = innermost h'.waits h'.masters in
@@ -242,7 +243,7 @@ pub gather_makes : (code : Code) (old new : Engine) (access count place : ℕ) (
 gather_makes code old new access count place a s m b found newest mode is events picks =
     let w = s.world in
     let d = first_display (heads_of w.activations) in
-    let g = gathers code old b.stack a.collection.slot count s m b.inside newest in
+    let g = gathers code old b.stack a.collection.slot count s m b.inside (b.fine.0.0.collection.slot, b.fine.0.3) newest in
     let w' = with_sets d w.ledger.next_collection count (add_collection (last_of d) a.collection.slot (W.holding (W.Gathers w.ledger.next_collection)) w) in
     let made = comes_makes code old new (with_set m a.collection.slot count (kept old)) (place + 1) b.stack s.control s.operands w' b.fine.2 g.inside (record { mode = mode; kept = is; events = events; picks = picks }) in
     rw (found) (subst (λ (hs : List Head). Makes code old new (quiet (T.At (first_display hs) (place + 1)) s.control s.operands w')) g.heads made)

@@ -1,5 +1,5 @@
 -- One of the components that are left is adjusted, or the part itself, once none is left.
-use Rattle.std.proofs.Common.{◌≡◌, ℕ, ◌+◌, ◌^◌, ◌<◌, ◌≤◌, List, [], ◌∷◌, ◌++◌, Option, None, Some, Bool, length, sym, ap, ◌∙◌, subst, arith}
+use Rattle.std.proofs.Common.{◌≡◌, ℕ, ◌+◌, ◌^◌, ◌<◌, ◌≤◌, List, [], ◌∷◌, ◌++◌, Option, None, Some, Bool, length, refl, sym, ap, ◌∙◌, subst, arith}
 use Rattle.std.specs.Prelude.{vec_capacity, vec_len}
 use Rattle.ctl_tree.specs.declared.event.Owner.{Owner}
 use Rattle.ctl_meaning.specs.World.{World}
@@ -9,7 +9,7 @@ use Rattle.ctl_meaning.specs.Outcome.{Fine}
 use Rattle.ctl_code.specs.declared.code.Begun.{Begun}
 use Rattle.ctl_code.specs.declared.code.Code.{Code}
 use Rattle.ctl_code.specs.declared.code.Initial.{Initial}
-use Rattle.ctl_code.specs.declared.code.Initial.TheVariants.{Constant, ByType}
+use Rattle.ctl_code.specs.declared.code.Initial.TheVariants.{Constant, ByType, Computed}
 use Rattle.ctl_code.specs.States as T
 use Rattle.ctl_code.specs.Table.{adjust_component, adjust_next, adjust_part, component_of, controlled_of, gives, handed}
 use Rattle.ctl_machine.specs.declared.engine.Engine.{Engine}
@@ -29,12 +29,18 @@ use Rattle.ctl_machine.proofs.PartFrames.{adjusts}
 
 -- The table ----------------------------------------------------------------------------------------------
 
-pub next_constant : (code : Code) (creation : Option Owner) (s : Spot) (type : ℕ) (left : List Begun) (failed : Bool) (pick : ℕ) (k : List T.Frame) (w : World) (y : Begun) (v : ℕ) → 0 < length left → ((d : Begun) → y ≡ pull_item d pick left) → y.initial ≡ Constant v
+-- nothing is done of a component of an elementary type
+elementary : (code : Code) (creation : Option Owner) (s : Spot) (x : Begun) (i : Initial) (failed : Bool) (k : List T.Frame) (w : World) → ((t : ℕ) → i ≡ ByType t → ⊥) → adjust_component code creation s x i failed k w ≡ gives (Fine (handed failed)) k w
+elementary code creation s x (Constant v) failed k w other = refl
+elementary code creation s x Computed failed k w other = refl
+elementary code creation s x (ByType t) failed k w other = absurd (other t refl)
+
+pub next_elementary : (code : Code) (creation : Option Owner) (s : Spot) (type : ℕ) (left : List Begun) (failed : Bool) (pick : ℕ) (k : List T.Frame) (w : World) (y : Begun) → 0 < length left → ((d : Begun) → y ≡ pull_item d pick left) → ((t : ℕ) → y.initial ≡ ByType t → ⊥)
     → adjust_next code creation s type left failed pick k w ≡ gives (Fine (handed failed)) (T.Adjusting creation s type (pull_rest pick left) ∷ k) w
-next_constant code creation s type [] failed pick k w y v some is constant = absurd (omega (arith, some))
-next_constant code creation s type (x ∷ xs) failed pick k w y v some is constant =
-    let rest : List T.Frame = T.Adjusting creation s type (pull_rest pick (x ∷ xs)) ∷ k in
-    ap (λ (i : Initial). adjust_component code creation s (pull_item x pick (x ∷ xs)) i failed rest w) (ap (λ (z : Begun). z.initial) (sym (is x)) ∙ constant)
+next_elementary code creation s type [] failed pick k w y some is other = absurd (omega (arith, some))
+next_elementary code creation s type (x ∷ xs) failed pick k w y some is other =
+    let z = pull_item x pick (x ∷ xs) in
+    elementary code creation s z z.initial failed (T.Adjusting creation s type (pull_rest pick (x ∷ xs)) ∷ k) w (λ t e. other t (ap (λ (b : Begun). b.initial) (is x) ∙ e))
 
 pub next_by_type : (code : Code) (creation : Option Owner) (s : Spot) (type : ℕ) (left : List Begun) (failed : Bool) (pick : ℕ) (k : List T.Frame) (w : World) (y : Begun) (t : ℕ) → 0 < length left → ((d : Begun) → y ≡ pull_item d pick left) → y.initial ≡ ByType t
     → adjust_next code creation s type left failed pick k w ≡ adjust_part code creation (component_of s y.offset y.position) t failed (T.Adjusting creation s type (pull_rest pick left) ∷ k) w

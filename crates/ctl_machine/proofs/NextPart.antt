@@ -9,7 +9,7 @@ use Rattle.ctl_meaning.specs.Outcome.{Fine}
 use Rattle.ctl_code.specs.declared.code.Begun.{Begun}
 use Rattle.ctl_code.specs.declared.code.Code.{Code}
 use Rattle.ctl_code.specs.declared.code.Initial.{Initial}
-use Rattle.ctl_code.specs.declared.code.Initial.TheVariants.{Constant, ByType}
+use Rattle.ctl_code.specs.declared.code.Initial.TheVariants.{Constant, ByType, Computed}
 use Rattle.ctl_code.specs.States as T
 use Rattle.ctl_code.specs.States.{Move}
 use Rattle.ctl_code.specs.Table.{component_of, controlled_of, finalize_component, finalize_next, finalize_part, gives, part_at, parts_of}
@@ -34,16 +34,18 @@ some_begun = record { position = 0; offset = 0; initial = Constant 0 }
 
 -- The table ----------------------------------------------------------------------------------------------
 
-pub constant_so : (i : Initial) → ((t : ℕ) → i ≡ ByType t → ⊥) → (v : ℕ) × (i ≡ Constant v)
-constant_so (Constant v) other = (v, refl)
-constant_so (ByType t) other = absurd (other t refl)
+-- nothing is done of a component of an elementary type
+elementary : (code : Code) (cause : Cause) (s : Spot) (x : Begun) (i : Initial) (k : List T.Frame) (w : World) → ((t : ℕ) → i ≡ ByType t → ⊥) → finalize_component code cause s x i k w ≡ gives (Fine T.Complete) k w
+elementary code cause s x (Constant v) k w other = refl
+elementary code cause s x Computed k w other = refl
+elementary code cause s x (ByType t) k w other = absurd (other t refl)
 
-pub next_constant : (code : Code) (cause : Cause) (s : Spot) (left : List Begun) (failed : Bool) (pick : ℕ) (k : List T.Frame) (w : World) (y : Begun) (v : ℕ) → 0 < length left → ((d : Begun) → y ≡ pull_item d pick left) → y.initial ≡ Constant v
+pub next_elementary : (code : Code) (cause : Cause) (s : Spot) (left : List Begun) (failed : Bool) (pick : ℕ) (k : List T.Frame) (w : World) (y : Begun) → 0 < length left → ((d : Begun) → y ≡ pull_item d pick left) → ((t : ℕ) → y.initial ≡ ByType t → ⊥)
     → finalize_next code cause s left failed pick k w ≡ gives (Fine T.Complete) (T.FinalizingParts cause s (pull_rest pick left) failed ∷ k) w
-next_constant code cause s [] failed pick k w y v some is constant = absurd (omega (arith, some))
-next_constant code cause s (x ∷ xs) failed pick k w y v some is constant =
-    let rest : List T.Frame = T.FinalizingParts cause s (pull_rest pick (x ∷ xs)) failed ∷ k in
-    ap (λ (i : Initial). finalize_component code cause s (pull_item x pick (x ∷ xs)) i rest w) (ap (λ (z : Begun). z.initial) (sym (is x)) ∙ constant)
+next_elementary code cause s [] failed pick k w y some is other = absurd (omega (arith, some))
+next_elementary code cause s (x ∷ xs) failed pick k w y some is other =
+    let z = pull_item x pick (x ∷ xs) in
+    elementary code cause s z z.initial (T.FinalizingParts cause s (pull_rest pick (x ∷ xs)) failed ∷ k) w (λ t e. other t (ap (λ (b : Begun). b.initial) (is x) ∙ e))
 
 pub next_by_type : (code : Code) (cause : Cause) (s : Spot) (left : List Begun) (failed : Bool) (pick : ℕ) (k : List T.Frame) (w : World) (y : Begun) (t : ℕ) → 0 < length left → ((d : Begun) → y ≡ pull_item d pick left) → y.initial ≡ ByType t
     → finalize_next code cause s left failed pick k w ≡ finalize_part code (parts_of code t) cause (component_of s y.offset y.position) t (T.FinalizingParts cause s (pull_rest pick left) failed ∷ k) w

@@ -1,5 +1,5 @@
 -- One of the components that are left is finalized, of a part of a copy that failed.
-use Rattle.std.proofs.Common.{◌≡◌, ℕ, ◌<◌, List, [], ◌∷◌, ◌++◌, length, sym, ap, ◌∙◌, arith}
+use Rattle.std.proofs.Common.{◌≡◌, ℕ, ◌<◌, List, [], ◌∷◌, ◌++◌, length, refl, sym, ap, ◌∙◌, arith}
 use Rattle.ctl_meaning.specs.World.{World}
 use Rattle.ctl_meaning.specs.Finalization.{Spot}
 use Rattle.ctl_meaning.specs.Lists.{pull_item, pull_rest}
@@ -7,7 +7,7 @@ use Rattle.ctl_meaning.specs.Outcome.{Fine}
 use Rattle.ctl_code.specs.declared.code.Begun.{Begun}
 use Rattle.ctl_code.specs.declared.code.Code.{Code}
 use Rattle.ctl_code.specs.declared.code.Initial.{Initial}
-use Rattle.ctl_code.specs.declared.code.Initial.TheVariants.{Constant, ByType}
+use Rattle.ctl_code.specs.declared.code.Initial.TheVariants.{Constant, ByType, Computed}
 use Rattle.ctl_code.specs.States as T
 use Rattle.ctl_code.specs.Table.{component_of, controlled_of, gives, parts_of, undo_component, undo_next, undo_part}
 use Rattle.ctl_machine.specs.declared.engine.Engine.{Engine}
@@ -23,12 +23,18 @@ use Rattle.ctl_machine.proofs.PartFrames.{undoes_parts}
 
 -- The table ----------------------------------------------------------------------------------------------
 
-pub next_constant : (code : Code) (s : Spot) (left : List Begun) (pick : ℕ) (k : List T.Frame) (w : World) (y : Begun) (v : ℕ) → 0 < length left → ((d : Begun) → y ≡ pull_item d pick left) → y.initial ≡ Constant v
+-- nothing is done of a component of an elementary type
+elementary : (code : Code) (s : Spot) (x : Begun) (i : Initial) (k : List T.Frame) (w : World) → ((t : ℕ) → i ≡ ByType t → ⊥) → undo_component code s x i k w ≡ gives (Fine T.Complete) k w
+elementary code s x (Constant v) k w other = refl
+elementary code s x Computed k w other = refl
+elementary code s x (ByType t) k w other = absurd (other t refl)
+
+pub next_elementary : (code : Code) (s : Spot) (left : List Begun) (pick : ℕ) (k : List T.Frame) (w : World) (y : Begun) → 0 < length left → ((d : Begun) → y ≡ pull_item d pick left) → ((t : ℕ) → y.initial ≡ ByType t → ⊥)
     → undo_next code s left pick k w ≡ gives (Fine T.Complete) (T.UndoingParts s (pull_rest pick left) ∷ k) w
-next_constant code s [] pick k w y v some is constant = absurd (omega (arith, some))
-next_constant code s (x ∷ xs) pick k w y v some is constant =
-    let rest : List T.Frame = T.UndoingParts s (pull_rest pick (x ∷ xs)) ∷ k in
-    ap (λ (i : Initial). undo_component code s (pull_item x pick (x ∷ xs)) i rest w) (ap (λ (z : Begun). z.initial) (sym (is x)) ∙ constant)
+next_elementary code s [] pick k w y some is other = absurd (omega (arith, some))
+next_elementary code s (x ∷ xs) pick k w y some is other =
+    let z = pull_item x pick (x ∷ xs) in
+    elementary code s z z.initial (T.UndoingParts s (pull_rest pick (x ∷ xs)) ∷ k) w (λ t e. other t (ap (λ (b : Begun). b.initial) (is x) ∙ e))
 
 pub next_by_type : (code : Code) (s : Spot) (left : List Begun) (pick : ℕ) (k : List T.Frame) (w : World) (y : Begun) (t : ℕ) → 0 < length left → ((d : Begun) → y ≡ pull_item d pick left) → y.initial ≡ ByType t
     → undo_next code s left pick k w ≡ undo_part code (parts_of code t) (component_of s y.offset y.position) t (T.UndoingParts s (pull_rest pick left) ∷ k) w

@@ -15,7 +15,7 @@ use Rattle.ctl_machine.specs.declared.frame.Frame.TheVariants as FrameOf
 use Rattle.ctl_machine.specs.declared.frame.Left.{Left}
 use Rattle.ctl_machine.specs.declared.frame.Mode.{Mode}
 use Rattle.ctl_machine.specs.declared.frame.Mode.TheVariants as ModeOf
-use Rattle.ctl_machine.specs.Filling.{AreLeft}
+use Rattle.ctl_machine.specs.Filling.{IsCreation, AreLeft}
 use Rattle.ctl_machine.specs.Initializing.{Awaits, Grown, IsOf}
 use Rattle.ctl_machine.specs.Masters.{heads_of}
 use Rattle.ctl_machine.specs.Moves.{Makes}
@@ -40,14 +40,14 @@ with_part_frame f spots e = record e { control = f ∷ e.control; spots = spots 
 
 pub begins_makes : (code : Code) (old new : Engine) (t : Grown) (type : ℕ) (owner : Owner) (those : Left) (spots : List Spot) → Awaits code old t.control t.world → IsOf type owner t.new → those.first ≡ 0 → those.last ≡ length (begun_of code type)
     → spots ≡ old.spots.items ++ t.new.spot ∷ [] → kept new ≡ with_part_frame (FrameOf.Filling type owner those those) spots (kept old) → new.mode ≡ ModeOf.Giving EndedOf.Complete → new.events.items ≡ old.events.items → new.picks.items ≡ old.picks.items
-    → Makes code old new (begin_part code t.new t.control t.world)
-begins_makes code old new t type owner those spots a is first last added kept_is mode events picks =
+    → IsCreation t.control → Makes code old new (begin_part code t.new t.control t.world)
+begins_makes code old new t type owner those spots a is first last added kept_is mode events picks within =
     let all = begun_of code t.new.type in
     let same : begun_of code type ≡ all = ap (λ n. begun_of code n) (sym is.type_is) in
     let left : AreLeft (begun_of code type) those all = subst (λ (l : List Begun). AreLeft (begun_of code type) those l) same (all_left (begun_of code type) those first last) in
     let f = FrameOf.Filling type owner those those in
     let g = T.Filling t.new all all in
-    let h = part_comes code (kept old) f g t.new.spot t.control t.world (fills refl is.type_is is.owner_is left left) a.holds in
+    let h = part_comes code (kept old) f g t.new.spot t.control t.world (fills refl is.type_is is.owner_is left left within) a.holds in
     record {
       mode = subst (λ (y : Mode). ShowsMode code y (T.Giving (Fine T.Complete)) (g ∷ t.control) (heads_of t.world.activations)) (sym mode) (refl, a.sized);
       holds = subst (λ (y : Kept). Holds code y (g ∷ t.control) [] t.world) (sym kept_is) (other_spots code (record (kept old) { control = f ∷ (kept old).control }) spots (g ∷ t.control) [] t.world h);

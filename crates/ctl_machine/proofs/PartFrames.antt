@@ -18,18 +18,18 @@ use Rattle.ctl_machine.specs.declared.frame.Left.{Left}
 use Rattle.ctl_machine.specs.declared.frame.Master.{Master}
 use Rattle.ctl_machine.specs.declared.frame.Owned.{Owned}
 use Rattle.ctl_machine.specs.Masters.{Head, heads_of}
-use Rattle.ctl_machine.specs.Filling.{AreAmong, AreApart, AreLeft, LeavesSame, AllLeaveSame, is_undone}
+use Rattle.ctl_machine.specs.Filling.{AreAmong, AreApart, AreLeft, LeavesSame, AllLeaveSame, is_undone, IsCreation}
 use Rattle.ctl_machine.specs.Noted.{IsNoting, IsUndone, noted_in}
 use Rattle.ctl_machine.specs.Saved.{AreSaved}
 use Rattle.ctl_machine.specs.Spots.{spots_in}
 use Rattle.ctl_machine.specs.Under.{tall, under}
-use Rattle.ctl_machine.specs.Shows.{Wait, master_waits, leaving_waits, creating_waits, allocating_waits, allocating_copy_waits, copying_waits, assigning_waits, emptying_waits, freeing_waits, finalizing_waits, filling_waits, initializing_waits, failing_waits, adjusting_waits, adjusting_own_waits, undoing_waits, undoing_own_waits, undoing_parts_waits, finalizing_own_waits, finalizing_parts_waits, SizedBelow, Kept, Holds}
+use Rattle.ctl_machine.specs.Shows.{Wait, master_waits, leaving_waits, creating_waits, allocating_waits, allocating_copy_waits, copying_waits, assigning_waits, emptying_waits, freeing_waits, finalizing_waits, filling_waits, evaluating_waits, initializing_waits, failing_waits, adjusting_waits, adjusting_own_waits, undoing_waits, undoing_own_waits, undoing_parts_waits, finalizing_own_waits, finalizing_parts_waits, SizedBelow, Kept, Holds}
 use Rattle.ctl_machine.proofs.StillLeft.{left_below}
 
 -- over the same frames, a frame of the machine, one of the table, and the part that both wait for
 pub data IsPartFrame (code : Code) (k : List T.Frame) : Frame → T.Frame → Spot → Type 0 where
   fills : {t : ℕ} {owner : Owner} {those unfinished : Left} {x : T.Newborn} {left incomplete : List Begun} {s : Spot}
-      → x.spot ≡ s → x.type ≡ t → x.owner ≡ owner → AreLeft (begun_of code t) those left → AreLeft (begun_of code t) unfinished incomplete → IsPartFrame code k (FrameOf.Filling t owner those unfinished) (T.Filling x left incomplete) s
+      → x.spot ≡ s → x.type ≡ t → x.owner ≡ owner → AreLeft (begun_of code t) those left → AreLeft (begun_of code t) unfinished incomplete → IsCreation k → IsPartFrame code k (FrameOf.Filling t owner those unfinished) (T.Filling x left incomplete) s
   initializes : {t : ℕ} {owner : Owner} {x : T.Newborn} {s : Spot} → x.spot ≡ s → x.type ≡ t → x.owner ≡ owner → IsPartFrame code k (FrameOf.Initializing t owner) (T.Initializing x) s
   fails : {e : ℕ} {s : Spot} → IsPartFrame code k (FrameOf.Failing e) (T.Failing s e) s
   adjusts : {creation : Option Owner} {t : ℕ} {those : Left} {left : List Begun} {s : Spot}
@@ -45,7 +45,7 @@ pub data IsPartFrame (code : Code) (k : List T.Frame) : Frame → T.Frame → Sp
 -- What such a frame adds ------------------------------------------------------------------------------
 
 pub spots_with : (code : Code) {f : Frame} {g : T.Frame} {s : Spot} {k : List T.Frame} → IsPartFrame code k f g s → spots_in (g ∷ k) ≡ spots_in k ++ s ∷ []
-spots_with code {k = k} (fills is ty m those unfinished) = ap (λ (x : Spot). spots_in k ++ x ∷ []) is
+spots_with code {k = k} (fills is ty m those unfinished new) = ap (λ (x : Spot). spots_in k ++ x ∷ []) is
 spots_with code {k = k} (initializes is ty m) = ap (λ (x : Spot). spots_in k ++ x ∷ []) is
 spots_with code fails = refl
 spots_with code (adjusts noting left) = refl
@@ -57,7 +57,7 @@ spots_with code (finalizes_parts left) = refl
 
 -- no cell
 cells_with : (code : Code) {f : Frame} {g : T.Frame} {s : Spot} {k : List T.Frame} → IsPartFrame code k f g s → (acts : List Activation) → under (g ∷ k) acts ≡ under k acts
-cells_with code (fills is ty m those unfinished) acts = refl
+cells_with code (fills is ty m those unfinished new) acts = refl
 cells_with code (initializes is ty m) acts = refl
 cells_with code fails acts = refl
 cells_with code (adjusts noting left) acts = refl
@@ -68,7 +68,7 @@ cells_with code finalizes_own acts = refl
 cells_with code (finalizes_parts left) acts = refl
 
 pub tall_with : (code : Code) {f : Frame} {g : T.Frame} {s : Spot} {k : List T.Frame} → IsPartFrame code k f g s → (hs : List Head) → tall (g ∷ k) hs ≡ tall k hs
-tall_with code (fills is ty m those unfinished) hs = refl
+tall_with code (fills is ty m those unfinished new) hs = refl
 tall_with code (initializes is ty m) hs = refl
 tall_with code fails hs = refl
 tall_with code (adjusts noting left) hs = refl
@@ -79,7 +79,7 @@ tall_with code finalizes_own hs = refl
 tall_with code (finalizes_parts left) hs = refl
 
 saved_with : (code : Code) {f : Frame} {g : T.Frame} {s : Spot} {k : List T.Frame} → IsPartFrame code k f g s → (saved : List ℕ) → AreSaved code saved (g ∷ k) ≡ AreSaved code saved k
-saved_with code (fills is ty m those unfinished) saved = refl
+saved_with code (fills is ty m those unfinished new) saved = refl
 saved_with code (initializes is ty m) saved = refl
 saved_with code fails saved = refl
 saved_with code (adjusts noting left) saved = refl
@@ -90,7 +90,7 @@ saved_with code finalizes_own saved = refl
 saved_with code (finalizes_parts left) saved = refl
 
 pub sized_with : (code : Code) {f : Frame} {g : T.Frame} {s : Spot} {k : List T.Frame} → IsPartFrame code k f g s → (hs : List Head) → SizedBelow code (g ∷ k) hs ≡ SizedBelow code k hs
-sized_with code (fills is ty m those unfinished) hs = refl
+sized_with code (fills is ty m those unfinished new) hs = refl
 sized_with code (initializes is ty m) hs = refl
 sized_with code fails hs = refl
 sized_with code (adjusts noting left) hs = refl
@@ -101,7 +101,7 @@ sized_with code finalizes_own hs = refl
 sized_with code (finalizes_parts left) hs = refl
 
 pub waits_with : (code : Code) {f : Frame} {g : T.Frame} {s : Spot} {k : List T.Frame} → IsPartFrame code k f g s → Waits code (g ∷ k) ≡ Waits code k
-waits_with code (fills is ty m those unfinished) = refl
+waits_with code (fills is ty m those unfinished new) = refl
 waits_with code (initializes is ty m) = refl
 waits_with code fails = refl
 waits_with code (adjusts noting left) = refl
@@ -111,20 +111,20 @@ waits_with code (undoes_parts undone left many) = refl
 waits_with code finalizes_own = refl
 waits_with code (finalizes_parts left) = refl
 
-pub known_with : (code : Code) {f : Frame} {g : T.Frame} {s : Spot} {k : List T.Frame} → IsPartFrame code k f g s → SpeakOfKnown code (g ∷ k) ≡ SpeakOfKnown code k
-known_with code (fills is ty m those unfinished) = refl
-known_with code (initializes is ty m) = refl
-known_with code fails = refl
-known_with code (adjusts noting left) = refl
-known_with code (adjusts_own noting) = refl
-known_with code (undoes_own undone) = refl
-known_with code (undoes_parts undone left many) = refl
-known_with code finalizes_own = refl
-known_with code (finalizes_parts left) = refl
+pub known_with : (code : Code) {f : Frame} {g : T.Frame} {s : Spot} {k : List T.Frame} → IsPartFrame code k f g s → SpeakOfKnown code (g ∷ k) → SpeakOfKnown code k
+known_with code (fills is ty m those unfinished new) = λ h. h.1
+known_with code (initializes is ty m) = λ h. h
+known_with code fails = λ h. h
+known_with code (adjusts noting left) = λ h. h
+known_with code (adjusts_own noting) = λ h. h
+known_with code (undoes_own undone) = λ h. h
+known_with code (undoes_parts undone left many) = λ h. h
+known_with code finalizes_own = λ h. h
+known_with code (finalizes_parts left) = λ h. h
 
 -- nothing is noted by it
 noted_with : (code : Code) {f : Frame} {g : T.Frame} {s : Spot} {k : List T.Frame} → IsPartFrame code k f g s → noted_in (g ∷ k) ≡ noted_in k
-noted_with code (fills is ty m those unfinished) = refl
+noted_with code (fills is ty m those unfinished new) = refl
 noted_with code (initializes is ty m) = refl
 noted_with code fails = refl
 noted_with code (adjusts noting left) = refl
@@ -135,7 +135,7 @@ noted_with code finalizes_own = refl
 noted_with code (finalizes_parts left) = refl
 
 leaves_with : (code : Code) {f : Frame} {g : T.Frame} {s : Spot} {k : List T.Frame} → IsPartFrame code k f g s → LeavesSame code f g k
-leaves_with code (fills is ty m those unfinished) = (those, unfinished)
+leaves_with code (fills is ty m those unfinished new) = (those, unfinished, new)
 leaves_with code (initializes is ty m) = tt
 leaves_with code fails = tt
 leaves_with code (adjusts noting left) = (noting, left)
@@ -146,7 +146,7 @@ leaves_with code finalizes_own = tt
 leaves_with code (finalizes_parts left) = left
 
 on_top : (code : Code) {f : Frame} {g : T.Frame} {s : Spot} {fs : List Frame} {ms : List Master} {hs : List Head} {owned : List Owned} {k : List T.Frame} → IsPartFrame code k f g s → Wait fs ms hs owned k → Wait (f ∷ fs) ms hs owned (g ∷ k)
-on_top code (fills is ty m those unfinished) w = filling_waits ty m w
+on_top code (fills is ty m those unfinished new) w = filling_waits ty m w
 on_top code (initializes is ty m) w = initializing_waits ty m w
 on_top code fails w = failing_waits w
 on_top code (adjusts noting left) w = adjusting_waits w
@@ -160,10 +160,11 @@ on_top code (finalizes_parts left) w = finalizing_parts_waits w
 abbrev IsNoMaster : Frame → Type 0
 IsNoMaster (FrameOf.InMaster g after) = ⊥
 IsNoMaster (FrameOf.Leaving failed pending after next) = ⊥
+IsNoMaster (FrameOf.Evaluating object start offset window spots) = ⊥
 IsNoMaster f = Unit {0}
 
 no_master : (code : Code) {f : Frame} {g : T.Frame} {s : Spot} {k : List T.Frame} → IsPartFrame code k f g s → IsNoMaster f
-no_master code (fills is ty m those unfinished) = tt
+no_master code (fills is ty m those unfinished new) = tt
 no_master code (initializes is ty m) = tt
 no_master code fails = tt
 no_master code (adjusts noting left) = tt
@@ -181,6 +182,7 @@ below_top (allocating_waits i p d w) master = w
 below_top (copying_waits i p d w) master = w
 below_top (allocating_copy_waits i p d w) master = w
 below_top (filling_waits i j w) master = w
+below_top (evaluating_waits i w) master = absurd master
 below_top (initializing_waits i j w) master = w
 below_top (failing_waits w) master = w
 below_top (assigning_waits v p d w) master = w
@@ -257,7 +259,7 @@ pub record IsOver (code : Code) (f : Frame) (fs : List Frame) (ms : List Master)
   pub part : IsPartFrame code waiting f frame spot
 
 pub over_filling : (code : Code) {t : ℕ} {owner : Owner} {those unfinished : Left} {fs : List Frame} {ms : List Master} {hs : List Head} {owned : List Owned} {k : List T.Frame} → Wait (FrameOf.Filling t owner those unfinished ∷ fs) ms hs owned k → AllLeaveSame code (FrameOf.Filling t owner those unfinished ∷ fs) k → IsOver code (FrameOf.Filling t owner those unfinished) fs ms hs owned k
-over_filling code (filling_waits {x = x} {left = left} {incomplete = incomplete} {k = k} i j w) h = record { frame = T.Filling x left incomplete; waiting = k; spot = x.spot; is = refl; part = fills refl i j h.0.0 h.0.1 }
+over_filling code (filling_waits {x = x} {left = left} {incomplete = incomplete} {k = k} i j w) h = record { frame = T.Filling x left incomplete; waiting = k; spot = x.spot; is = refl; part = fills refl i j h.0.0 h.0.1 h.0.2 }
 
 pub over_initializing : (code : Code) {t : ℕ} {owner : Owner} {fs : List Frame} {ms : List Master} {hs : List Head} {owned : List Owned} {k : List T.Frame} → Wait (FrameOf.Initializing t owner ∷ fs) ms hs owned k → IsOver code (FrameOf.Initializing t owner) fs ms hs owned k
 over_initializing code (initializing_waits {x = x} {k = k} i j w) = record { frame = T.Initializing x; waiting = k; spot = x.spot; is = refl; part = initializes refl i j }

@@ -18,7 +18,7 @@ use Rattle.ctl_code.specs.States.{Word, Scalar, Located, Cells, cells_of, worth}
 use Rattle.ctl_machine.specs.Masters.{Head}
 use Rattle.ctl_machine.specs.Shows.{Sized}
 use Rattle.ctl_code.specs.declared.kinds.Kind.{Kind}
-use Rattle.ctl_code.specs.declared.kinds.Kind.TheVariants.{Operand, RecordValue, Block, Body}
+use Rattle.ctl_code.specs.declared.kinds.Kind.TheVariants.{Operand, RecordValue, Block, Body, Default}
 use Rattle.ctl_code.specs.Table.{formal_of, slots_of}
 use Rattle.ctl_code.specs.Table as Table
 use Rattle.ctl_code.specs.Valid.{HaveOperands}
@@ -165,6 +165,7 @@ below_actuals code (suc n) [] k ops hs h stands sized = absurd h
 below_actuals code (suc n) (RecordValue ∷ stack) k ops hs h stands sized = absurd h
 below_actuals code (suc n) (Block slots ∷ stack) k ops hs h stands sized = absurd h
 below_actuals code (suc n) (Body level slots number ∷ stack) k ops hs h stands sized = absurd h
+below_actuals code (suc n) (Default level number ∷ stack) k ops hs h stands sized = absurd h
 below_actuals code (suc n) (Operand ty ∷ stack) k [] hs h stands sized = absurd stands
 below_actuals code (suc n) (Operand ty ∷ stack) k (x ∷ ops) hs h stands sized =
     let b = below_actuals code n stack k ops hs h stands.1 sized in
@@ -178,6 +179,7 @@ are_actuals code (suc n) [] k ops h stands = absurd h
 are_actuals code (suc n) (RecordValue ∷ stack) k ops h stands = absurd h
 are_actuals code (suc n) (Block slots ∷ stack) k ops h stands = absurd h
 are_actuals code (suc n) (Body level slots number ∷ stack) k ops h stands = absurd h
+are_actuals code (suc n) (Default level number ∷ stack) k ops h stands = absurd h
 are_actuals code (suc n) (Operand ty ∷ stack) k [] h stands = absurd stands
 are_actuals code (suc n) (Operand ty ∷ stack) k (x ∷ ops) h stands = (stands.0, are_actuals code n stack k ops h stands.1)
 

@@ -25,6 +25,8 @@ use Rattle.ctl_code.specs.States as T
 use Rattle.ctl_code.specs.States.{Move, Scalar, State, Word}
 use Rattle.ctl_code.specs.Table as Table
 use Rattle.ctl_code.specs.Table.{Here, behind_declaration, by_instr, by_pool, create_object, pool_size, size_of, transfers}
+use Rattle.ctl_code.specs.Fits.{OwnsOne}
+use Rattle.ctl_code.specs.Windows.{OwnsSlot}
 use Rattle.ctl_storage.specs.Calls.{IsBlockPoolSize}
 use Rattle.ctl_storage.specs.Storage as Storage
 use Rattle.ctl_storage.specs.Storage.{exists}
@@ -218,7 +220,8 @@ pool_made code old ready made place slot t at cells order s m size b newest same
     let w = s.world in
     let next = old.numbered.objects + 1 in
     let seen = first_display (heads_of w.activations) in
-    let has = has_object code old below slot t s ops m inside newest in
+    let owns : OwnsOne below = (slot, subst (λ stack. OwnsSlot stack slot) b.fine.1.1 b.fine.2) in
+    let has = has_object code old below slot t s ops m inside owns newest in
     let e : Kept = with_object m slot t (replicate (size_of code t) 0) (kept old) in
     let are : kept made ≡ with_pool made.stock m slot t (replicate (size_of code t) 0) (kept old) =
     made_so ∙ (ap (λ (y : Kept). with_pool made.stock m slot t (replicate cells 0) y) same ∙ ap (λ n. with_pool made.stock m slot t (replicate n 0) (kept old)) many) in
@@ -241,7 +244,7 @@ pool_made code old ready made place slot t at cells order s m size b newest same
     record {
       is = is;
       newest = subst (λ (y : NewObject). IsDeclared code made t (place + 1) y) (sym is)
-          (declaration_is code old made (place + 1) slot t below ops s m made.stock (Table.with_pool code seen slot t (size.block_size, size.block_count) w) inside b.fine.1.2.1 newest are holds has.made.heads);
+          (declaration_is code old made (place + 1) slot t below ops s m made.stock (Table.with_pool code seen slot t (size.block_size, size.block_count) w) inside owns b.fine.1.2.1 newest are holds has.made.heads);
     }
 
 -- and it is created, where good discriminants stand

@@ -18,7 +18,7 @@ use Rattle.ctl_machine.specs.declared.frame.Owned.{Owned}
 use Rattle.ctl_machine.specs.Masters.{Head, heads_of, AreBelow, AreMasters, newest_master, IsAmong, display_from}
 use Rattle.ctl_machine.specs.Links.{AreLinked, IsAtPlace}
 use Rattle.ctl_machine.specs.Shows.{Kept, Holds, kept}
-use Rattle.ctl_machine.specs.Variables.{IsVariable, IsNoVariable}
+use Rattle.ctl_machine.specs.Variables.{HasSlotAt, IsVariable, IsNoVariable}
 use Rattle.ctl_machine.proofs.Lists.{eq_differs, same_at}
 use Rattle.ctl_machine.proofs.Links.{got, get_split, none_around, are_linked}
 use Rattle.ctl_machine.proofs.Places.{out_none, out_more}
@@ -59,6 +59,13 @@ pub there_read : (ms : List Master) (i out : ℕ) (d : List ℕ) (m : Master) �
 there_read ms i out d m there read =
     let found = got ms i m (slice_get_within ms i there.0 there.1) read in
     (found, there.2 ∙ ap (λ (x : Master). x.number) (same_at there.0 m (slice_get ms i) there.1 found))
+
+-- the same of a master with a slot
+pub seen_read : (ms : List Master) (i n slot : ℕ) (m : Master) → HasSlotAt n slot i ms → m ≡ slice_index_or ms i m → (slice_get ms i ≡ Some m) × (n ≡ m.number) × (slot < m.slots)
+seen_read ms i n slot m there read =
+    let found = got ms i m (slice_get_within ms i there.master there.found) read in
+    let same = same_at there.master m (slice_get ms i) there.found found in
+    (found, there.numbered ∙ ap (λ (x : Master). x.number) same, subst (λ (x : Master). slot < x.slots) same there.within)
 
 -- an item of the stack is among the masters
 pub among_reversed : (ms : List Master) (i : ℕ) (m : Master) → slice_get (reverse ms) i ≡ Some m → IsAmong m ms

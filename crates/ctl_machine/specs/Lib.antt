@@ -42,3 +42,4 @@ pub mod StorageCalling
 pub mod PoolBlocks
 pub mod RecordValues
 pub mod Returning
+pub mod Lending

@@ -1,5 +1,5 @@
--- A variable of a master around, by how many masters out it stands.
-use Rattle.std.specs.Prelude.{◌≡◌, ℕ, ◌+◌, ◌<◌, ◌≤◌, List, ◌⊎◌, reverse, slice_set}
+-- A variable of a master around, by how many masters out it stands, or by the number of its master.
+use Rattle.std.specs.Prelude.{◌≡◌, ℕ, ◌+◌, ◌<◌, ◌≤◌, List, Some, ◌⊎◌, reverse, slice_get, slice_set}
 use Rattle.ctl_code.specs.Table.{out_of}
 use Rattle.ctl_machine.specs.declared.engine.Engine.{Engine}
 use Rattle.ctl_machine.specs.declared.frame.Master.{Master}
@@ -14,6 +14,13 @@ pub record IsVariable (d : List ℕ) (out slot place : ℕ) (ms : List Master) :
   pub number : out_of d out ≡ master.number
   pub within : slot < master.slots
   pub cell : master.base + slot ≡ place
+
+-- the master of this number stands at a place among these, the outermost first, and has this slot
+pub record HasSlotAt (number slot place : ℕ) (masters : List Master) : Type 0 where
+  pub master : Master
+  pub found : slice_get masters place ≡ Some master
+  pub numbered : number ≡ master.number
+  pub within : slot < master.slots
 
 -- that master has no such slot
 pub record IsBeyond (d : List ℕ) (out slot : ℕ) (ms : List Master) : Type 0 where

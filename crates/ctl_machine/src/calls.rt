@@ -100,6 +100,7 @@ impl Engine {
                 Frame::Allocating { place, .. } | Frame::AllocatingCopy { place, .. } => {
                     return self.window() + code.kinds.height_at(place, 1);
                 }
+                Frame::Evaluating { .. } => return self.window(),
                 _ => {}
             }
         }

@@ -21,9 +21,9 @@ ghost use Rattle.ctl_tree.specs.declared.ending.Stop.TheVariants as StopOf;
 
 use crate::engine::Engine;
 use crate::frame::{Holder, Mode};
-use crate::holders::holder;
 use crate::parts::offset_of;
 use ctl_code::code::{Cell, Code, Instr};
+use ctl_program::types::Var;
 use ctl_tree::ending::Stop;
 use std::alloc::AllocError;
 
@@ -37,29 +37,6 @@ impl Engine {
             Some(newer) => newer.owned,
             None => self.count_owned(),
         }
-    }
-
-    /// Answers what this slot of the master so many further out than the newest holds, if that is an object, or a part of one.
-    pub(crate) fn holder_out(&self, code: &Code, out: usize, slot: usize) -> Option<Holder>
-        ghost s: { State }
-        requires { Holds code.now (kept self.now) s.control s.operands s.world }
-        ensures part { found_in self.now.formals.items result ≡ Table.holder_at (first_display (heads_of s.world.activations)) out slot s.world }
-        ensures there { IfSome result (IsThere self.now.formals.items) }
-    {
-        let _ = code;
-        let place = self.master_out(out)?;
-        let master = self.masters[place];
-        if slot >= master.slots {
-            return None;
-        }
-        holder(
-            self.owned.as_slice(),
-            master.owned,
-            self.own_end(place),
-            slot,
-            self.formals.as_slice(),
-            &master,
-        )
     }
 
     /// Reads a cell of an object, by the first cell of a part of it and how much further it is; None where there is no such object.
@@ -95,14 +72,14 @@ impl Engine {
         }
     }
 
-    /// Reads a component of what this slot holds, an object, a part of one or the copy of a record, by the first cell of the component; None where
+    /// Reads a component of what a variable holds, an object, a part of one or the copy of a record, by the first cell of the component; None where
     /// there is no such object.
-    fn read_held(&self, code: &Code, out: usize, slot: usize, offset: usize) -> Option<u64>
+    fn read_held(&self, code: &Code, variable: &Var, offset: usize) -> Option<u64>
         ghost s: { State }
         requires { Holds code.now (kept self.now) s.control s.operands s.world }
-        ensures { result ≡ part_at offset (Table.holder_at (first_display (heads_of s.world.activations)) out slot s.world) s.world }
+        ensures { result ≡ part_at offset (Table.holder_at (first_display (heads_of s.world.activations)) variable.now s.world) s.world }
     {
-        match self.holder_out(code, out, slot)? {
+        match self.holder_seen(code, variable)? {
             Holder::Whole(object) => self.read_at(code, object, 0, offset),
             Holder::Bound(at) => self.read_formal(code, at, offset),
         }
@@ -113,21 +90,20 @@ impl Engine {
     fn fetch_part(
         &mut self,
         code: &Code,
-        out: usize,
-        slot: usize,
+        variable: &Var,
         offset: usize,
         to: &Cell,
         place: usize,
     ) -> Option<usize>
         ghost s: { State }
         requires valid { IsValid code.now }
-        requires before { (t : ℕ) × (position : ℕ) × (ty : Ty) × Before code.now self.old place (InstrOf.FetchPart out slot t position ty to.now) s }
+        requires before { (t : ℕ) × (position : ℕ) × (ty : Ty) × Before code.now self.old place (InstrOf.FetchPart variable.now t position ty to.now) s }
         requires place { place + 1 < 2 ^ 64 }
-        ensures passed { (t position : ℕ) (ty : Ty) → offset ≡ Table.offset_of code.now t position → IfSome result (λ next. (self.new.mode ≡ ModeOf.At next) × Makes code.now self.old self.new (Table.by_instr code.now (Some (InstrOf.FetchPart out slot t position ty to.now)) s.operands (here_of place s))) }
+        ensures passed { (t position : ℕ) (ty : Ty) → offset ≡ Table.offset_of code.now t position → IfSome result (λ next. (self.new.mode ≡ ModeOf.At next) × Makes code.now self.old self.new (Table.by_instr code.now (Some (InstrOf.FetchPart variable.now t position ty to.now)) s.operands (here_of place s))) }
         ensures left { IfNone result (GoesOn self.old self.new self.old.mode self.old.cells.items) }
-        ensures gone { (t position : ℕ) (ty : Ty) → offset ≡ Table.offset_of code.now t position → IfNone result (Comes code.now self.new (ModeOf.Stopped StopOf.UseAfterFree) self.new.cells.items (Table.by_instr code.now (Some (InstrOf.FetchPart out slot t position ty to.now)) s.operands (here_of place s))) }
+        ensures gone { (t position : ℕ) (ty : Ty) → offset ≡ Table.offset_of code.now t position → IfNone result (Comes code.now self.new (ModeOf.Stopped StopOf.UseAfterFree) self.new.cells.items (Table.by_instr code.now (Some (InstrOf.FetchPart variable.now t position ty to.now)) s.operands (here_of place s))) }
     {
-        match self.read_held(code, out, slot, offset) {
+        match self.read_held(code, variable, offset) {
             Some(value) => {
                 self.put(value, to, place);
                 Some(place + 1)
@@ -158,17 +134,16 @@ impl Engine {
     {
         match instr {
             Instr::FetchPart {
-                out,
-                slot,
+                variable,
                 record,
                 position,
                 to,
                 ..
             } => {
                 let offset = offset_of(code, *record, *position);
-                Ok(self.fetch_part(code, *out, *slot, offset, to, place))
+                Ok(self.fetch_part(code, variable, offset, to, place))
             }
-            Instr::Locate { out, slot, at, .. } => self.locate(code, *out, *slot, *at, place),
+            Instr::Locate { variable, at, .. } => self.locate(code, variable, *at, place),
             Instr::Select {
                 record,
                 position,
@@ -203,8 +178,8 @@ impl Engine {
                 let offset = offset_of(code, *record, *position);
                 Ok(self.store_part(code, from, offset, place))
             }
-            Instr::Designate { out, slot, to, .. } => {
-                Ok(self.designate_slot(code, *out, *slot, to, place))
+            Instr::Designate { variable, to, .. } => {
+                Ok(self.designate_variable(code, variable, to, place))
             }
             Instr::GiveValue { at, .. } => Ok(self.give_value(code, *at, place)),
             Instr::Reserve { .. } | Instr::KeepPart { .. } | Instr::CopyBackPart { .. } => {

@@ -5,6 +5,7 @@ ghost use Rattle.ctl_meaning.specs.Changes.{object_at};
 ghost use Rattle.ctl_meaning.specs.Outcome.{Fine};
 ghost use Rattle.ctl_code.specs.declared.code.Begun.{Begun};
 ghost use Rattle.ctl_code.specs.declared.code.Initial.TheVariants.{ByType};
+ghost use Rattle.ctl_code.specs.Fits.{IsLed};
 ghost use Rattle.ctl_code.specs.Table as Table;
 ghost use Rattle.ctl_code.specs.States.{Handed, State};
 ghost use Rattle.ctl_meaning.specs.Lists.{keep};
@@ -12,7 +13,7 @@ ghost use Rattle.ctl_code.specs.Valid as Valid;
 ghost use Rattle.ctl_code.specs.Valid.{IsValid};
 ghost use Rattle.ctl_machine.specs.declared.frame.Frame.{Frame};
 ghost use Rattle.ctl_machine.specs.declared.frame.Frame.TheVariants as FrameOf;
-ghost use Rattle.ctl_machine.specs.Filling.{AreApart, AreLeft, IsChosen, noted_among, pick_among};
+ghost use Rattle.ctl_machine.specs.Filling.{AreApart, AreLeft, IsChosen, IsCreation, noted_among, pick_among};
 ghost use Rattle.ctl_machine.specs.Initializing.{Awaits, Grown, Grows, IsOf};
 ghost use Rattle.ctl_machine.specs.Moves.{BeforeResuming, GoesOn, Makes, Resumes};
 ghost use Rattle.ctl_machine.specs.Shows.{tried_of};
@@ -116,7 +117,7 @@ fn is_finalized(code: &Code, component: &Begun) -> bool
     ensures { result ≡ Valid.is_finalized code.now component.now.initial }
 {
     match component.initial {
-        Initial::Constant(_) => false,
+        Initial::Constant(_) | Initial::Computed => false,
         Initial::ByType(record) => !matches!(parts_of(code, record), Parts::Plain),
     }
 }
@@ -165,6 +166,7 @@ impl Engine {
         requires spot { t.new.spot ≡ spot }
         requires control { vec_len self.old.control < vec_capacity self.old.control }
         requires spots { vec_len self.old.spots < vec_capacity self.old.spots }
+        requires creation { IsCreation t.control }
         ensures begins { Makes code.now self.old self.new (Table.begin_part code.now t.new t.control t.world) }
         ensures picks { self.new.picks ≡ self.old.picks }
     {
@@ -195,6 +197,7 @@ impl Engine {
         ghost t: { Grown × List Begun }
         requires grows { Grows code.now self.old creation.record_type creation.owner t.0 }
         requires rest { AreLeft (Table.begun_of code.now creation.record_type) rest t.1 }
+        requires creation { IsCreation t.0.control }
         ensures takes { Makes code.now self.old self.new (Table.take_default t.0.new offset value t.1 (object_at t.0.new.spot.object t.0.world) t.0.control t.0.world) }
         ensures picks { self.new.picks ≡ self.old.picks }
     {
@@ -236,6 +239,7 @@ impl Engine {
         requires grows { Grows code.now self.old creation.record_type creation.owner t.0 }
         requires left { AreLeft (Table.begun_of code.now creation.record_type) left t.1 }
         requires rest { AreLeft (Table.begun_of code.now creation.record_type) rest t.2 }
+        requires creation { IsCreation t.0.control }
         ensures ok { OnOk result (Makes code.now self.old self.new (Table.begin_component code.now t.0.new component.now (ByType «record») t.2 t.1 t.0.control t.0.world)) }
         ensures err { OnErr result (GoesOn self.old self.new self.old.mode self.old.cells.items) }
         ensures picks { self.new.picks ≡ self.old.picks }
@@ -258,8 +262,8 @@ impl Engine {
         Ok(())
     }
 
-    /// Begins a component of the newest part, with a constant or as a part of its own, where these are left then and these were before
-    /// (RM 3.8, 7.6); unchanged where memory is refused.
+    /// Begins a component of the newest part, with a constant, with the evaluation of its default or as a part of its own, where these are left
+    /// then and these were before (RM 3.8, 7.6); unchanged where memory is refused.
     fn begin_chosen(
         &mut self,
         code: &Code,
@@ -269,9 +273,12 @@ impl Engine {
         rest: Left,
     ) -> Result<(), AllocError>
         ghost t: { Grown × List Begun × List Begun }
+        requires valid { IsValid code.now }
         requires grows { Grows code.now self.old creation.record_type creation.owner t.0 }
         requires left { AreLeft (Table.begun_of code.now creation.record_type) left t.1 }
         requires rest { AreLeft (Table.begun_of code.now creation.record_type) rest t.2 }
+        requires creation { IsCreation t.0.control }
+        requires led { IsLed code.now creation.record_type component.now }
         ensures ok { OnOk result (Makes code.now self.old self.new (Table.begin_component code.now t.0.new component.now component.now.initial t.2 t.1 t.0.control t.0.world)) }
         ensures err { OnErr result (GoesOn self.old self.new self.old.mode self.old.cells.items) }
         ensures picks { self.new.picks ≡ self.old.picks }
@@ -284,6 +291,7 @@ impl Engine {
             Initial::ByType(record) => {
                 self.begin_component(code, creation, component, record, left, rest)
             }
+            Initial::Computed => self.begin_default(code, creation, component, left, rest),
         }
     }
 
@@ -297,6 +305,7 @@ impl Engine {
         left: Left,
     ) -> Result<(), AllocError>
         ghost s: { State }
+        requires valid { IsValid code.now }
         requires before { BeforeResuming code.now self.old s }
         requires top { (incomplete : Left) × (fs : List Frame) × (reverse self.old.control.items ≡ FrameOf.Filling creation.record_type creation.owner left incomplete ∷ fs) }
         requires some { left.first < left.last }

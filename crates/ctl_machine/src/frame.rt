@@ -142,6 +142,15 @@ pub enum Frame {
         left: Left,
         incomplete: Left,
     },
+    /// the default of a component of an object of this number is evaluated: its cell is so many behind the first of its part. The newest
+    /// master had this window before, and so many parts (RM 3.8)
+    Evaluating {
+        object: u64,
+        start: usize,
+        offset: usize,
+        window: usize,
+        spots: usize,
+    },
     /// the Initialize of the newest part, of a record type, which is created for an object of this owner (RM 7.6)
     Initializing {
         record: usize,

@@ -22,7 +22,6 @@ ghost use Rattle.ctl_machine.specs.Shows.{Holds, kept};
 
 use crate::engine::Engine;
 use crate::frame::Mode;
-use crate::holders::holder;
 use crate::parts::cells_for;
 use crate::pool_blocks::is_open;
 use crate::room::reserve;
@@ -71,17 +70,6 @@ pub(crate) fn units_for(code: &Code, ty: Ty) -> usize
     }
 }
 
-/// Answers the level of the master that a variable is declared in: levels count from 1 (RM 3.10.2).
-fn level_of(variable: &Var) -> usize
-    ensures some { 1 ≤ result }
-    ensures same { result - 1 ≡ variable.now.level - 1 }
-{
-    match variable.level {
-        0 => 1,
-        level => level,
-    }
-}
-
 /// Answers the Allocate that the user wrote for the type of a pool, if there is one (RM 13.11).
 fn allocate_of(code: &Code, ty: Ty) -> Option<usize>
     ensures { result ≡ Table.operation_for (λ x. x.allocate) code.now ty }
@@ -100,25 +88,7 @@ impl Engine {
         requires { Holds code.now (kept self.now) s.control s.operands s.world }
         ensures { result ≡ option_map object_of (Table.word_of (slot_at (master_of (first_display (heads_of s.world.activations)) variable.now) variable.now.slot s.world).content) }
     {
-        let _ = code;
-        let level = level_of(variable);
-        let count = self.around(level);
-        if self.depth_at(count) < level {
-            return None;
-        }
-        let place = count - 1;
-        let master = self.masters[place];
-        if variable.slot >= master.slots {
-            return None;
-        }
-        let held = holder(
-            self.owned.as_slice(),
-            master.owned,
-            self.own_end(place),
-            variable.slot,
-            self.formals.as_slice(),
-            &master,
-        )?;
+        let held = self.holder_seen(code, variable)?;
         Some(self.number_of(held))
     }
 

@@ -34,15 +34,16 @@ impl Engine {
         }
     }
 
-    /// Answers the exception that the innermost handler around handles, as `caught` does, where the newest frame is a master's.
+    /// Answers the exception that the innermost handler around handles, as `caught` does, where some frame is there.
     #[inline(always)]
-    pub(crate) fn caught_inside(&self) -> usize
-        requires { (handling : Handling) × (after : After) × (slice_get self.now.control.items (length self.now.control.items - 1) ≡ Some (FrameOf.InMaster handling after)) }
+    pub(crate) fn caught_there(&self) -> usize
+        requires { 0 < length self.now.control.items }
         ensures { result ≡ first_caught (reverse self.now.control.items) }
     {
         match self.control.as_slice() {
             [.., Frame::InMaster(handling, _)] => handling.caught,
-            _ => unreachable!(),
+            [] => unreachable!(),
+            _ => 0,
         }
     }
 

@@ -21,6 +21,7 @@ use crate::frame::{Holder, Mode};
 use crate::room::reserve;
 use crate::spots::Spot;
 use ctl_code::code::{Cell, Code, Named};
+use ctl_program::types::Var;
 use std::alloc::AllocError;
 
 impl Engine {
@@ -57,25 +58,24 @@ impl Engine {
         }
     }
 
-    /// Puts an access value that designates the object in this slot, and answers what comes next (RM 3.10.2); where there is none, the program
-    /// is erroneous (RM 13.11.2), and nothing changes.
-    pub(crate) fn designate_slot(
+    /// Puts an access value that designates the object that a variable holds, and answers what comes next (RM 3.10.2); where there is none,
+    /// the program is erroneous (RM 13.11.2), and nothing changes.
+    pub(crate) fn designate_variable(
         &mut self,
         code: &Code,
-        out: usize,
-        slot: usize,
+        variable: &Var,
         to: &Cell,
         place: usize,
     ) -> Option<usize>
         ghost s: { State }
         requires valid { IsValid code.now }
-        requires before { (ty : Ty) × Before code.now self.old place (InstrOf.Designate out slot ty to.now) s }
+        requires before { (ty : Ty) × Before code.now self.old place (InstrOf.Designate variable.now ty to.now) s }
         requires place { place + 1 < 2 ^ 64 }
-        ensures passed { (ty : Ty) → IfSome result (λ next. (self.new.mode ≡ ModeOf.At next) × Makes code.now self.old self.new (Table.by_instr code.now (Some (InstrOf.Designate out slot ty to.now)) s.operands (here_of place s))) }
+        ensures passed { (ty : Ty) → IfSome result (λ next. (self.new.mode ≡ ModeOf.At next) × Makes code.now self.old self.new (Table.by_instr code.now (Some (InstrOf.Designate variable.now ty to.now)) s.operands (here_of place s))) }
         ensures left { IfNone result (GoesOn self.old self.new self.old.mode self.old.cells.items) }
-        ensures gone { (ty : Ty) → IfNone result (Comes code.now self.new (ModeOf.Stopped StopOf.UseAfterFree) self.new.cells.items (Table.by_instr code.now (Some (InstrOf.Designate out slot ty to.now)) s.operands (here_of place s))) }
+        ensures gone { (ty : Ty) → IfNone result (Comes code.now self.new (ModeOf.Stopped StopOf.UseAfterFree) self.new.cells.items (Table.by_instr code.now (Some (InstrOf.Designate variable.now ty to.now)) s.operands (here_of place s))) }
     {
-        match self.holder_out(code, out, slot) {
+        match self.holder_seen(code, variable) {
             Some(holder) => {
                 let object = self.number_of(holder);
                 self.put(object, to, place);
@@ -85,26 +85,25 @@ impl Engine {
         }
     }
 
-    /// Puts the part that this slot holds, as a new operand with this cell, and answers what comes next; where there is none, the program is
+    /// Puts the part that a variable holds, as a new operand with this cell, and answers what comes next; where there is none, the program is
     /// erroneous (RM 13.11.2), and nothing changes, and so where memory is refused.
     pub(crate) fn locate(
         &mut self,
         code: &Code,
-        out: usize,
-        slot: usize,
+        variable: &Var,
         at: usize,
         place: usize,
     ) -> Result<Option<usize>, AllocError>
         ghost s: { State }
         requires valid { IsValid code.now }
-        requires before { (t : ℕ) × Before code.now self.old place (InstrOf.Locate out slot t at) s }
+        requires before { (t : ℕ) × Before code.now self.old place (InstrOf.Locate variable.now t at) s }
         requires place { place + 1 < 2 ^ 64 }
-        ensures passed { (t : ℕ) → IfOk result (λ some. IfSome some (λ next. (self.new.mode ≡ ModeOf.At next) × Makes code.now self.old self.new (Table.by_instr code.now (Some (InstrOf.Locate out slot t at)) s.operands (here_of place s)))) }
+        ensures passed { (t : ℕ) → IfOk result (λ some. IfSome some (λ next. (self.new.mode ≡ ModeOf.At next) × Makes code.now self.old self.new (Table.by_instr code.now (Some (InstrOf.Locate variable.now t at)) s.operands (here_of place s)))) }
         ensures left { IfOk result (λ some. IfNone some (GoesOn self.old self.new self.old.mode self.old.cells.items)) }
-        ensures gone { (t : ℕ) → IfOk result (λ some. IfNone some (Comes code.now self.new (ModeOf.Stopped StopOf.UseAfterFree) self.new.cells.items (Table.by_instr code.now (Some (InstrOf.Locate out slot t at)) s.operands (here_of place s)))) }
+        ensures gone { (t : ℕ) → IfOk result (λ some. IfNone some (Comes code.now self.new (ModeOf.Stopped StopOf.UseAfterFree) self.new.cells.items (Table.by_instr code.now (Some (InstrOf.Locate variable.now t at)) s.operands (here_of place s)))) }
         ensures err { OnErr result (GoesOn self.old self.new self.old.mode self.old.cells.items) }
     {
-        let Some(holder) = self.holder_out(code, out, slot) else {
+        let Some(holder) = self.holder_seen(code, variable) else {
             return Ok(None);
         };
         let spot = self.spot_of(holder)?;

@@ -159,6 +159,16 @@ fn at_position(offsets: &[usize], position: usize) -> usize
     }
 }
 
+/// Answers the place of the code that evaluates the default of the component at this position of a record type (RM 3.8); 0 where there is none.
+pub(crate) fn default_of(code: &Code, record: usize, position: usize) -> usize
+    ensures { result ≡ Table.default_of code.now «record» position }
+{
+    match code.defaults.as_slice().get(record) {
+        Some(row) => at_position(row.places.as_slice(), position),
+        None => 0,
+    }
+}
+
 /// Answers the first cell of the component at this position of a record type (RM 4.1.3), among those of its object.
 pub(crate) fn offset_of(code: &Code, record: usize, position: usize) -> usize
     ensures { result ≡ Table.offset_of code.now «record» position }

@@ -240,7 +240,7 @@ impl Engine {
     }
 
     /// Answers the first cell of the value that waits.
-    fn cell_waiting(&self) -> u64
+    pub(crate) fn cell_waiting(&self) -> u64
         requires { 0 < length self.now.spots.items }
         ensures { result ≡ scalar_of (last_value self.now.spots.items) }
     {

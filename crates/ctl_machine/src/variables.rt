@@ -1,4 +1,4 @@
-//! Instructions that give a number to a scalar object, and that reach a variable by its slot: one of a body around, or one that a copy goes
+//! Instructions that give a number to a scalar object, and that reach a variable: one of a body around, or one that a copy goes
 //! back to (RM 3.3.1, 6.4.1, 8.3).
 
 ghost use Rattle.std.specs.Prelude.{◌≡◌, ◌+◌, ◌^◌, ◌<◌, IfSome, IsNone, List, Some, reverse, slice_get};
@@ -20,6 +20,7 @@ ghost use Rattle.ctl_machine.specs.Windows.{IsGoing, moded};
 use crate::engine::Engine;
 use crate::frame::Mode;
 use ctl_code::code::{Cell, Code, Instr};
+use ctl_program::types::Var;
 
 impl Engine {
     /// Answers the place of the master so many further out than the newest, by the links; None where there is none.
@@ -71,16 +72,16 @@ impl Engine {
     }
 
     /// Puts the value of a variable of a body around; 0 where there is none.
-    fn fetch(&mut self, code: &Code, out: usize, slot: usize, to: &Cell, place: usize)
+    fn fetch(&mut self, code: &Code, variable: &Var, to: &Cell, place: usize)
         ghost s: { State }
         requires valid { IsValid code.now }
-        requires before { (ty : Ty) × Before code.now self.old place (InstrOf.Fetch out slot ty to.now) s }
+        requires before { (ty : Ty) × Before code.now self.old place (InstrOf.Fetch variable.now ty to.now) s }
         requires place { place + 1 < 2 ^ 64 }
         ensures mode { self.new.mode ≡ ModeOf.At (place + 1) }
         ensures masters { reverse self.new.masters.items ≡ reverse self.old.masters.items }
-        ensures makes { (ty : Ty) → Makes code.now self.old self.new (Table.by_instr code.now (Some (InstrOf.Fetch out slot ty to.now)) s.operands (here_of place s)) }
+        ensures makes { (ty : Ty) → Makes code.now self.old self.new (Table.by_instr code.now (Some (InstrOf.Fetch variable.now ty to.now)) s.operands (here_of place s)) }
     {
-        let value = self.read_variable(code, out, slot);
+        let value = self.read_seen(code, variable);
         self.put(value, to, place);
     }
 
@@ -169,7 +170,7 @@ impl Engine {
         ensures makes { Makes code.now self.old self.new (Table.by_instr code.now (Some instr.now) s.operands (here_of place s)) }
     {
         match instr {
-            Instr::Fetch { out, slot, to, .. } => self.fetch(code, *out, *slot, to, place),
+            Instr::Fetch { variable, to, .. } => self.fetch(code, variable, to, place),
             Instr::Store {
                 from,
                 out,

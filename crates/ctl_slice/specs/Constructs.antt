@@ -89,24 +89,31 @@ literal_layer e = false
 abbrev pub is_literal : Expression Use → Bool
 is_literal e = literal_layer (out-Expression Use e)
 
--- no default expression, or such a literal
-abbrev pub may_default : Option (Expression Use) → Bool
-may_default None = true
-may_default (Some e) = is_literal e
+-- a name: one layer of an expression (4.1)
+abbrev pub name_layer : {A : Type 0} → Expression-F Use A → Bool
+name_layer (Expression-F.Name place name) = true
+name_layer e = false
 
--- no default expression, or null (4.2)
-abbrev pub null_layer : {A : Type 0} → Expression-F Use A → Bool
-null_layer (Expression-F.Null place) = true
-null_layer e = false
+-- no value of an allocator, that of what a name denotes, or one of a scalar type (4.8)
+abbrev pub is_value_run : Denoted → Option (Expression Use) → Bool
+is_value_run mark None = true
+is_value_run mark (Some e) = is_scalar mark || name_layer (out-Expression Use e)
 
-abbrev pub may_be_null : Option (Expression Use) → Bool
-may_be_null None = true
-may_be_null (Some e) = null_layer (out-Expression Use e)
+-- an allocator with another value, or with a handle: one layer of an expression (4.8, 13.11.4)
+abbrev pub allocator_layer : Expression-F Use (Expression Use) → Bool
+allocator_layer (Expression-F.New place handle mark value) = is_some handle || not (is_value_run mark.first.denoted value)
+allocator_layer e = false
 
--- components of a scalar type, with such a default; or of a type of the text, which is judged where it is declared, without one or with null
--- (3.8)
+abbrev pub is_left_out_allocator : Expression Use → Bool
+is_left_out_allocator e = allocator_layer (out-Expression Use e)
+
+abbrev pub has_left_out_allocator : Option (Expression Use) → Bool
+has_left_out_allocator None = false
+has_left_out_allocator (Some e) = is_left_out_allocator e
+
+-- components of a scalar type, or of one of the text, which is judged where it is declared; their default is no such allocator (3.8)
 abbrev pub may_be_component : Components Use → Bool
-may_be_component c = (is_scalar c.mark.first.denoted && may_default c.default) || (is_of_text c.mark.first.denoted && may_be_null c.default)
+may_be_component c = (is_scalar c.mark.first.denoted || is_of_text c.mark.first.denoted) && not (has_left_out_allocator c.default)
 
 abbrev pub may_all_be_components : List (Components Use) → Bool
 may_all_be_components [] = true
@@ -136,28 +143,6 @@ abbrev pub are_objects_run : Denoted → List (Association Use) → Bool
 are_objects_run (Declared number level) discriminants = are_literals discriminants
 are_objects_run (Library BlockPool) discriminants = are_literals discriminants
 are_objects_run d discriminants = is_scalar d
-
--- a name: one layer of an expression (4.1)
-abbrev pub name_layer : {A : Type 0} → Expression-F Use A → Bool
-name_layer (Expression-F.Name place name) = true
-name_layer e = false
-
--- no value of an allocator, that of what a name denotes, or one of a scalar type (4.8)
-abbrev pub is_value_run : Denoted → Option (Expression Use) → Bool
-is_value_run mark None = true
-is_value_run mark (Some e) = is_scalar mark || name_layer (out-Expression Use e)
-
--- an allocator with another value, or with a handle: one layer of an expression (4.8, 13.11.4)
-abbrev pub allocator_layer : Expression-F Use (Expression Use) → Bool
-allocator_layer (Expression-F.New place handle mark value) = is_some handle || not (is_value_run mark.first.denoted value)
-allocator_layer e = false
-
-abbrev pub is_left_out_allocator : Expression Use → Bool
-is_left_out_allocator e = allocator_layer (out-Expression Use e)
-
-abbrev pub has_left_out_allocator : Option (Expression Use) → Bool
-has_left_out_allocator None = false
-has_left_out_allocator (Some e) = is_left_out_allocator e
 
 abbrev pub of_objects : Objects Definition Use → Support
 of_objects o = support_when (are_objects_run o.mark.first.denoted o.discriminants && not (has_left_out_allocator o.value))

@@ -104,34 +104,13 @@ fn is_literal(expression: &Expression<Use>) -> bool
     }
 }
 
-/// Tells whether there is no default expression, or a literal (RM 3.8).
-fn may_default(default: &Option<Expression<Use>>) -> bool
-    ensures { result ≡ spec.may_default default.now }
-{
-    match default {
-        Some(default) => is_literal(default),
-        None => true,
-    }
-}
-
-/// Tells whether there is no default expression, or null (RM 3.8, 4.2).
-fn may_be_null(default: &Option<Expression<Use>>) -> bool
-    ensures { result ≡ spec.may_be_null default.now }
-{
-    match default {
-        Some(default) => matches!(default, Expression::Null(_)),
-        None => true,
-    }
-}
-
-/// Tells whether components are run: of a scalar type, without a default expression or with a literal; or of a type of the text without one
-/// or with null (RM 3.8).
+/// Tells whether components are run: of a scalar type, or of one of the text, whose default is no allocator with another value or with a handle
+/// (RM 3.8, 4.8).
 fn may_be_component(components: &Components<Use>) -> bool
     ensures { result ≡ spec.may_be_component components.now }
 {
     let denoted = components.mark.first.denoted;
-    (is_scalar(denoted) && may_default(&components.default))
-        || (is_of_text(denoted) && may_be_null(&components.default))
+    (is_scalar(denoted) || is_of_text(denoted)) && !has_left_out_allocator(&components.default)
 }
 
 /// Tells whether all of these are.

@@ -7,7 +7,7 @@ use crate::lines::{
 use ctl_code::code::{Code, Instr, Operations, Way};
 use ctl_code::least::least_homes;
 use ctl_program::operators::{Direction, Shortcut, UnaryOp};
-use ctl_program::types::Ty;
+use ctl_program::types::{Ty, Var};
 use std::alloc::{AllocError, Global};
 use std::test::Fail;
 
@@ -16,8 +16,7 @@ const EMPTY: &[Line] = &[(Instr::Start(0), ""), (Instr::Leave, "m")];
 
 /// Finds the object of the first slot of a body, as its first operand.
 const PART: Instr = Instr::Locate {
-    out: 0,
-    slot: 0,
+    variable: Var { level: 2, slot: 0 },
     record: 0,
     at: 1,
 };
@@ -211,8 +210,7 @@ const EACH_INSTRUCTION: &[Line] = &[
     (Instr::Leave, "m"),
     (
         Instr::Fetch {
-            out: 1,
-            slot: 0,
+            variable: Var { level: 1, slot: 0 },
             ty: Ty::Integer,
             to: CELL_1,
         },
@@ -229,8 +227,7 @@ const EACH_INSTRUCTION: &[Line] = &[
     ),
     (
         Instr::Locate {
-            out: 0,
-            slot: 0,
+            variable: Var { level: 2, slot: 0 },
             record: 0,
             at: 1,
         },
@@ -238,8 +235,7 @@ const EACH_INSTRUCTION: &[Line] = &[
     ),
     (
         Instr::FetchPart {
-            out: 0,
-            slot: 0,
+            variable: Var { level: 2, slot: 0 },
             record: 0,
             position: 2,
             ty: Ty::Integer,
@@ -271,8 +267,7 @@ const EACH_INSTRUCTION: &[Line] = &[
     (PART, "f"),
     (
         Instr::Locate {
-            out: 0,
-            slot: 0,
+            variable: Var { level: 2, slot: 0 },
             record: 0,
             at: 2,
         },
@@ -361,8 +356,7 @@ const COMPONENT_IN_ANOTHER_CELL: &[Line] = &[
     (Instr::Start(0), ""),
     (
         Instr::Locate {
-            out: 0,
-            slot: 0,
+            variable: Var { level: 1, slot: 0 },
             record: 0,
             at: 2,
         },
@@ -385,8 +379,7 @@ const ASSIGNMENT_WITHOUT_A_TARGET: &[Line] = &[
     (Instr::Start(0), ""),
     (
         Instr::Locate {
-            out: 0,
-            slot: 0,
+            variable: Var { level: 1, slot: 0 },
             record: 0,
             at: 2,
         },
@@ -571,8 +564,7 @@ const PAST_THE_OUTERMOST: &[Line] = &[
     (Instr::Start(0), ""),
     (
         Instr::Fetch {
-            out: 1,
-            slot: 0,
+            variable: Var { level: 2, slot: 0 },
             ty: Ty::Integer,
             to: FIRST,
         },
@@ -588,8 +580,7 @@ const SLOT_AROUND: &[Line] = &[
     (Instr::Leave, "m"),
     (
         Instr::Fetch {
-            out: 1,
-            slot: 1,
+            variable: Var { level: 1, slot: 1 },
             ty: Ty::Integer,
             to: CELL_1,
         },
@@ -605,8 +596,7 @@ const SLOT_PAST_A_MASTER_AROUND: &[Line] = &[
     (Instr::Leave, "m"),
     (
         Instr::Fetch {
-            out: 1,
-            slot: 2,
+            variable: Var { level: 1, slot: 2 },
             ty: Ty::Integer,
             to: CELL_1,
         },

@@ -156,6 +156,7 @@ fn nothing(alloc: Global) -> Code {
         entries: Vec::new(alloc),
         records: Vec::new(alloc),
         layouts: Vec::new(alloc),
+        defaults: Vec::new(alloc),
         accesses: Vec::new(alloc),
         homes: Homes::new(alloc),
         texts: Vec::new(alloc),

@@ -6,15 +6,14 @@ use crate::lines::{CALL, CELL_3, CELL_4, FETCH, INCREASE, Line, PRINT, layout_of
 use crate::runs::{outcome_of, traced};
 use ctl_code::code::{Instr, Parts};
 use ctl_program::operators::CopyStart;
-use ctl_program::types::Ty;
+use ctl_program::types::{Ty, Var};
 use ctl_tree::request::Order;
 use std::alloc::Global;
 use std::test::Fail;
 
 /// The object, a part.
 const OBJECT: Instr = Instr::Locate {
-    out: 0,
-    slot: 0,
+    variable: Var { level: 1, slot: 0 },
     record: 0,
     at: 2,
 };
@@ -38,8 +37,7 @@ const RESERVE: Instr = Instr::Reserve { count: 2, at: 2 };
 
 /// The object over the numbers.
 const ACTUAL: Instr = Instr::Locate {
-    out: 0,
-    slot: 0,
+    variable: Var { level: 1, slot: 0 },
     record: 0,
     at: 4,
 };

@@ -5,7 +5,7 @@ use crate::lines::{BODY_LEVEL, CELL_3, Line, UNITS};
 use crate::runs::{counted, outcome_of, traced};
 use ctl_code::code::{Begun, Initial, Instr, Layout, Parts};
 use ctl_machine::outcome::Outcome;
-use ctl_program::types::Ty;
+use ctl_program::types::{Ty, Var};
 use ctl_tree::ending::End;
 use ctl_tree::request::Order;
 use std::alloc::{AllocError, Global};
@@ -13,8 +13,7 @@ use std::test::Fail;
 
 /// Reads the first component of the object in the block's slot.
 const FETCH_FIRST: Instr = Instr::FetchPart {
-    out: 0,
-    slot: 0,
+    variable: Var { level: 2, slot: 0 },
     record: 0,
     position: 1,
     ty: Ty::Integer,
@@ -23,8 +22,7 @@ const FETCH_FIRST: Instr = Instr::FetchPart {
 
 /// Reads the second one.
 const FETCH_SECOND: Instr = Instr::FetchPart {
-    out: 0,
-    slot: 0,
+    variable: Var { level: 2, slot: 0 },
     record: 0,
     position: 2,
     ty: Ty::Integer,
@@ -33,8 +31,7 @@ const FETCH_SECOND: Instr = Instr::FetchPart {
 
 /// Reads the third one.
 const FETCH_THIRD: Instr = Instr::FetchPart {
-    out: 0,
-    slot: 0,
+    variable: Var { level: 2, slot: 0 },
     record: 0,
     position: 3,
     ty: Ty::Integer,

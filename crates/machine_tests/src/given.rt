@@ -6,7 +6,7 @@ use crate::lines::{BODY_LEVEL, BODY_SLOTS, CELL_2, FETCH, Line, PRINT, layout_of
 use crate::runs::{outcome_of, traced};
 use ctl_code::code::{Code, Entry, Instr, Operations, Parts};
 use ctl_program::operators::SubprogramKind;
-use ctl_program::types::Ty;
+use ctl_program::types::{Ty, Var};
 use ctl_tree::request::Order;
 use std::alloc::{AllocError, Global};
 use std::test::Fail;
@@ -37,8 +37,7 @@ const TAKE: Instr = Instr::TakePart {
 
 /// What the first slot of a body holds.
 const FIRST_SLOT: Instr = Instr::Locate {
-    out: 0,
-    slot: 0,
+    variable: Var { level: 2, slot: 0 },
     record: 0,
     at: 1,
 };
@@ -58,8 +57,7 @@ const STORE: Instr = Instr::StorePart {
 
 /// What the first slot of the body around a block holds.
 const OUTER_SLOT: Instr = Instr::Locate {
-    out: 1,
-    slot: 0,
+    variable: Var { level: 2, slot: 0 },
     record: 0,
     at: 2,
 };

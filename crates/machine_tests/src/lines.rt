@@ -3,7 +3,7 @@
 use ctl_code::code::{Cell, Instr, Layout, Named, Operator, Parts};
 use ctl_code::kinds::{Kind, KindNotes};
 use ctl_program::operators::BinaryOp;
-use ctl_program::types::Ty;
+use ctl_program::types::{Ty, Var};
 use std::alloc::{AllocError, Global};
 
 /// An instruction, and what stands in the window before it, the newest last: `m` is the main procedure, `f` and `g` are other bodies, `[` a block with
@@ -86,8 +86,7 @@ pub const PRINT: Instr = Instr::PutLine { text: 1, first: 2 };
 
 /// The value of the second component of the object in the first slot.
 pub const FETCH: Instr = Instr::FetchPart {
-    out: 0,
-    slot: 0,
+    variable: Var { level: 1, slot: 0 },
     record: 0,
     position: 2,
     ty: Ty::Integer,

@@ -5,7 +5,7 @@ use crate::lines::{FIRST, Line};
 use crate::runs::{outcome_of, run_and_step, traced};
 use ctl_code::code::Instr;
 use ctl_machine::outcome::Progress;
-use ctl_program::types::Ty;
+use ctl_program::types::{Ty, Var};
 use ctl_tree::request::Order;
 use std::test::Fail;
 
@@ -33,8 +33,7 @@ const NO_OBJECT: &[Line] = &[
     (Instr::Start(0), ""),
     (
         Instr::FetchPart {
-            out: 0,
-            slot: 1,
+            variable: Var { level: 1, slot: 1 },
             record: 0,
             position: 1,
             ty: Ty::Integer,

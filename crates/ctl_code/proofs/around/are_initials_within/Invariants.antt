@@ -4,4 +4,4 @@ use Rattle.ctl_code.proofs.around.are_initials_within.Given as goal
 
 -- the components are, if those that are left are
 abbrev pub invariant-loop-component : goal.invariant-loop-component
-invariant-loop-component l = AreInitialsWithin l.code.homes l.number l.layout.begun.items ↔ AreInitialsWithin l.code.homes l.number (drop l.component-index l.layout.begun.items)
+invariant-loop-component l = AreInitialsWithin l.code l.number l.layout.begun.items ↔ AreInitialsWithin l.code l.number (drop l.component-index l.layout.begun.items)

@@ -11,6 +11,9 @@ use Rattle.ctl_code.proofs.least.keep.Goals as goal
 pub returns-in-Home : goal.returns-in-Home
 returns-in-Home c = subst (λ (d : Demand). IfOk c.keep_home.result (λ raised. Raises (λ counts. IsMet (with_counts counts c.args.code.now) (stack_at c.args.code.now.kinds c.args.place) d) c.args.homes.now c.keep_home.new.homes raised)) (sym c.in-Home.is) c.keep_home.ensures
 
+pub returns-in-Variable : goal.returns-in-Variable
+returns-in-Variable c = subst (λ (d : Demand). IfOk c.keep_variable.result (λ raised. Raises (λ counts. IsMet (with_counts counts c.args.code.now) (stack_at c.args.code.now.kinds c.args.place) d) c.args.homes.now c.keep_variable.new.homes raised)) (sym c.in-Variable.is) c.keep_variable.ensures
+
 pub returns-in-Collection : goal.returns-in-Collection
 returns-in-Collection c = subst (λ (d : Demand). IfOk c.keep_collection.result (λ raised. Raises (λ counts. IsMet (with_counts counts c.args.code.now) (stack_at c.args.code.now.kinds c.args.place) d) c.args.homes.now c.keep_collection.new.homes raised)) (sym c.in-Collection.is) c.keep_collection.ensures
 

@@ -3,10 +3,10 @@ use Rattle.std.specs.Prelude.{slice_get}
 use Rattle.std.proofs.lemmas.List.{drop_all}
 use Rattle.ctl_code.specs.declared.code.Entry.{Entry}
 use Rattle.ctl_code.specs.declared.code.Instr.TheVariants.{Start}
-use Rattle.ctl_gen.specs.Emitted.{Emitted, lined, one, stated}
-use Rattle.ctl_layout.specs.Layout.{AreLayouts, bodies, body_code, entries_from, entry_at, home_of, operations_of}
+use Rattle.ctl_gen.specs.Emitted.{Emitted, appended, lined, one, stated}
+use Rattle.ctl_layout.specs.Layout.{AreLayouts, all_defaults, bodies, body_code, entries_from, entry_at, home_of, operations_of, rows_from}
 use Rattle.ctl_layout.proofs.Turns.{turn_of}
-use Rattle.ctl_gen.proofs.EmittedBodies.{all_emitted, all_instructions, all_kinds, all_texts, begun, begun_place, next_body, next_entry, nothing_stands}
+use Rattle.ctl_gen.proofs.EmittedBodies.{IsWhole, all_emitted, all_instructions, all_kinds, all_texts, behind_them, begun, begun_place, next_body, next_entry, nothing_stands}
 use Rattle.ctl_gen.proofs.generate.tables_of.Goals as goal
 
 pub loop-subprogram-init : goal.loop-subprogram-init
@@ -62,14 +62,17 @@ returns-clause-laid_out c =
     let i = c.loop-subprogram.subprogram-index in
     let end = sym (drop_all i ss (subst (λ xs. length xs ≤ i) c.as_slice-subprogram-items.ensures c.loop-subprogram-test.false)) in
     let all : e ≡ stated (bodies 0 ss) None (begun p.main) = all_emitted p.main (length c.loop-subprogram.entries.items) ss e (ap (λ xs. stated (bodies (length c.loop-subprogram.entries.items) xs) None e) end ∙ c.loop-subprogram.invariant.0) in
+    let e1 = c.defaults_of.new.emitter in
+    let whole : IsWhole p e1 = c.in_ok-defaults.ensures.emitted ∙ ap (λ rs. appended (all_defaults 0 rs) [] [] e) c.as_slice.ensures ∙ ap (appended (all_defaults 0 p.records) [] []) all in
     record {
-      instructions = c.finish-instructions.ensures.instructions ∙ all_instructions p e all;
+      instructions = c.finish-instructions.ensures.instructions ∙ all_instructions p e1 whole;
       entries = sym (append-nil done) ∙ ap (λ xs. done ++ entries_from (length done) (length e.instructions) (length e.texts) xs) end ∙ c.loop-subprogram.invariant.1;
-      records = c.in_ok-records.ensures ∙ ap operations_of c.as_slice.ensures;
-      layouts = subst (λ rs. AreLayouts [] c.in_ok-layouts.layouts.items rs) c.as_slice-2.ensures c.in_ok-layouts.ensures;
-      accesses = c.in_ok-accesses.ensures ∙ ap (map home_of) c.as_slice-3.ensures;
-      texts = c.finish-instructions.ensures.texts ∙ all_texts p e all;
-      exceptions = c.in_ok-exceptions.ensures ∙ c.as_slice-4.ensures;
+      records = c.in_ok-records.ensures ∙ ap operations_of c.as_slice-2.ensures;
+      layouts = subst (λ rs. AreLayouts [] c.in_ok-layouts.layouts.items rs) c.as_slice-3.ensures c.in_ok-layouts.ensures;
+      defaults = c.in_ok-defaults.ensures.rows ∙ ap (λ rs. rows_from 0 (length e.instructions) [] rs) c.as_slice.ensures ∙ ap (λ n. rows_from 0 n [] p.records) (behind_them p e all);
+      accesses = c.in_ok-accesses.ensures ∙ ap (map home_of) c.as_slice-4.ensures;
+      texts = c.finish-instructions.ensures.texts ∙ all_texts p e1 whole;
+      exceptions = c.in_ok-exceptions.ensures ∙ c.as_slice-5.ensures;
     }
 
 pub returns-clause-kinds : goal.returns-clause-kinds
@@ -79,8 +82,11 @@ returns-clause-kinds c =
     let e = c.loop-subprogram.emitter in
     let i = c.loop-subprogram.subprogram-index in
     let end = sym (drop_all i ss (subst (λ xs. length xs ≤ i) c.as_slice-subprogram-items.ensures c.loop-subprogram-test.false)) in
+    let all : e ≡ stated (bodies 0 ss) None (begun p.main) = all_emitted p.main (length c.loop-subprogram.entries.items) ss e (ap (λ xs. stated (bodies (length c.loop-subprogram.entries.items) xs) None e) end ∙ c.loop-subprogram.invariant.0) in
+    let e1 = c.defaults_of.new.emitter in
+    let whole : IsWhole p e1 = c.in_ok-defaults.ensures.emitted ∙ ap (λ rs. appended (all_defaults 0 rs) [] [] e) c.as_slice.ensures ∙ ap (appended (all_defaults 0 p.records) [] []) all in
     let kept = c.finish-instructions.ensures.kinds in
     record {
-      kinds = kept ∙ all_kinds p e (all_emitted p.main (length c.loop-subprogram.entries.items) ss e (ap (λ xs. stated (bodies (length c.loop-subprogram.entries.items) xs) None e) end ∙ c.loop-subprogram.invariant.0));
+      kinds = kept ∙ all_kinds p e1 whole;
       room = λ place stack is. c.room-room.ensures place stack (ap (λ ks. slice_get ks place) (sym kept) ∙ is);
     }

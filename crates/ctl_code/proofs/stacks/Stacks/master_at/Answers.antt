@@ -9,3 +9,9 @@ returns-in-Body c =
     let below = stack_in c.args.self.now c.in-Some.link.below in
     let there = c.in-Some.ensures.top ∙ ap (λ (k : Kind). k ∷ below) c.in-Body.is in
     c.master_in.ensures below ∙ sym (ap (λ (s : List Kind). master_at s c.args.level) there) ∙ c.loop-link.invariant
+
+pub returns-in-Default : goal.returns-in-Default
+returns-in-Default c =
+    let below = stack_in c.args.self.now c.in-Some.link.below in
+    let there = c.in-Some.ensures.top ∙ ap (λ (k : Kind). k ∷ below) c.in-Default.is in
+    c.master_around.ensures below ∙ sym (ap (λ (s : List Kind). master_at s c.args.level) there) ∙ c.loop-link.invariant

@@ -12,7 +12,7 @@ returns-in-empty c = on_ok _ _ c.put.result c.put.ensures (λ e.
     let a = c.args in
     let i = c.in-Variable in
     let same : begun_by a.of.now ≡ OfVariable i.variable = ap begun_by i.is ∙ begun_variable i.variable i.field-1 in
-    component_fetched i.variable a.steps.now c.out_to.result a.record a.position a.ty a.to a.self.now c.put.new.self c.in-empty.len_below c.out_to.ensures e
+    component_fetched i.variable a.steps.now a.record a.position a.ty a.to a.self.now c.put.new.self c.in-empty.len_below e
     ∙ ap (λ b. lined (rest_component b a.steps.now a.record a.position a.ty a.to) a.self.now) (sym same))
 
 pub returns-in_default : goal.returns-in_default

@@ -21,8 +21,8 @@ use Rattle.ctl_machine.specs.Shows.{Kept, kept}
 use Rattle.ctl_machine.specs.Spots.{spots_in}
 use Rattle.ctl_machine.proofs.Finishing.{finished_gives}
 use Rattle.ctl_machine.proofs.Lists.{same_at}
-use Rattle.ctl_machine.proofs.NextAdjusted.{next_by_type, next_constant, note_room, rest_adjusts, still_noting}
-use Rattle.ctl_machine.proofs.NextPart.{chooses, constant_so, noted_so, own_doubles, some_begun}
+use Rattle.ctl_machine.proofs.NextAdjusted.{next_by_type, next_elementary, note_room, rest_adjusts, still_noting}
+use Rattle.ctl_machine.proofs.NextPart.{chooses, noted_so, own_doubles, some_begun}
 use Rattle.ctl_machine.proofs.NextWindow.{end_is, tall_within}
 use Rattle.ctl_machine.proofs.StillLeft.{count_left}
 use Rattle.ctl_machine.proofs.Words.{last_there}
@@ -56,7 +56,6 @@ returns-in_default-clause-ok g c =
     let chosen = subst (λ n. IsChosen all left n x.at x.rest) pick (c.choose-chosen.ensures.chosen all left f.are) in
     let y = c.controlled_at-component.result in
     let is : (d : Begun) → y ≡ pull_item d (pick_among c.args.order (length left)) left = λ d. same_at y (pull_item d (pick_among c.args.order (length left)) left) (slice_get all x.at) c.controlled_at-component.ensures (chosen.chosen d) in
-    let constant = constant_so y.initial c.in_default.not-ByType in
     let right = pull_rest (pick_among c.args.order (length left)) left in
     let frame = FrameOf.Adjusting c.args.creation type x.rest in
     let control : reverse c.replace_top.new.control.items ≡ frame ∷ drop 1 (reverse old.control.items) = c.replace_top.ensures.items in
@@ -64,7 +63,7 @@ returns-in_default-clause-ok g c =
     let new : Engine = record old { mode = ModeOf.Giving c.handed.result; control = c.replace_top.new.control; picks = c.note_pick.new.picks } in
     let b : Finishes code new (record { spot = t.spot; control = T.Adjusting c.args.creation t.spot type right ∷ t.control; world = t.world }) = rest_adjusts code old new c.args.creation type c.args.left x.rest t.spot t left right [] f chosen.rest are in
     let noted = noted_so old.picks.items c.reserve.new.vector.items c.note_pick.new.picks.items c.count-candidates.result (length left) x.pick c.args.order c.note_pick.ensures c.reserve.ensures.items (c.count-candidates.ensures ∙ sym many) pick in
-    let move = next_constant code c.args.creation t.spot type left c.args.failed (pick_among c.args.order (length left)) t.control t.world y constant.0 c.requires.1.1.0 is constant.1 in
+    let move = next_elementary code c.args.creation t.spot type left c.args.failed (pick_among c.args.order (length left)) t.control t.world y c.requires.1.1.0 is c.in_default.not-ByType in
     subst (λ (m : Move). Chooses code old new m (noted_among (length left) (pick_among c.args.order (length left)))) (sym move)
     (chooses code old new new _ _ refl noted (finished_gives code new new (record { spot = t.spot; control = T.Adjusting c.args.creation t.spot type right ∷ t.control; world = t.world }) c.handed.result (Fine (handed c.args.failed)) b refl c.handed.ensures refl refl))
 

@@ -40,8 +40,8 @@ begin_part-requires g c =
     let long = c.replace_top.ensures.len in
     let wide = c.replace_top.ensures.capacity in
     let spots = c.in_ok-reserve-2.ensures.ok in (
-      child_awaits code old mid x.record_type x.owner c.args.record c.select.new.self g.t.0 c.args.rest c.args.left g.t.2 g.t.1 c.requires.0 c.requires.1.1 c.requires.1.0 is,
-      (record { type_is = refl; owner_is = c.requires.0.is_of.owner_is }, (refl, (omega (arith, room, long, wide), omega (arith, spots)))),
+      child_awaits code old mid x.record_type x.owner c.args.record c.select.new.self g.t.0 c.args.rest c.args.left g.t.2 g.t.1 c.requires.0 c.requires.1.1.0 c.requires.1.0 is c.requires.1.1.1,
+      (record { type_is = refl; owner_is = c.requires.0.is_of.owner_is }, (refl, (omega (arith, room, long, wide), (omega (arith, spots), tt)))),
     )
 
 pub returns-clause-ok : goal.returns-clause-ok

@@ -29,7 +29,7 @@ begin_part-requires g c =
     let longer = c.push_reserved.ensures.len in
     let wide = c.push_reserved.ensures.capacity in (
       declared_waits c.args.declared c.args.code.now old mid g.t.0 c.args.record c.args.place (OwnerOf.Master c.args.master) g.t.1 c.requires.0 declared is,
-      (record { type_is = refl; owner_is = refl }, (ap whole_spot (sym declared.number) ∙ sym c.whole-spot.ensures, (omega (arith, room, longer, wide), c.requires.1.1.1))),
+      (record { type_is = refl; owner_is = refl }, (ap whole_spot (sym declared.number) ∙ sym c.whole-spot.ensures, (omega (arith, room, longer, wide), (c.requires.1.1.1, tt)))),
     )
 
 pub returns : goal.returns

@@ -34,7 +34,7 @@ begin_part-requires g c =
     let longer = c.push_reserved.ensures.len in
     let wide = c.push_reserved.ensures.capacity in
     let some = c.requires.1.1.1.1 in
-    (waits, (record { type_is = refl; owner_is = refl }, (ap whole_spot a.number ∙ sym c.whole-whole.ensures, (omega (arith, room, longer, wide), omega (arith, some)))))
+    (waits, (record { type_is = refl; owner_is = refl }, (ap whole_spot a.number ∙ sym c.whole-whole.ensures, (omega (arith, room, longer, wide), (omega (arith, some), tt)))))
 
 pub returns : goal.returns
 returns g c =

@@ -17,4 +17,4 @@ returns-clause-begins g c =
     begins_makes c.args.code.now old _ g.t c.args.record c.args.owner those c.push_reserved.new.self.items c.requires.0 c.requires.1.0 refl c.count_begun.ensures
     (c.push_reserved.ensures.items ∙ ap (λ (s : Spot). old.spots.items ++ s ∷ []) (sym c.requires.1.1.0))
     (ap (λ (l : List Frame). record (kept old) { control = l; spots = c.push_reserved.new.self.items }) control)
-    refl refl refl
+    refl refl refl c.requires.1.1.1.1.1

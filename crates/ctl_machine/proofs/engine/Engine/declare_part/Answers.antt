@@ -43,7 +43,7 @@ create-requires-clause-cell g c =
     let old = c.args.self.now in
     let m = c.newest-newest.result in
     let b = c.requires.1.0 in
-    let has = has_object code old b.stack c.args.slot c.args.record g.s g.s.operands m b.inside c.newest-newest.ensures.last in
+    let has = has_object code old b.stack c.args.slot c.args.record g.s g.s.operands m b.inside (c.args.slot, b.fine.2) c.newest-newest.ensures.last in
     subst (λ (l : List ℕ). c.args.slot < m.slots → m.base + c.args.slot < length l) (sym (ap (λ (e : Kept). e.cells) c.in_ok-reserve_object.ensures.same.kept)) has.made.within
 
 pub create-requires-clause-numbers : goal.create-requires-clause-numbers
@@ -55,7 +55,7 @@ pub create-requires-clause-newest : goal.create-requires-clause-newest
 create-requires-clause-newest g c =
     let b = c.requires.1.0 in
     let m = c.newest-newest.result in
-    let has = has_object c.args.code.now c.args.self.now b.stack c.args.slot c.args.record g.s g.s.operands m b.inside c.newest-newest.ensures.last in
+    let has = has_object c.args.code.now c.args.self.now b.stack c.args.slot c.args.record g.s g.s.operands m b.inside (c.args.slot, b.fine.2) c.newest-newest.ensures.last in
     subst (λ (e : Kept). Order.AreUpTo m.number e.objects) (sym c.in_ok-reserve_object.ensures.same.kept)
     (newest_above c.args.code.now (kept c.args.self.now) g.s.control g.s.operands g.s.world m has.first.0 b.inside.holds has.first.1)
 
@@ -137,7 +137,7 @@ returns-clause-ok g c =
     (ap (λ n. object_in n old.stock.objects) (sym number) ∙ some.1) are given in
     let slot : (newest_object made.owned.items).slot ≡ c.args.slot = ap (λ (e : Kept). (newest_object e.owned).slot) c.in_ok-create.ensures.kept ∙ ap (λ (x : Owned). x.slot) (newest_object_is ready.owned.items (row_of m c.args.slot c.args.record (kept ready))) in
     let b = c.requires.1.0 in
-    let has = has_object code old b.stack c.args.slot c.args.record g.s g.s.operands m b.inside c.newest-newest.ensures.last in
+    let has = has_object code old b.stack c.args.slot c.args.record g.s g.s.operands m b.inside (c.args.slot, b.fine.2) c.newest-newest.ensures.last in
     let goes : ℕ → ℕ → Move = λ n j. let x = copied_at code (c.args.place + 1) n c.args.record g.s in adjust_new code (parts_of code c.args.record) ByDeclaration (newborn x.number c.args.record (OwnerOf.Master j)) x.point x.control x.world in
     copied.1 c.adjust_new.new.self (ap (λ v. v.items) c.in_ok-create.ensures.events ∙ same.events) (ap (λ v. v.items) c.in_ok-create.ensures.picks ∙ same.picks)
     (subst (λ j. Makes code begun c.adjust_new.new.self (goes c.args.slot j)) (sym has.own) (subst (λ n. Makes code begun c.adjust_new.new.self (goes n m.number)) slot c.adjust_new.ensures))

@@ -35,14 +35,14 @@ create_pool-requires-clause-new g c =
 pub create_pool-requires-clause-cell : goal.create_pool-requires-clause-cell
 create_pool-requires-clause-cell g c =
     let b = c.requires.1.0 in
-    let has = has_object c.args.code.now c.args.self.now b.stack c.args.slot c.args.record g.s g.s.operands c.newest-newest.result b.inside c.newest-newest.ensures.last in
+    let has = has_object c.args.code.now c.args.self.now b.stack c.args.slot c.args.record g.s g.s.operands c.newest-newest.result b.inside (c.args.slot, b.fine.2) c.newest-newest.ensures.last in
     subst (λ (l : List ℕ). c.args.slot < c.newest-newest.result.slots → c.newest-newest.result.base + c.args.slot < length l) (sym (ap (λ (e : Kept). e.cells) c.in_ok-reserve_object.ensures.same.kept)) has.made.within
 
 pub create_pool-requires-clause-newest : goal.create_pool-requires-clause-newest
 create_pool-requires-clause-newest g c =
     let b = c.requires.1.0 in
     let m = c.newest-newest.result in
-    let has = has_object c.args.code.now c.args.self.now b.stack c.args.slot c.args.record g.s g.s.operands m b.inside c.newest-newest.ensures.last in
+    let has = has_object c.args.code.now c.args.self.now b.stack c.args.slot c.args.record g.s g.s.operands m b.inside (c.args.slot, b.fine.2) c.newest-newest.ensures.last in
     subst (λ (e : Kept). Order.AreUpTo m.number e.objects) (sym c.in_ok-reserve_object.ensures.same.kept)
     (newest_above c.args.code.now (kept c.args.self.now) g.s.control g.s.operands g.s.world m has.first.0 b.inside.holds has.first.1)
 
@@ -63,7 +63,7 @@ returns-clause-ok g c =
     let room = c.in_ok-reserve_object.ensures in
     let d = discriminants code old c.args.place c.args.slot c.args.record c.args.at c.args.order g.s b in
     let good = subst (λ x. IsSize c.args.order d.lower d.upper x) c.in-Some.is (c.operand_size.ensures d.lower d.upper d.lower_read d.upper_read) in
-    let has = has_object code old b.stack c.args.slot c.args.record g.s g.s.operands m b.inside c.newest-newest.ensures.last in
+    let has = has_object code old b.stack c.args.slot c.args.record g.s g.s.operands m b.inside (c.args.slot, b.fine.2) c.newest-newest.ensures.last in
     let pool = pool_made code old c.reserve_object.new.self c.create_pool.new.self c.args.place c.args.slot c.args.record c.args.at c.size_of-cells.result c.args.order g.s m c.in-Some.size b c.newest-newest.ensures.last room.same.kept made.kept c.size_of-cells.ensures made.number made.pools in
     pool_makes code old c.create_pool.new.self c.begin_declared.new.self c.args.place c.args.slot c.args.record c.args.at c.args.order g.s c.in-Some.size b good pool m.number has.own
     (ap (λ v. v.items) made.events ∙ room.same.events) (ap (λ v. v.items) made.picks ∙ room.same.picks) c.begin_declared.ensures

@@ -13,8 +13,8 @@ put-requires-clause-cell g c =
 pub returns-clause-makes : goal.returns-clause-makes
 returns-clause-makes g c = λ ty.
     let b = c.requires.1.0.1 in
-    subst (λ x. Makes c.args.code.now c.args.self.now c.put.new.self (put c.args.to.now.named x g.s.operands (here_of c.args.place g.s))) c.read_variable-value.ensures
-    (put_makes c.args.code.now c.args.self.now c.put.new.self c.args.place c.args.to.now c.requires.1.0.0 b.stack g.s.control g.s.operands g.s.world c.read_variable-value.result b.fine.0 c.requires.0 b.inside b.fine.1 c.put.ensures)
+    subst (λ x. Makes c.args.code.now c.args.self.now c.put.new.self (put c.args.to.now.named x g.s.operands (here_of c.args.place g.s))) c.read_seen-value.ensures
+    (put_makes c.args.code.now c.args.self.now c.put.new.self c.args.place c.args.to.now c.requires.1.0.0 b.stack g.s.control g.s.operands g.s.world c.read_seen-value.result b.fine.0 c.requires.0 b.inside b.fine.1 c.put.ensures)
 
 pub returns-clause-masters : goal.returns-clause-masters
 returns-clause-masters g c = ap (λ (k : Kept). k.masters) c.put.ensures.kept

@@ -1,4 +1,4 @@
 use Rattle.ctl_machine.proofs.engine.Engine.fetch.Given as goal
 
-abbrev pub ghost-read_variable : goal.ghost-read_variable
-ghost-read_variable g a = g.s
+abbrev pub ghost-read_seen : goal.ghost-read_seen
+ghost-read_seen g a = g.s

@@ -23,7 +23,7 @@ index-requires g c =
 pub add_set-requires-clause-cell : goal.add_set-requires-clause-cell
 add_set-requires-clause-cell g c =
     let b = c.requires.1.0 in
-    (gathers c.args.code.now c.args.self.now b.stack c.index.result.now.collection.slot c.args.count g.s c.newest-newest.result b.inside c.newest-newest.ensures.last).within
+    (gathers c.args.code.now c.args.self.now b.stack c.index.result.now.collection.slot c.args.count g.s c.newest-newest.result b.inside (b.fine.0.0.collection.slot, b.fine.0.3) c.newest-newest.ensures.last).within
 
 pub returns-clause-ok : goal.returns-clause-ok
 returns-clause-ok g c =

@@ -1,4 +1,4 @@
 use Rattle.ctl_machine.proofs.engine.Engine.locate.Given as goal
 
-abbrev pub ghost-holder_out : goal.ghost-holder_out
-ghost-holder_out g a = g.s
+abbrev pub ghost-holder_seen : goal.ghost-holder_seen
+ghost-holder_seen g a = g.s

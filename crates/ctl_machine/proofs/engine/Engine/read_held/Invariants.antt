@@ -1,7 +1,7 @@
 use Rattle.ctl_machine.proofs.engine.Engine.read_held.Given as goal
 
-abbrev pub ghost-holder_out : goal.ghost-holder_out
-ghost-holder_out g a = g.s
+abbrev pub ghost-holder_seen : goal.ghost-holder_seen
+ghost-holder_seen g a = g.s
 
 abbrev pub ghost-read_at : goal.ghost-read_at
 ghost-read_at g a = g.s

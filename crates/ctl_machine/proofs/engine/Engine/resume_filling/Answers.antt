@@ -46,7 +46,7 @@ fill-requires g c =
     let f = is_filling c.args.code.now c.args.self.now c.args.record c.args.owner c.args.left c.args.incomplete top.0 g.s c.requires.1.0 top.1 in
     let rising = f.are.rising in
     let differs = c.if-left.false in
-    (c.requires.1.0, ((c.args.incomplete, top.0, top.1), omega (arith, rising, differs)))
+    (c.requires.0, (c.requires.1.0, ((c.args.incomplete, top.0, top.1), omega (arith, rising, differs))))
 
 pub returns-then-left : goal.returns-then-left
 returns-then-left g c =

@@ -51,7 +51,7 @@ returns g c =
     ∙ (ap (λ n. change_in n (with_cells (c.offset-start.result + c.args.offset) (c.args.value ∷ [])) old.stock.objects) number
     ∙ ap (λ n. change_in x.object (with_cells (n + c.args.offset) (c.args.value ∷ [])) old.stock.objects) start) in
     record {
-      takes = takes_default code old _ c.args.creation.record_type c.args.creation.owner c.args.offset c.args.value g.t.0 c.args.rest g.t.1 there.0 c.requires.0 c.requires.1
+      takes = takes_default code old _ c.args.creation.record_type c.args.creation.owner c.args.offset c.args.value g.t.0 c.args.rest g.t.1 there.0 c.requires.0 c.requires.1.0
           (ap (λ n. object_in n old.stock.objects) (sym number) ∙ there.1)
           (record {
             mode = refl;
@@ -59,6 +59,7 @@ returns g c =
                 ∙ stocked (with_next frame (kept old)) c.write_part.new.self _ written c.write_part.ensures.same;
             events = refl;
             picks = refl;
-          });
+          })
+          c.requires.1.1;
       picks = refl;
     }

@@ -47,10 +47,10 @@ pub returns-in-DropPart-clause-passed : goal.returns-in-DropPart-clause-passed
 returns-in-DropPart-clause-passed g c = subst (λ (i : Instr). (c.drop_part.new.self.mode ≡ At (c.args.place + 1)) × Makes c.args.code.now c.args.self.now c.drop_part.new.self (by_instr c.args.code.now (Some i) g.s.operands (here_of c.args.place g.s))) (sym c.in-DropPart.is) (c.drop_part.ensures.mode, c.drop_part.ensures.makes c.in-DropPart.record)
 
 pub returns-in-Designate-clause-passed : goal.returns-in-Designate-clause-passed
-returns-in-Designate-clause-passed g c = subst (λ (i : Instr). IfSome c.designate_slot.result (λ next. (c.designate_slot.new.self.mode ≡ At next) × Makes c.args.code.now c.args.self.now c.designate_slot.new.self (by_instr c.args.code.now (Some i) g.s.operands (here_of c.args.place g.s)))) (sym c.in-Designate.is) (c.designate_slot.ensures.passed c.in-Designate.ty)
+returns-in-Designate-clause-passed g c = subst (λ (i : Instr). IfSome c.designate_variable.result (λ next. (c.designate_variable.new.self.mode ≡ At next) × Makes c.args.code.now c.args.self.now c.designate_variable.new.self (by_instr c.args.code.now (Some i) g.s.operands (here_of c.args.place g.s)))) (sym c.in-Designate.is) (c.designate_variable.ensures.passed c.in-Designate.ty)
 
 pub returns-in-Designate-clause-gone : goal.returns-in-Designate-clause-gone
-returns-in-Designate-clause-gone g c = subst (λ (i : Instr). IfNone c.designate_slot.result (Comes c.args.code.now c.designate_slot.new.self (Stopped UseAfterFree) c.designate_slot.new.self.cells.items (by_instr c.args.code.now (Some i) g.s.operands (here_of c.args.place g.s)))) (sym c.in-Designate.is) (c.designate_slot.ensures.gone c.in-Designate.ty)
+returns-in-Designate-clause-gone g c = subst (λ (i : Instr). IfNone c.designate_variable.result (Comes c.args.code.now c.designate_variable.new.self (Stopped UseAfterFree) c.designate_variable.new.self.cells.items (by_instr c.args.code.now (Some i) g.s.operands (here_of c.args.place g.s)))) (sym c.in-Designate.is) (c.designate_variable.ensures.gone c.in-Designate.ty)
 
 pub returns-in-GiveValue-clause-passed : goal.returns-in-GiveValue-clause-passed
 returns-in-GiveValue-clause-passed g c = subst (λ (i : Instr). IfSome c.give_value.result (λ next. (c.give_value.new.self.mode ≡ At next) × Makes c.args.code.now c.args.self.now c.give_value.new.self (by_instr c.args.code.now (Some i) g.s.operands (here_of c.args.place g.s)))) (sym c.in-GiveValue.is) (c.give_value.ensures.passed c.in-GiveValue.of c.in-GiveValue.ty)

@@ -18,8 +18,8 @@ ghost-take_part g a = g.s
 abbrev pub ghost-take_discriminant : goal.ghost-take_discriminant
 ghost-take_discriminant g a = g.s
 
-abbrev pub ghost-designate_slot : goal.ghost-designate_slot
-ghost-designate_slot g a = g.s
+abbrev pub ghost-designate_variable : goal.ghost-designate_variable
+ghost-designate_variable g a = g.s
 
 abbrev pub ghost-give_value : goal.ghost-give_value
 ghost-give_value g a = g.s

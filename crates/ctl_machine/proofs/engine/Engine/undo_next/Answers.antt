@@ -25,8 +25,8 @@ use Rattle.ctl_machine.proofs.AfterUndoing.{chosen_so, left_so, spot_read}
 use Rattle.ctl_machine.proofs.Among.{one_fewer}
 use Rattle.ctl_machine.proofs.Finishing.{finished_gives}
 use Rattle.ctl_machine.proofs.Lists.{same_at}
-use Rattle.ctl_machine.proofs.NextPart.{chooses, constant_so, some_begun}
-use Rattle.ctl_machine.proofs.NextUndone.{next_by_type, next_constant, rest_undoes}
+use Rattle.ctl_machine.proofs.NextPart.{chooses, some_begun}
+use Rattle.ctl_machine.proofs.NextUndone.{next_by_type, next_elementary, rest_undoes}
 use Rattle.ctl_machine.proofs.NextWindow.{end_is, tall_within}
 use Rattle.ctl_machine.proofs.Words.{last_there}
 use Rattle.ctl_machine.proofs.engine.Engine.undo_next.Goals as goal
@@ -68,7 +68,6 @@ returns-in_default-clause-ok g c =
     let chosen = subst (λ n. IsChosenAmong all (is_undone t.spot t.control) left n x.at x.rest) pick (chosen_so code old type c.args.count c.args.first x.pick x.at c.args.left x.rest t left s f same c.choose_undone-chosen.ensures.1) in
     let y = c.controlled_at-component.result in
     let is : (d : Begun) → y ≡ pull_item d (pick_among c.args.order (length left)) left = λ d. same_at y (pull_item d (pick_among c.args.order (length left)) left) (slice_get all x.at) c.controlled_at-component.ensures (chosen.chosen d) in
-    let constant = constant_so y.initial c.in_default.not-ByType in
     let right = pull_rest (pick_among c.args.order (length left)) left in
     let fewer = one_fewer c.args.order left c.args.count f.many c.requires.1.1.0 in
     let frame = FrameOf.UndoingParts type x.rest (c.args.count - 1) c.args.first in
@@ -81,7 +80,7 @@ returns-in_default-clause-ok g c =
     ∙ (ap (λ (l : List ℕ). l ++ noted_among c.args.count x.pick) c.reserve.ensures.items
     ∙ (ap (λ n. old.picks.items ++ noted_among n x.pick) count
     ∙ ap (λ n. old.picks.items ++ noted_among (length left) n) pick)) in
-    let move = next_constant code t.spot left (pick_among c.args.order (length left)) t.control t.world y constant.0 some is constant.1 in
+    let move = next_elementary code t.spot left (pick_among c.args.order (length left)) t.control t.world y some is c.in_default.not-ByType in
     subst (λ (m : Move). Chooses code old new m (noted_among (length left) (pick_among c.args.order (length left)))) (sym move)
     (chooses code old new new _ _ refl noted (finished_gives code new new (record { spot = t.spot; control = T.UndoingParts t.spot right ∷ t.control; world = t.world }) Complete (Fine T.Complete) b refl refl refl refl))
 
