@@ -11,7 +11,6 @@ pub mod Picks
 pub mod Plain
 pub mod Values
 pub mod Cells
-pub mod Walked
 pub mod Parts
 pub mod LastSteps
 pub mod Begun
@@ -95,17 +94,5 @@ pub mod FormedArms
 pub mod FormedHandlers
 pub mod FormedMasters
 pub mod FormedWhole
-pub mod Emission
-pub mod EmittedValues
-pub mod EmittedParts
-pub mod EmittedTexts
-pub mod EmittedStatements
-pub mod EmittedCalls
-pub mod EmittedDefaults
-pub mod EmittedStorage
-pub mod EmittedLoops
-pub mod EmittedArms
-pub mod EmittedHandlers
-pub mod EmittedBodies
 pub mod SeenAlike
 pub mod FormedDefaults

@@ -4,7 +4,7 @@ ghost use Rattle.std.specs.Prelude.{◌≡◌, ◌⊎◌, ◌+◌, ◌++◌, [],
 ghost use Rattle.ctl_tree.specs.declared.fault.FaultCode.TheVariants.{LeftOut, Memory};
 ghost use Rattle.ctl_well_typed.specs.Programs.{WellTyped};
 ghost use Rattle.ctl_gen.specs.Correct.{Behaves};
-ghost use Rattle.ctl_gen.specs.Emitted.{appended};
+ghost use Rattle.ctl_emit.specs.Emitted.{appended};
 ghost use Rattle.ctl_layout.specs.Run.{AreLinked, IsRun};
 ghost use Rattle.ctl_meaning.specs.Types.{total};
 ghost use Rattle.ctl_meaning.specs.Types as sizes;
@@ -20,13 +20,13 @@ ghost use Rattle.ctl_layout.specs.Records as types;
 ghost use Rattle.ctl_layout.specs.Layout as spec;
 ghost use Rattle.ctl_layout.specs.Layout.{AreLayouts, HasKinds, IsLaidOut, IsLayout, entry_at, home_of, operations_of};
 
-use crate::emit::Emitter;
 use ctl_code::code::{
     AccessHome, Begun, Code, Defaults, Entry, Initial, Instr, Layout, Operations, Parts,
 };
 use ctl_code::homes::Homes;
 use ctl_code::least::least_homes;
 use ctl_code::valid::ValidCode;
+use ctl_emit::emit::Emitter;
 use ctl_layout::forms::run_default;
 use ctl_layout::right::constant;
 use ctl_program::program::{Checked, Subprogram};

@@ -3,9 +3,9 @@ use Rattle.std.proofs.lemmas.List.{drop_all, map-append}
 use Rattle.ctl_code.specs.declared.code.Defaults.{Defaults}
 use Rattle.ctl_layout.specs.Layout.{all_defaults, defaults_code, inherited_places, places_from, rows_from}
 use Rattle.ctl_layout.proofs.Turns.{turn_of}
-use Rattle.ctl_gen.specs.Emitted.{appended}
-use Rattle.ctl_gen.proofs.Emission.{standing_is}
-use Rattle.ctl_gen.proofs.EmittedDefaults.{next_row, next_type, none_appended}
+use Rattle.ctl_emit.specs.Emitted.{appended}
+use Rattle.ctl_emit.proofs.Emission.{standing_is}
+use Rattle.ctl_emit.proofs.EmittedDefaults.{next_row, next_type, none_appended}
 use Rattle.ctl_gen.proofs.generate.defaults_of.Goals as goal
 
 pub loop-entry-preserved : goal.loop-entry-preserved

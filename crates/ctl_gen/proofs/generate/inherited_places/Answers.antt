@@ -4,7 +4,7 @@ use Rattle.std.proofs.lemmas.Bool.{ltb-false}
 use Rattle.std.proofs.lemmas.Option.{slice_get_past, slice_get_read}
 use Rattle.ctl_code.specs.declared.code.Defaults.{Defaults}
 use Rattle.ctl_layout.specs.Layout as spec
-use Rattle.ctl_gen.proofs.EmittedDefaults.{no_row_inherited, row_inherited}
+use Rattle.ctl_emit.proofs.EmittedDefaults.{no_row_inherited, row_inherited}
 use Rattle.ctl_gen.proofs.generate.inherited_places.Goals as goal
 
 pub returns-in-Some-get : goal.returns-in-Some-get

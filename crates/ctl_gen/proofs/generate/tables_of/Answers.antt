@@ -3,10 +3,10 @@ use Rattle.std.specs.Prelude.{slice_get}
 use Rattle.std.proofs.lemmas.List.{drop_all}
 use Rattle.ctl_code.specs.declared.code.Entry.{Entry}
 use Rattle.ctl_code.specs.declared.code.Instr.TheVariants.{Start}
-use Rattle.ctl_gen.specs.Emitted.{Emitted, appended, lined, one, stated}
+use Rattle.ctl_emit.specs.Emitted.{Emitted, appended, lined, one, stated}
 use Rattle.ctl_layout.specs.Layout.{AreLayouts, all_defaults, bodies, body_code, entries_from, entry_at, home_of, operations_of, rows_from}
 use Rattle.ctl_layout.proofs.Turns.{turn_of}
-use Rattle.ctl_gen.proofs.EmittedBodies.{IsWhole, all_emitted, all_instructions, all_kinds, all_texts, behind_them, begun, begun_place, next_body, next_entry, nothing_stands}
+use Rattle.ctl_emit.proofs.EmittedBodies.{IsWhole, all_emitted, all_instructions, all_kinds, all_texts, behind_them, begun, begun_place, next_body, next_entry, nothing_stands}
 use Rattle.ctl_gen.proofs.generate.tables_of.Goals as goal
 
 pub loop-subprogram-init : goal.loop-subprogram-init
