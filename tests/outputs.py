@@ -38,6 +38,8 @@ COMMANDS = [
     (EMPTY, ["run"], [], 0, []),
     (EMPTY, ["run"], ["--trace"], 0, ["adactl: picks none"]),
     (EMPTY, ["run"], ["--order", "oldest", "--steps", "18446744073709551615"], 0, []),
+    (EMPTY, ["run", "--steps=18446744073709551615", "--order=newest"], [], 0, []),
+    (EMPTY, ["run", "--trace", "--"], [], 0, ["adactl: picks none"]),
     (OVERFLOWS, ["run"], [], 1, ["adactl: raised Constraint_Error"]),
     (REFUSED, ["check"], [], 2, ["adactl: 1:25: 20 UNKNOWN"]),
     (REFUSED, ["run"], [], 2, ["adactl: 1:25: 20 UNKNOWN"]),
@@ -57,6 +59,34 @@ COMMANDS = [
     (EMPTY, ["run"], [b"\xff"], 64, USAGE),
     (EMPTY, ["run"], ["--steps", b"1\xff"], 64, USAGE),
     (EMPTY, [b"\xc3\x28"], [], 64, USAGE),
+]
+
+# lines of words that ask for no job, with one blank between the words; no file is read
+NO_JOBS = [
+    "--help",
+    "-h",
+    "help",
+    "help run",
+    "--version",
+    "walk a.adb",
+    "check",
+    "check a.adb b.adb",
+    "check a.adb --trace",
+    "check --help",
+    "run",
+    "run --trace",
+    "run a.adb b.adb",
+    "run a.adb --help",
+    "run a.adb --order later",
+    "run a.adb --order Newest",
+    "run a.adb --order",
+    "run a.adb --order newest --order oldest",
+    "run a.adb --picks 1,0",
+    "run a.adb --steps 18446744073709551616",
+    "run a.adb --steps many",
+    "run a.adb --steps -1",
+    "run a.adb --steps",
+    "run a.adb --trace=yes",
 ]
 
 # where standard output and standard error go, the words around the file of PRINTS or PRINTS_AND_RAISES, the exit status, and
@@ -106,9 +136,11 @@ def names_of_files(adactl, folder):
         yield None if told(done) == (status, lines) else f"{name!r}: {told(done)}"
 
 
-def no_words(adactl):
-    done = subprocess.run([adactl], stdin=subprocess.DEVNULL, capture_output=True, timeout=60)
-    yield None if told(done) == (64, USAGE) else f"no words: {told(done)}"
+def no_jobs(adactl):
+    """No words, and words that ask for no job."""
+    for line in ["", *NO_JOBS]:
+        done = subprocess.run([adactl, *line.split()], stdin=subprocess.DEVNULL, capture_output=True, timeout=60)
+        yield None if told(done) == (64, USAGE) else f"{line!r}: {told(done)}"
 
 
 def files(adactl, folder):
@@ -138,7 +170,7 @@ def complaints(adactl):
     with tempfile.TemporaryDirectory() as folder:
         yield from commands(adactl, folder)
         yield from names_of_files(adactl, folder)
-        yield from no_words(adactl)
+        yield from no_jobs(adactl)
         yield from files(adactl, folder)
         yield from outputs(adactl, folder)
 

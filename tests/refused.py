@@ -13,13 +13,30 @@ from answers import answer, fault_told, tell
 # in place of the number of a fault
 ACCEPTED = 0
 
-UNUSED_WORDS = """abort abstract accept array at body case delay delta digits do entry generic goto interface of package pragma
-private protected range renames requeue select separate some subtype synchronized task terminate until""".split()
+# in letters of either case
+UNUSED_WORDS = """Abort ABstraCt accept aRrAY aT body cAse deLaY DElta digitS DO entrY geNeRIc GOto INTeRface OF pAcKAgE praGma
+pRIvate pRotECTed range renames reQUEUe SElEct sEpaRaTe somE suBtYpE synchroNiZed TAsk terminATe unTiL""".split()
 
 DELIMITERS = "& ' ( ) * + , - . / : ; < = > | => .. := /= >= <=".split()
 
 # each ends a line; an LF directly behind a CR ends no further one
 LINE_ENDS = ["\n", "\x0b", "\x0c", "\r", "\r\n"]
+
+# a text before its last token, and the line and column of that token
+LAST_PLACES = [
+    ("--\r\n", 2, 1),
+    ("\n\n ", 3, 2),
+    ("\r\n\r\n", 3, 1),
+    ("\n\r", 3, 1),
+    ("\r\r\n", 3, 1),
+    ("\x0b", 2, 1),
+    ("\x0c", 2, 1),
+    ("\t", 1, 2),
+    ("-- \xe9\x85 --\n", 2, 1),
+]
+
+# a text behind its last token, `with`, and the line and column of the end of the text
+ENDS = [("", 1, 5), ("\n", 2, 1), ("\r\n", 2, 1), ("--a\x0b ", 2, 2)]
 
 ITEM = "procedure Main is "
 
@@ -47,6 +64,47 @@ MARK_POOLS = "with MR_Pools; use MR_Pools; procedure Main is "
 
 NESTED = "procedure Main is X : Integer; begin X := {}1{}; end Main;"
 
+# a hundred constructs are open where the item stands, in column 621: the body of Main and blocks in one another
+DEEP = ITEM + "begin " * 99 + "declare {} begin null; end; " + "end; " * 98 + "end;"
+
+# each construct of the grammar, of names that are not resolved
+EVERY_CONSTRUCT = (
+    "with Ada.Text_IO, System; use System; procedure Main is type N; type T is tagged; type R is limited null record;"
+    " type S is record null; end record; type E is new P.Q with record A, B : Integer := 1; C : D; end record; type G is access all R;"
+    " type H is access R with Storage_Pool => P; for H'storage_pool use P; X, Y : exception;"
+    " V, W : aliased constant R (1, B => 2) := F (1, 2); procedure Free is new Ada.Unchecked_Deallocation (R, Name => G);"
+    " procedure D (A, B : in out R; C : out R; D : in R; E : R); overriding procedure O (X : in out R) is begin null; end O;"
+    " function F return Integer is begin return -1 + 2 * 1 mod 2 - abs 1; exception when others => raise; end;"
+    " procedure B is begin return; end b;"
+    " begin null; Free (X); A.all.B (1, 2)'First := X'Access; exit; exit when A and then B and then not C; raise X.Y;"
+    " if A = 1 and B /= 2 then null; elsif A < B or else C >= \"x\" & \"x\" then null; else null; end if;"
+    " while A xor B loop null; end loop; for I in reverse 1 .. 2 loop null; end loop; loop exit; end loop;"
+    " declare A : R; begin A := new R; B := new (H) R'(null); exception when A | B.C => null; when others => null; end;"
+    " begin null; end; end Main;"
+)
+
+# each name denotes something
+NAMED = """with Ada.Text_IO; with Ada.Finalization;
+procedure Main is
+   type T is new Ada.Finalization.Controlled with record Next : Integer := 0; end record;
+   procedure Initialize (X : in out T);
+   procedure Initialize (X : in out T) is begin Ada.Text_IO.Put_Line ("initialize"); end Initialize;
+   function Twice (N : Integer) return Integer is begin return N * 2; end Twice;
+   A, B : T;
+begin
+   for I in 1 .. 3 loop
+      A.Next := Twice (I);
+   end loop;
+   declare
+      A : Integer := B.Next;
+   begin
+      A := A + 1;
+   exception
+      when Constraint_Error => null;
+   end;
+end Main;
+"""
+
 # a text, and the code, line and column of its fault
 TEXTS = [
     # numbers: UNEXPECTED where they are numbers, as a text begins with none
@@ -59,29 +117,42 @@ TEXTS = [
     ("12_", 2, 1, 1),
     ("1__2", 2, 1, 1),
     ("1a", 2, 1, 1),
+    ("16#", 2, 1, 1),
     ("16#F#", 2, 1, 1),
+    ("1234567890123456789", 2, 1, 1),
     # identifiers
     ("a", 10, 1, 1),
     ("a_1_B", 10, 1, 1),
     ("a__b", 4, 1, 1),
     ("a_", 4, 1, 1),
+    ("abs_ ", 4, 1, 1),
     ("_a", 1, 1, 1),
     (ITEM + "a_;", 4, 1, 19),
     (ITEM + "a_\n", 4, 1, 19),
     (ITEM + "end_", 4, 1, 19),
     (ITEM + "ends", 10, 1, 23),
     (ITEM + "a\xe9", 1, 1, 20),
+    (ITEM + "a, Z, a_1_B, abs_x, xabs, absx, elseif : Integer := 0 + 1_0; begin null; end Main;", ACCEPTED, 0, 0),
+    (ITEM + "N : Integer := 123456789012345678; begin null; end Main;", 34, 1, 34),
     # strings
     ('"a', 3, 1, 1),
     ('"a""b"', 10, 1, 1),
     ('"a""b', 3, 1, 1),
+    ('"a""', 3, 1, 1),
     ('"a\n"', 3, 1, 1),
+    ('"a\r"', 3, 1, 1),
+    ('with Ada.Text_IO; procedure Main is begin Ada.Text_IO.Put ("" & """" & " ~" & "--"); end Main;', ACCEPTED, 0, 0),
     # a string that is never closed comes before the byte in it that may not stand in a string
     ('"a\x01b', 3, 1, 1),
     ('"a\x01b"', 1, 1, 3),
+    ('"""\x80"', 1, 1, 4),
+    ('"\t"', 1, 1, 2),
     # bytes that begin nothing
     ("x [", 1, 1, 3),
     ("procedure \x85", 1, 1, 11),
+    ("a\xe9", 1, 1, 2),
+    # and come before a number that is none, behind them
+    ("$ 1.5", 1, 1, 1),
     # bytes past ASCII may stand in comments alone, and end no line there
     ("-- \xe9\x85 1.5\n1.5", 2, 2, 1),
     ("--\r\n1", 10, 2, 1),
@@ -95,17 +166,42 @@ TEXTS = [
     ("", 10, 1, 1),
     ("procedure Main is begin null; end Mein;", 13, 1, 35),
     ("procedure Main is begin null; end MAIN", 10, 1, 39),
+    # a fault of the grammar comes before one of names, so each construct is one of the grammar's
+    (EVERY_CONSTRUCT, 22, 1, 62),
+    # a body is too deep where it begins, and a part of a heading where that stands; a heading alone is no construct
+    (DEEP.format("procedure Q (X : T) is begin null; end;"), 11, 1, 621),
+    (DEEP.format("procedure Q (X : T);"), 11, 1, 633),
+    (DEEP.format("procedure Q (X T) is begin null; end;"), 11, 1, 633),
+    (DEEP.format("procedure Q is begin null; end;"), 11, 1, 621),
+    (DEEP.format("procedure Q is new D (1);"), 11, 1, 642),
+    (DEEP.format("procedure Q is ;"), 10, 1, 636),
+    (DEEP.format("overriding procedure Q is begin null; end;"), 11, 1, 632),
+    (DEEP.format("function F return T is begin null; end;"), 11, 1, 621),
+    (DEEP.format("procedure Q;"), 22, 1, 631),
     # the hundredth pair of parentheses is too deep, as the body of Main is open too; with one less the text is accepted
     (NESTED.format("(" * 100, ")" * 100), 11, 1, 142),
     (NESTED.format("(" * 99, ")" * 99), ACCEPTED, 0, 0),
     ("procedure Main is A, B, C : Boolean; begin A := A and B or C; end Main;", 10, 1, 57),
     ("procedure Main is A, B, C : Boolean; begin A := A or B and C; end Main;", 10, 1, 56),
     ("procedure Main is begin A := B and then C and D; end Main;", 10, 1, 47),
+    ("procedure Main is begin A := B and then C and D; end;", 10, 1, 47),
     # two points behind a number are none of it
     ("procedure Main is begin for I in 1..2 loop null; end loop; end Main;", ACCEPTED, 0, 0),
+    ("procedure Main is begin for I in 1..;", 10, 1, 37),
+    ("procedure Main is begin for I in 1..2;", 10, 1, 38),
     ("procedure Main is begin null; end Main", 10, 1, 39),
     ("procedure Main is begin null end Main;", 10, 1, 30),
     ("procedure Main is begin null; end Main; null;", 10, 1, 41),
+    ("procedure Main is begin A := B ' Size; end Main;", 12, 1, 34),
+    ("procedure Main is procedure P ( X : R ) is new Q ( 1 ); begin null; end;", 10, 1, 44),
+    ("procedure Main is A : B ( C . D => 1 ); begin null; end;", 10, 1, 33),
+    # names
+    (NAMED, ACCEPTED, 0, 0),
+    ("procedure Main is begin A := 1; end Main;", 20, 1, 25),
+    ("procedure Main is A, B, a : Integer; begin null; end Main;", 21, 1, 25),
+    ("procedure Main is procedure P; begin null; end Main;", 22, 1, 29),
+    ("procedure Main is begin Ada.Text_IO.New_Line; end Main;", 25, 1, 25),
+    ("procedure Main is A : Integer := A; begin null; end Main;", 20, 1, 34),
     ("procedure Main is task T; begin null; end Main;", 12, 1, 19),
     # a broken rule on names comes before a construct that is left out, wherever they stand
     ("procedure Main is begin Put_Line (\"x\"); end Main;", 20, 1, 25),
@@ -155,6 +251,10 @@ TEXTS = [
     (ITEM + "procedure P is begin null; end P; type R is record N : Integer; end record; begin null; end Main;", 23, 1, 53),
     (ITEM + "begin Ada.Text_IO.New_Line; end Main;", 25, 1, 25),
     # and before a broken rule on types, wherever that stands
+    ("procedure Main is begin X := 1; end Main", 10, 1, 41),
+    ("procedure Main is B : Boolean := 1; begin X := 1; end Main;", 20, 1, 43),
+    ("procedure Main is B : Boolean := 1; begin null; end Main;", 30, 1, 34),
+    (MARK_POOLS + "P : Mark_Release_Pool (64); B : Boolean := 1; begin null; end Main;", 30, 1, 91),
     (ITEM + "N : Integer; begin N := True; M := 1; end Main;", 20, 1, 49),
     # an assignment of a record is run wherever its type is declared, and so is an object with the value of another one; a broken rule on
     # types is told
@@ -326,6 +426,7 @@ def texts():
     # a reserved word that the subset leaves out is 12 where a word that it uses would be 10
     for word in UNUSED_WORDS:
         yield f"{ITEM}{word}", 12, 1, 19
+        yield f"{ITEM}{word.lower()}", 12, 1, 19
         yield f"procedure Main is begin {word.upper()}", 12, 1, 25
     for delimiter in DELIMITERS:
         # each delimiter is a token, and none can begin an item
@@ -336,6 +437,17 @@ def texts():
         # a point with no digit behind it is none of the number's
         yield f"{ITEM}1{delimiter}", 10, 1, 19
         yield f"{ITEM}begin{delimiter}", 10, 1, 24
+    # bytes that begin nothing
+    for byte in "!#%?@[\\]^`{}~\x7f\x00\x1f\x80\xff":
+        yield byte, 1, 1, 1
+        yield f"{ITEM}a{byte}", 1, 1, 20
+    for before, line, column in LAST_PLACES:
+        yield f"{before}1", 10, line, column
+        yield f"{before}with", 10, line, column + len("with")
+    for behind, line, column in ENDS:
+        yield f"with{behind}", 10, line, column
+    # a comment ends a name
+    yield "with a--b\x0bc", 10, 2, 1
     for end in LINE_ENDS:
         yield f"{ITEM}{end};", 10, 2, 1
         yield f"{ITEM}a{end};", 10, 2, 1

@@ -1,6 +1,6 @@
 //! Jobs on source texts, with readers and writers that fail.
 
-use crate::texts::{EMPTY, TWO_OBJECTS, TWO_OBJECTS_OUTPUT, TWO_OBJECTS_TRACE};
+use crate::texts::{EMPTY, TWO_OBJECTS, TWO_OBJECTS_OUTPUT, TWO_OBJECTS_SERVED, TWO_OBJECTS_TRACE};
 use ctl_job::{Job, UsageFault};
 use ctl_machine::outcome::Outcome;
 use ctl_run::run::run_source;
@@ -119,107 +119,120 @@ fn served(alloc: Global, job: Job, source: &str) -> Result<String, Fail> {
     Ok(format!(in alloc; "{status}|{out}|{err}")?)
 }
 
+/// Says whether the status of a job on a text, what it printed and what it said are as wanted.
+fn is_served(alloc: Global, job: Job, source: &str, wanted: &str) -> Result<bool, Fail> {
+    let shown = served(alloc, job, source)?;
+    Ok(shown.as_str() == wanted)
+}
+
+/// What is shown of a run, its limit, its text, and its status with what it printed and said.
+const RUNS: [(Show, u64, &str, &str); 6] = [
+    (Show::Output, 1000, EMPTY, "0||"),
+    (Show::Output, 1000, TWO_OBJECTS, "0|i\nin\nb\na\nout\n|"),
+    (Show::Trace, 1000, TWO_OBJECTS, TWO_OBJECTS_SERVED),
+    (Show::Output, 0, TWO_OBJECTS, "4||adactl: step limit\n"),
+    (
+        Show::Trace,
+        0,
+        EMPTY,
+        "4|end limit\n|adactl: picks none\nadactl: step limit\n",
+    ),
+    (Show::Trace, 9, "", "2||adactl: 1:1: 10 UNEXPECTED\n"),
+];
+
 #[test]
-fn jobs_end_with_their_status_and_lines(rt: HostRuntime) -> Result<(), Fail> {
-    let alloc = rt.alloc();
-    let traced = format!(in alloc; "0|{TWO_OBJECTS_TRACE}|adactl: picks none\n")?;
-    let cases = [
-        (check_job(alloc), EMPTY, "0|ok\n|"),
-        (check_job(alloc), "", "2||adactl: 1:1: 10 UNEXPECTED\n"),
-        (run_job(alloc, Show::Output, 1000), EMPTY, "0||"),
-        (
-            run_job(alloc, Show::Output, 1000),
-            TWO_OBJECTS,
-            "0|i\nin\nb\na\nout\n|",
-        ),
-        (
-            run_job(alloc, Show::Trace, 1000),
-            TWO_OBJECTS,
-            traced.as_str(),
-        ),
-        (
-            run_job(alloc, Show::Output, 0),
-            TWO_OBJECTS,
-            "4||adactl: step limit\n",
-        ),
-        (
-            run_job(alloc, Show::Trace, 0),
-            EMPTY,
-            "4|end limit\n|adactl: picks none\nadactl: step limit\n",
-        ),
-        (
-            run_job(alloc, Show::Trace, 9),
-            "",
-            "2||adactl: 1:1: 10 UNEXPECTED\n",
-        ),
-    ];
-    for (job, source, wanted) in cases {
-        let shown = served(alloc, job, source)?;
-        assert_eq!(rt; shown.as_str(), wanted, "at {source}");
+fn runs_end_with_their_status_and_lines(rt: HostRuntime) -> Result<(), Fail> {
+    for (show, steps, source, wanted) in RUNS {
+        let job = run_job(rt.alloc(), show, steps);
+        assert!(rt; is_served(rt.alloc(), job, source, wanted)?, "at {wanted}");
     }
     Ok(())
 }
+
+#[test]
+fn checks_end_with_their_status_and_lines(rt: HostRuntime) -> Result<(), Fail> {
+    for (source, wanted) in [(EMPTY, "0|ok\n|"), ("", "2||adactl: 1:1: 10 UNEXPECTED\n")] {
+        let job = check_job(rt.alloc());
+        assert!(rt; is_served(rt.alloc(), job, source, wanted)?, "at {wanted}");
+    }
+    Ok(())
+}
+
+/// Says whether an end has this status and is told by this line.
+fn is_told(alloc: Global, end: &End, status: Status, line: &str) -> bool {
+    let mut err = Vec::new(alloc);
+    say_end(&mut err, end);
+    status_of_end(end) == status && err.as_slice() == line.as_bytes()
+}
+
+/// An end of each kind by the status that it has.
+fn end_with(raised: Text, status: Status) -> End {
+    match status {
+        Status::Done => End::Done,
+        Status::Raised => End::Raised(raised),
+        Status::Stopped => End::Stopped(Stop::BadAddress),
+        Status::StepLimit => End::StepLimit,
+        _ => End::HostMemory,
+    }
+}
+
+const TOLD: [(Status, &str); 5] = [
+    (Status::Done, ""),
+    (Status::Raised, "adactl: raised Constraint_Error\n"),
+    (Status::Stopped, "adactl: stopped BAD_ADDRESS\n"),
+    (Status::StepLimit, "adactl: step limit\n"),
+    (Status::HostMemory, "adactl: host memory\n"),
+];
 
 #[test]
 fn each_end_has_its_status_and_line(rt: HostRuntime) -> Result<(), Fail> {
-    let alloc = rt.alloc();
-    let raised = Text::from_slice(alloc, b"Constraint_Error")?;
-    let cases = [
-        (End::Done, Status::Done, ""),
-        (
-            End::Raised(raised),
-            Status::Raised,
-            "adactl: raised Constraint_Error\n",
-        ),
-        (
-            End::Stopped(Stop::BadAddress),
-            Status::Stopped,
-            "adactl: stopped BAD_ADDRESS\n",
-        ),
-        (End::StepLimit, Status::StepLimit, "adactl: step limit\n"),
-        (End::HostMemory, Status::HostMemory, "adactl: host memory\n"),
-    ];
-    for (end, status, wanted) in cases {
-        assert_eq!(rt; status_of_end(&end), status);
-        let mut err = Vec::new(alloc);
-        say_end(&mut err, &end);
-        assert_eq!(rt; err.as_slice(), wanted.as_bytes());
+    for (status, line) in TOLD {
+        let raised = Text::from_slice(rt.alloc(), b"Constraint_Error")?;
+        let end = end_with(raised, status);
+        assert!(rt; is_told(rt.alloc(), &end, status, line), "at {line}");
     }
     Ok(())
 }
 
+/// Says whether picks are told by this line.
+fn are_told(alloc: Global, picks: &[u64], line: &str) -> bool {
+    let mut err = Vec::new(alloc);
+    let picks = Picks(picks);
+    say(&mut err, format_args!("picks {picks}"));
+    err.as_slice() == line.as_bytes()
+}
+
 #[test]
-fn picks_are_numbers_with_commas(rt: HostRuntime) -> Result<(), Fail> {
-    let alloc = rt.alloc();
-    for (picks, wanted) in [
-        ([].as_slice(), "adactl: picks none\n"),
-        (&[1], "adactl: picks 1\n"),
-        (&[1, 0, 12], "adactl: picks 1,0,12\n"),
-    ] {
-        let mut err = Vec::new(alloc);
-        let picks = Picks(picks);
-        say(&mut err, format_args!("picks {picks}"));
-        assert_eq!(rt; err.as_slice(), wanted.as_bytes());
-    }
-    Ok(())
+fn picks_are_numbers_with_commas(rt: HostRuntime) {
+    assert!(rt; are_told(rt.alloc(), &[], "adactl: picks none\n"));
+    assert!(rt; are_told(rt.alloc(), &[1], "adactl: picks 1\n"));
+    assert!(rt; are_told(rt.alloc(), &[1, 0, 12], "adactl: picks 1,0,12\n"));
+}
+
+/// Says whether what was said is this line.
+fn is_said(err: &[u8], line: &str) -> bool {
+    err == line.as_bytes()
 }
 
 #[test]
 fn other_words_have_status_64(rt: HostRuntime) {
-    let alloc = rt.alloc();
-    let mut err = Vec::new(alloc);
-    assert_eq!(rt; refuse_words(UsageFault::Usage, &mut err), 64);
-    assert!(rt; err.as_slice().starts_with(b"usage: adactl check FILE\n"));
-    let mut err = Vec::new(alloc);
-    assert_eq!(rt; refuse_words(UsageFault::Memory, &mut err), 5);
-    assert_eq!(rt; err.as_slice(), b"adactl: host memory\n".as_slice());
+    let mut err = Vec::new(rt.alloc());
+    let status = refuse_words(UsageFault::Usage, &mut err);
+    assert!(rt; status == 64 && err.as_slice().starts_with(b"usage: adactl check FILE\n"));
+}
+
+#[test]
+fn words_that_find_no_room_have_status_5(rt: HostRuntime) {
+    let mut err = Vec::new(rt.alloc());
+    let status = refuse_words(UsageFault::Memory, &mut err);
+    assert!(rt; status == 5 && is_said(&err, "adactl: host memory\n"));
 }
 
 #[test]
 fn a_file_that_is_not_opened_has_status_74(rt: HostRuntime) {
     let mut err = Vec::new(rt.alloc());
-    assert_eq!(rt; refuse_file(&mut err), 74);
-    assert_eq!(rt; err.as_slice(), b"adactl: read failed\n".as_slice());
+    let status = refuse_file(&mut err);
+    assert!(rt; status == 74 && is_said(&err, "adactl: read failed\n"));
 }
 
 /// Runs a text into a writer, and answers what is known of the run and whether the sink failed.
@@ -235,36 +248,48 @@ fn run_limited(
     (result, failed)
 }
 
+/// Says whether a writer that takes so many bytes at a time has the whole trace of a run.
+fn takes_all(alloc: Global, at_once: usize) -> bool {
+    let mut out = Limited::new(alloc, at_once, 10_000);
+    let (result, failed) = run_limited(alloc, TWO_OBJECTS, &mut out);
+    result.is_ok() && !failed && out.bytes.as_slice() == TWO_OBJECTS_TRACE.as_bytes()
+}
+
 #[test]
 fn a_writer_may_take_one_byte_at_a_time(rt: HostRuntime) {
-    let mut out = Limited::new(rt.alloc(), 1, 10_000);
-    let (result, failed) = run_limited(rt.alloc(), TWO_OBJECTS, &mut out);
-    assert!(rt; result.is_ok());
-    assert!(rt; !failed);
-    assert_eq!(rt; out.bytes.as_slice(), TWO_OBJECTS_TRACE.as_bytes());
+    assert!(rt; takes_all(rt.alloc(), 1));
+}
+
+/// Says whether a writer with this room, less than a trace has, fails with as much of the trace as there is room for.
+fn takes_prefix(alloc: Global, room: usize, answers_error: bool) -> bool {
+    let mut out = Limited::new(alloc, 3, room);
+    out.answers_error = answers_error;
+    let (result, failed) = run_limited(alloc, EMPTY, &mut out);
+    let taken = out.bytes.as_slice();
+    matches!(&result, Err(RunFault::Write))
+        && failed
+        && taken.len() == room
+        && b"end done\n".starts_with(taken)
 }
 
 #[test]
 fn a_writer_that_fails_took_a_prefix(rt: HostRuntime) {
-    for answers_error in [false, true] {
-        for room in 0..9 {
-            let mut out = Limited::new(rt.alloc(), 3, room);
-            out.answers_error = answers_error;
-            let (result, failed) = run_limited(rt.alloc(), EMPTY, &mut out);
-            assert!(rt; matches!(&result, Err(RunFault::Write)), "at {room}");
-            assert!(rt; failed);
-            assert_eq!(rt; out.bytes.as_slice(), &b"end done\n"[..room]);
-        }
+    for room in 0..9 {
+        assert!(rt; takes_prefix(rt.alloc(), room, false), "at {room}");
+        assert!(rt; takes_prefix(rt.alloc(), room, true), "at {room}");
     }
+}
+
+/// Says whether a text is refused, and nothing of it is written.
+fn writes_nothing(alloc: Global, source: &str) -> bool {
+    let mut out = Limited::new(alloc, 3, 0);
+    let (result, failed) = run_limited(alloc, source, &mut out);
+    matches!(&result, Err(RunFault::Refused(_))) && !failed && out.bytes.is_empty()
 }
 
 #[test]
 fn a_refused_text_writes_nothing(rt: HostRuntime) {
-    let mut out = Limited::new(rt.alloc(), 3, 0);
-    let (result, failed) = run_limited(rt.alloc(), "procedure", &mut out);
-    assert!(rt; matches!(&result, Err(RunFault::Refused(_))));
-    assert!(rt; !failed);
-    assert_eq!(rt; out.bytes.len(), 0);
+    assert!(rt; writes_nothing(rt.alloc(), "procedure"));
 }
 
 /// The unit of a heap, in bytes: of two heaps whose sizes differ by it, no growth fits between.
@@ -285,125 +310,160 @@ fn put_in(
     Ok((result, failed))
 }
 
+/// Says whether a run whose text is made in a heap of this size is put as this text, or refused for memory with nothing put.
+fn is_put_in(
+    alloc: Global,
+    size: usize,
+    outcome: &Outcome,
+    show: Show,
+    text: &str,
+) -> Result<Option<bool>, AllocError> {
+    let mut out = Vec::new(alloc);
+    let (result, failed) = put_in(alloc, size, outcome, show, &mut out)?;
+    let whole = match &result {
+        Ok(()) => out.as_slice() == text.as_bytes(),
+        Err(fault) => *fault == RunFault::Refused(Fault::memory()) && out.is_empty(),
+    };
+    if failed || !whole {
+        return Ok(None);
+    }
+    Ok(Some(result.is_ok()))
+}
+
+/// Says whether each heap that is too small puts nothing, and each that is not puts the text; there are heaps of both kinds.
+fn is_put_or_refused(
+    alloc: Global,
+    outcome: &Outcome,
+    show: Show,
+    text: &str,
+) -> Result<bool, AllocError> {
+    let mut was_refused = false;
+    let mut was_put = false;
+    for units in 1..96 {
+        match is_put_in(alloc, units * HEAP_UNIT, outcome, show, text)? {
+            Some(true) => was_put = true,
+            Some(false) if !was_put => was_refused = true,
+            _ => return Ok(false),
+        }
+    }
+    Ok(was_refused && was_put)
+}
+
 /// Each growth of the text is once the first that is refused, as the heap rises by its unit.
 #[test]
 fn a_text_that_has_no_room_is_not_put(rt: HostRuntime) -> Result<(), Fail> {
     let alloc = rt.alloc();
-    let source = TWO_OBJECTS.as_bytes();
-    let outcome = run_source(alloc, source, Order::Newest, 1000).map_err(|_| "refused")?;
-    for (show, text) in [
-        (Show::Output, TWO_OBJECTS_OUTPUT),
-        (Show::Trace, TWO_OBJECTS_TRACE),
-    ] {
-        let mut was_refused = false;
-        let mut was_put = false;
-        for units in 1..96 {
-            let mut out = Vec::new(alloc);
-            let (result, failed) = put_in(alloc, units * HEAP_UNIT, &outcome, show, &mut out)?;
-            assert!(rt; !failed, "at {units}");
-            match result {
-                Ok(()) => {
-                    assert_eq!(rt; out.as_slice(), text.as_bytes());
-                    was_put = true;
-                }
-                Err(fault) => {
-                    assert!(rt; !was_put, "at {units}");
-                    assert_eq!(rt; fault, RunFault::Refused(Fault::memory()));
-                    assert_eq!(rt; out.len(), 0);
-                    was_refused = true;
-                }
-            }
-        }
-        assert!(rt; was_refused);
-        assert!(rt; was_put);
-    }
+    let outcome = run_source(alloc, TWO_OBJECTS.as_bytes(), Order::Newest, 1000)?;
+    assert!(rt; is_put_or_refused(alloc, &outcome, Show::Output, TWO_OBJECTS_OUTPUT)?);
+    assert!(rt; is_put_or_refused(alloc, &outcome, Show::Trace, TWO_OBJECTS_TRACE)?);
     Ok(())
+}
+
+/// Says whether a job on the empty text, whose writer takes two bytes, ends with a failed write and its line.
+fn fails_to_write(alloc: Global, job: Job) -> bool {
+    let mut out = Limited::new(alloc, 9, 2);
+    let mut err = Vec::new(alloc);
+    let status = serve_on(alloc, job, EMPTY.as_bytes(), &mut out, &mut err);
+    status == 74 && is_said(&err, "adactl: write failed\n")
 }
 
 #[test]
 fn failed_writes_have_status_74(rt: HostRuntime) {
-    let alloc = rt.alloc();
-    for job in [check_job(alloc), run_job(alloc, Show::Trace, 1000)] {
-        let mut out = Limited::new(alloc, 9, 2);
-        let mut err = Vec::new(alloc);
-        let source = EMPTY.as_bytes();
-        assert_eq!(rt; serve_on(alloc, job, source, &mut out, &mut err), 74);
-        assert_eq!(rt; err.as_slice(), b"adactl: write failed\n".as_slice());
-    }
+    assert!(rt; fails_to_write(rt.alloc(), check_job(rt.alloc())));
+    assert!(rt; fails_to_write(rt.alloc(), run_job(rt.alloc(), Show::Trace, 1000)));
+}
+
+/// Says whether a job whose flush fails ends with a failed write and its line, and had passed on this text.
+fn fails_to_flush(alloc: Global, job: Job, text: &str) -> bool {
+    let mut out = Limited::new(alloc, 9, 10_000);
+    out.loses_flush = true;
+    let mut err = Vec::new(alloc);
+    let status = serve_on(alloc, job, TWO_OBJECTS.as_bytes(), &mut out, &mut err);
+    status == 74
+        && is_said(&err, "adactl: write failed\n")
+        && out.bytes.as_slice() == text.as_bytes()
 }
 
 /// The output is passed on before anything is said of how the job ended: a flush that fails is all that is told.
 #[test]
 fn failed_flushes_have_status_74(rt: HostRuntime) {
     let alloc = rt.alloc();
-    for (job, text) in [
-        (check_job(alloc), "ok\n"),
-        (run_job(alloc, Show::Trace, 1000), TWO_OBJECTS_TRACE),
-        (run_job(alloc, Show::Trace, 0), "end limit\n"),
-        (run_job(alloc, Show::Output, 0), ""),
+    assert!(rt; fails_to_flush(alloc, check_job(alloc), "ok\n"));
+    for (show, steps, text) in [
+        (Show::Trace, 1000, TWO_OBJECTS_TRACE),
+        (Show::Trace, 0, "end limit\n"),
+        (Show::Output, 0, ""),
     ] {
-        let mut out = Limited::new(alloc, 9, 10_000);
-        out.loses_flush = true;
-        let mut err = Vec::new(alloc);
-        let source = TWO_OBJECTS.as_bytes();
-        assert_eq!(rt; serve_on(alloc, job, source, &mut out, &mut err), 74);
-        assert_eq!(rt; err.as_slice(), b"adactl: write failed\n".as_slice());
-        assert_eq!(rt; out.bytes.as_slice(), text.as_bytes());
+        assert!(rt;
+            fails_to_flush(alloc, run_job(alloc, show, steps), text),
+            "at {text}"
+        );
+    }
+}
+
+/// The status of a check whose sink had failed, where it is told by its line.
+fn status_of_failed(alloc: Global) -> Option<u8> {
+    let mut out = Limited::new(alloc, 9, 0);
+    let mut sink = Through::new(&mut out);
+    if sink.put(b"a").is_ok() {
+        return None;
+    }
+    let mut err = Vec::new(alloc);
+    let mut source = Reading::new(EMPTY.as_bytes());
+    let status = serve(alloc, check_job(alloc), &mut source, &mut sink, &mut err);
+    if is_said(&err, "adactl: write failed\n") {
+        Some(status)
+    } else {
+        None
     }
 }
 
 #[test]
 fn a_sink_that_had_failed_is_told(rt: HostRuntime) {
-    let alloc = rt.alloc();
-    let mut out = Limited::new(alloc, 9, 0);
-    let mut sink = Through::new(&mut out);
-    assert!(rt; sink.put(b"a").is_err());
-    let mut err = Vec::new(alloc);
-    let mut source = Reading::new(EMPTY.as_bytes());
-    let status = serve(alloc, check_job(alloc), &mut source, &mut sink, &mut err);
-    assert_eq!(rt; status, 74);
-    assert_eq!(rt; err.as_slice(), b"adactl: write failed\n".as_slice());
+    assert!(rt; matches!(status_of_failed(rt.alloc()), Some(74)));
+}
+
+/// The status of a run whose error output takes nothing, where its trace is whole.
+fn status_of_silent(alloc: Global) -> Option<u8> {
+    let mut out = Vec::new(alloc);
+    let mut err = Limited::new(alloc, 9, 0);
+    let job = run_job(alloc, Show::Trace, 1000);
+    let status = serve_on(alloc, job, TWO_OBJECTS.as_bytes(), &mut out, &mut err);
+    if out.as_slice() == TWO_OBJECTS_TRACE.as_bytes() {
+        Some(status)
+    } else {
+        None
+    }
 }
 
 #[test]
 fn a_closed_error_output_harms_nothing(rt: HostRuntime) {
-    let alloc = rt.alloc();
+    assert!(rt; matches!(status_of_silent(rt.alloc()), Some(0)));
+}
+
+/// The status of a check of blanks without end, or of a reader that fails, where it is told by this line.
+fn status_of_blanks(alloc: Global, answers_error: bool, line: &str) -> Option<u8> {
     let mut out = Vec::new(alloc);
-    let mut err = Limited::new(alloc, 9, 0);
-    let source = TWO_OBJECTS.as_bytes();
-    let job = run_job(alloc, Show::Trace, 1000);
-    assert_eq!(rt; serve_on(alloc, job, source, &mut out, &mut err), 0);
-    assert_eq!(rt; out.as_slice(), TWO_OBJECTS_TRACE.as_bytes());
+    let mut err = Vec::new(alloc);
+    let source = Blanks { answers_error };
+    let status = serve_on(alloc, check_job(alloc), source, &mut out, &mut err);
+    if is_said(&err, line) {
+        Some(status)
+    } else {
+        None
+    }
 }
 
 #[test]
 fn failed_reads_have_status_74(rt: HostRuntime) {
-    let alloc = rt.alloc();
-    let mut out = Vec::new(alloc);
-    let mut err = Vec::new(alloc);
-    let source = Blanks {
-        answers_error: true,
-    };
-    assert_eq!(rt;
-        serve_on(alloc, check_job(alloc), source, &mut out, &mut err),
-        74
-    );
-    assert_eq!(rt; err.as_slice(), b"adactl: read failed\n".as_slice());
+    let status = status_of_blanks(rt.alloc(), true, "adactl: read failed\n");
+    assert!(rt; matches!(status, Some(74)));
 }
 
 #[test]
 fn reading_ends(rt: HostRuntime) {
-    let alloc = rt.alloc();
-    let mut out = Vec::new(alloc);
-    let mut err = Vec::new(alloc);
-    let source = Blanks {
-        answers_error: false,
-    };
-    assert_eq!(rt;
-        serve_on(alloc, check_job(alloc), source, &mut out, &mut err),
-        2
-    );
-    assert_eq!(rt; err.as_slice(), b"adactl: 1:1: 5 TOO_LONG\n".as_slice());
+    let status = status_of_blanks(rt.alloc(), false, "adactl: 1:1: 5 TOO_LONG\n");
+    assert!(rt; matches!(status, Some(2)));
 }
 
 /// The status of a check that reads into a heap of this size, and what it said.
@@ -419,22 +479,33 @@ fn checked_in(alloc: Global, size: usize) -> Result<String, AllocError> {
     format!(in alloc; "{status} {err}")
 }
 
-/// The one growth of the buffer is refused in each heap that is too small for it.
-#[test]
-fn too_small_a_buffer_has_status_5(rt: HostRuntime) -> Result<(), Fail> {
+/// Says whether the check reads the text in a heap of this size, or tells that there is no room, which is refused.
+fn is_read_in(alloc: Global, size: usize) -> Result<Option<bool>, AllocError> {
+    let told = checked_in(alloc, size)?;
+    Ok(match told.as_str() {
+        "0 " => Some(true),
+        "5 adactl: host memory\n" => Some(false),
+        _ => None,
+    })
+}
+
+/// Says whether each heap that is too small is told, and each that is not serves; there are heaps of both kinds.
+fn is_read_or_refused(alloc: Global) -> Result<bool, AllocError> {
     let mut was_refused = false;
     let mut was_read = false;
     for units in 1..12 {
-        let told = checked_in(rt.alloc(), units * HEAP_UNIT)?;
-        if told.as_str() == "0 " {
-            was_read = true;
-        } else {
-            assert!(rt; !was_read, "at {units}");
-            assert_eq!(rt; told.as_str(), "5 adactl: host memory\n");
-            was_refused = true;
+        match is_read_in(alloc, units * HEAP_UNIT)? {
+            Some(true) => was_read = true,
+            Some(false) if !was_read => was_refused = true,
+            _ => return Ok(false),
         }
     }
-    assert!(rt; was_refused);
-    assert!(rt; was_read);
+    Ok(was_refused && was_read)
+}
+
+/// The one growth of the buffer is refused in each heap that is too small for it.
+#[test]
+fn too_small_a_buffer_has_status_5(rt: HostRuntime) -> Result<(), Fail> {
+    assert!(rt; is_read_or_refused(rt.alloc())?);
     Ok(())
 }

@@ -80,57 +80,75 @@ impl Write for Failing {
     }
 }
 
-#[test]
-fn short_puts_are_continued(rt: HostRuntime) -> Result<(), Fail> {
-    for at_once in 1..5 {
-        let mut sink = Memory::new(rt.alloc(), at_once, 100);
-        assert!(rt; put_all(&mut sink, b"trace").is_ok());
-        assert!(rt; put_all(&mut sink, b"").is_ok());
-        assert!(rt; put_all(&mut sink, b"d").is_ok());
-        assert!(rt; !sink.failed());
-        assert_eq!(rt; sink.bytes.as_slice(), b"traced".as_slice());
+/// Says whether a sink that takes so many bytes at a time has all of three puts.
+fn takes_all(alloc: Global, at_once: usize) -> bool {
+    let mut sink = Memory::new(alloc, at_once, 100);
+    for bytes in ["trace", "", "d"] {
+        if put_all(&mut sink, bytes.as_bytes()).is_err() {
+            return false;
+        }
     }
-    Ok(())
+    !sink.failed() && sink.bytes.as_slice() == b"traced".as_slice()
 }
 
 #[test]
-fn a_failed_put_leaves_a_prefix(rt: HostRuntime) -> Result<(), Fail> {
-    for room in 0..5 {
-        let mut sink = Memory::new(rt.alloc(), 2, room);
-        assert!(rt; put_all(&mut sink, b"trace").is_err());
-        assert!(rt; sink.failed());
-        assert_eq!(rt; sink.bytes.as_slice(), &b"trace"[..room]);
+fn short_puts_are_continued(rt: HostRuntime) {
+    for at_once in 1..5 {
+        assert!(rt; takes_all(rt.alloc(), at_once), "at {at_once}");
     }
-    Ok(())
+}
+
+/// Says whether a sink with too little room for a put has failed, and has as much of it as there is room for.
+fn takes_prefix(alloc: Global, room: usize) -> bool {
+    let mut sink = Memory::new(alloc, 2, room);
+    let is_put = put_all(&mut sink, b"trace").is_ok();
+    let taken = sink.bytes.as_slice();
+    !is_put && sink.failed() && taken.len() == room && b"trace".starts_with(taken)
+}
+
+#[test]
+fn a_failed_put_leaves_a_prefix(rt: HostRuntime) {
+    for room in 0..5 {
+        assert!(rt; takes_prefix(rt.alloc(), room), "at {room}");
+    }
+}
+
+/// Says whether a put of five bytes into a writer with this room fails where there is less, and is known to have failed.
+fn tells_failure(room: usize, answers_error: bool) -> bool {
+    let mut sink = Through::new(Failing {
+        room,
+        answers_error,
+    });
+    let is_put = put_all(&mut sink, b"trace").is_ok();
+    is_put == (room >= 5) && sink.failed() == (room < 5)
 }
 
 #[test]
 fn a_writer_fails_by_an_error_or_by_no_byte(rt: HostRuntime) {
-    for answers_error in [false, true] {
-        for room in 0..8 {
-            let mut sink = Through::new(Failing {
-                room,
-                answers_error,
-            });
-            assert_eq!(rt;
-                put_all(&mut sink, b"trace").is_ok(),
-                room >= 5,
-                "at {room}"
-            );
-            assert_eq!(rt; sink.failed(), room < 5, "at {room}");
-        }
+    for room in 0..8 {
+        assert!(rt; tells_failure(room, false), "at {room}");
+        assert!(rt; tells_failure(room, true), "at {room}");
     }
+}
+
+/// Says whether a flush behind a put of five bytes into a writer with this room is kept, and is known to have failed if not.
+fn flushes(room: usize) -> Option<bool> {
+    let mut sink = Through::new(Failing {
+        room,
+        answers_error: true,
+    });
+    if put_all(&mut sink, b"trace").is_err() {
+        return None;
+    }
+    let is_kept = sink.flush().is_ok();
+    if sink.failed() == is_kept {
+        return None;
+    }
+    Some(is_kept)
 }
 
 #[test]
 fn a_flush_that_fails_is_remembered(rt: HostRuntime) {
-    for (room, is_kept) in [(5, false), (6, true)] {
-        let mut sink = Through::new(Failing {
-            room,
-            answers_error: true,
-        });
-        assert!(rt; put_all(&mut sink, b"trace").is_ok());
-        assert_eq!(rt; sink.flush().is_ok(), is_kept, "at {room}");
-        assert_eq!(rt; sink.failed(), !is_kept, "at {room}");
-    }
+    assert!(rt; matches!(flushes(5), Some(false)));
+    assert!(rt; matches!(flushes(6), Some(true)));
 }

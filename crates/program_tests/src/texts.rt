@@ -1,5 +1,7 @@
 //! Source texts of the tests, and what they show.
 
+use ctl_tree::fault::{Fault, FaultCode};
+
 /// Nothing is declared, and nothing shown.
 pub const EMPTY: &str = "procedure Main is begin null; end Main;";
 
@@ -13,3 +15,20 @@ pub const TWO_OBJECTS_OUTPUT: &str = "i\nin\nb\na\nout\n";
 /// Its trace.
 pub const TWO_OBJECTS_TRACE: &str =
     "live 1 m2\ninitialize 2\nprint i\nnewline\nlive 2 m2\nprint in\nnewline\nfinalize 2 scope\nprint b\nnewline\nfinalize 1 scope\nprint a\nnewline\nprint out\nnewline\nend done\n";
+
+/// The status of its run, its trace, and what is said of the run, with bars between them.
+pub const TWO_OBJECTS_SERVED: &str =
+    "0|live 1 m2\ninitialize 2\nprint i\nnewline\nlive 2 m2\nprint in\nnewline\nfinalize 2 scope\nprint b\nnewline\nfinalize 1 scope\nprint a\nnewline\nprint out\nnewline\nend done\n|adactl: picks none\n";
+
+/// Says whether this is the fault of this code in this column of the first line.
+pub fn is_fault(fault: Option<Fault>, code: FaultCode, column: usize) -> bool {
+    match fault {
+        Some(fault) => fault
+            == Fault {
+                code,
+                line: 1,
+                column,
+            },
+        None => false,
+    }
+}
