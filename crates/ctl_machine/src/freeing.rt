@@ -19,98 +19,37 @@ ghost use Rattle.ctl_code.specs.declared.code.Instr.TheVariants as InstrOf;
 ghost use Rattle.ctl_code.specs.Table as Table;
 ghost use Rattle.ctl_code.specs.States.{AfterProcedure, Giving, NullPart, NullVariable, State, whole_spot};
 ghost use Rattle.ctl_code.specs.Valid.{IsValid};
-ghost use Rattle.ctl_machine.specs.declared.frame.Frame.{Frame};
-ghost use Rattle.ctl_machine.specs.declared.frame.Frame.TheVariants as FrameOf;
-ghost use Rattle.ctl_machine.specs.declared.frame.Nulled.TheVariants as NulledOf;
-ghost use Rattle.ctl_machine.specs.Allocating.{OwnsNone};
-ghost use Rattle.ctl_machine.specs.Assigning.{HasRoom};
-ghost use Rattle.ctl_machine.specs.Finishing.{AreDoubles};
-ghost use Rattle.ctl_machine.specs.Freeing as Freeing;
-ghost use Rattle.ctl_machine.specs.Freeing.{Freed, Frees, Deallocates, Gone, HasReturnRoom, IsEnding, IsFate, IsGivenBack, IsGone, IsLetGo, IsReleased, by_component, by_variable, freeing_of, gone_by_part, gone_by_variable, point_of, storage_at, units_at};
-ghost use Rattle.ctl_machine.specs.Masters.{heads_of};
-ghost use Rattle.ctl_machine.specs.Moves.{Before, BeforeResuming, GoesOn, Makes, here_of};
-ghost use Rattle.ctl_machine.specs.Shows as Shows;
-ghost use Rattle.ctl_machine.specs.Shows.{Holds, IsStored, kept};
-ghost use Rattle.ctl_machine.specs.Spots.{first_spot};
-ghost use Rattle.ctl_machine.specs.StorageCalling.{StorageCall};
-ghost use Rattle.ctl_machine.specs.Under.{tall};
+ghost use Rattle.ctl_engine.specs.declared.frame.Frame.{Frame};
+ghost use Rattle.ctl_engine.specs.declared.frame.Frame.TheVariants as FrameOf;
+ghost use Rattle.ctl_engine.specs.declared.frame.Nulled.TheVariants as NulledOf;
+ghost use Rattle.ctl_engine.specs.Allocating.{OwnsNone};
+ghost use Rattle.ctl_engine.specs.Assigning.{HasRoom};
+ghost use Rattle.ctl_engine.specs.Finishing.{AreDoubles};
+ghost use Rattle.ctl_engine.specs.Freeing as Freeing;
+ghost use Rattle.ctl_engine.specs.Freeing.{Freed, Frees, Deallocates, Gone, HasReturnRoom, IsEnding, IsFate, IsGivenBack, IsGone, IsLetGo, IsReleased, by_component, by_variable, freeing_of, gone_by_part, gone_by_variable, point_of, storage_at, units_at};
+ghost use Rattle.ctl_engine.specs.Masters.{heads_of};
+ghost use Rattle.ctl_engine.specs.Moves.{Before, BeforeResuming, GoesOn, Makes, here_of};
+ghost use Rattle.ctl_engine.specs.Shows as Shows;
+ghost use Rattle.ctl_engine.specs.Shows.{Holds, IsStored, kept};
+ghost use Rattle.ctl_engine.specs.Spots.{first_spot};
+ghost use Rattle.ctl_engine.specs.StorageCalling.{StorageCall};
+ghost use Rattle.ctl_engine.specs.Under.{tall};
 
-use crate::engine::Engine;
-use crate::finalizing::{Doubles, Finalization, doubled};
-use crate::frame::{After, Ended, Frame, Mode, Nulled, Storage};
-use crate::granting::units_for;
-use crate::parts::{offset_of, parts_of};
-use crate::spots::Spot;
-use crate::storage_calls::StorageActuals;
+use crate::finalizing::finalize_whole;
 use ctl_code::code::{Code, Parts};
+use ctl_engine::engine::Engine;
+use ctl_engine::finalizing::{Doubles, Finalization, doubled};
+use ctl_engine::frame::{After, Ended, Frame, Mode, Nulled, Storage};
+use ctl_engine::freeing::{Component, Deallocation, Ending, Fate, Found, GivenBack, Release};
+use ctl_engine::granting::units_for;
+use ctl_engine::parts::{offset_of, parts_of};
+use ctl_engine::spots::Spot;
+use ctl_engine::storage_calls::StorageActuals;
 use ctl_objects::{BlockReturn, Existing, Life, Objects, Origin, Place, PoolState};
 use ctl_program::types::{Ty, Var};
 use ctl_tree::ending::Stop;
 use ctl_tree::event::{Cause, Event};
 use std::alloc::AllocError;
-
-/// What becomes of an object that is to be freed.
-#[derive(Clone, Copy)]
-pub enum Fate {
-    /// it stays, and the program is erroneous
-    Stops(Stop),
-    /// it goes as it is
-    Goes,
-    /// it is finalized before, as an object of this record type
-    Finalizes(usize),
-}
-
-/// What was found of an object that is to be freed: what becomes of it, and its storage (RM 13.11).
-#[derive(Clone, Copy)]
-pub struct Found {
-    pub fate: Fate,
-    pub storage: Storage,
-}
-
-/// An object that an instruction frees: its number, its storage, and the place of the instruction (RM 13.11.2).
-#[derive(Clone, Copy)]
-pub struct Release {
-    pub object: u64,
-    pub storage: Storage,
-    pub place: usize,
-}
-
-/// A component that becomes null: the number of its object, the first cell of the part that has it, and how much further it is.
-#[derive(Clone, Copy)]
-pub struct Component {
-    pub object: u64,
-    pub start: usize,
-    pub offset: usize,
-}
-
-/// How the freeing of an object goes on once it is gone: how its finalization ended, its storage, and the place where that goes on if a
-/// Finalize failed, or else the next one (RM 13.11.2).
-#[derive(Clone, Copy)]
-pub struct Ending {
-    pub ended: Ended,
-    pub storage: Storage,
-    pub place: usize,
-}
-
-/// The Deallocate that the user wrote for the type of a pool: the number of the pool object, the address of the block that is given back, and
-/// the number of the body (RM 13.11).
-#[derive(Clone, Copy)]
-pub struct Deallocation {
-    pub pool: u64,
-    pub address: u64,
-    pub body: usize,
-}
-
-/// What comes of storage that is given back (RM 13.11.2).
-#[derive(Clone, Copy)]
-pub enum GivenBack {
-    /// it is taken back, or it is the host's
-    Accepted,
-    /// it stays, and the program is erroneous
-    Stops(Stop),
-    /// the Deallocate of its pool is called
-    Calls(Deallocation),
-}
 
 /// Tells whether an object of a record type is still to be finalized: it has joined its collection, its finalization has not begun, and some
 /// part of it is controlled (RM 7.6.1).
@@ -242,494 +181,520 @@ fn place_behind(ended: Ended, place: usize) -> usize
     }
 }
 
-impl Engine {
-    /// Answers what becomes of the object of this number, by the access type from whose collection it is to be freed (RM 13.11.2), and its
-    /// storage.
-    fn fate(&self, code: &Code, access: &Var, object: u64) -> Found
-        ghost s: { State }
-        requires holds { Holds code.now (kept self.now) s.control s.operands s.world }
-        requires level { 1 ≤ access.now.level }
-        ensures fate { IsFate code.now access.now object self.now.owned.items s result.fate }
-        ensures storage { IsStored result.storage (storage_at (object_at object s.world)) (units_at code.now (object_at object s.world)) }
-    {
-        match self.stock.find(object) {
-            Some(existing) => Found {
-                fate: fate_of(code, self.set_held(code, access), &existing),
-                storage: Storage {
-                    place: storage_of(existing.origin),
-                    units: units_for(code, existing.ty),
-                },
+/// Answers what becomes of the object of this number, by the access type from whose collection it is to be freed (RM 13.11.2), and its
+/// storage.
+fn fate(engine: &Engine, code: &Code, access: &Var, object: u64) -> Found
+    ghost s: { State }
+    requires holds { Holds code.now (kept engine.now) s.control s.operands s.world }
+    requires level { 1 ≤ access.now.level }
+    ensures fate { IsFate code.now access.now object engine.now.owned.items s result.fate }
+    ensures storage { IsStored result.storage (storage_at (object_at object s.world)) (units_at code.now (object_at object s.world)) }
+{
+    match engine.stock.find(object) {
+        Some(existing) => Found {
+            fate: fate_of(code, engine.set_held(code, access), &existing),
+            storage: Storage {
+                place: storage_of(existing.origin),
+                units: units_for(code, existing.ty),
             },
-            None => Found {
-                fate: Fate::Stops(Stop::UseAfterFree),
-                storage: Storage {
-                    place: Place::Standard,
-                    units: 0,
-                },
+        },
+        None => Found {
+            fate: Fate::Stops(Stop::UseAfterFree),
+            storage: Storage {
+                place: Place::Standard,
+                units: 0,
             },
+        },
+    }
+}
+
+/// Begins the finalization of an object that is freed (RM 13.11.2): its frame waits for that, and says what becomes null then. There is
+/// room.
+fn release(
+    engine: &mut Engine,
+    code: &Code,
+    release: Release,
+    nulled: Nulled,
+    finalization: Finalization,
+    doubles: Doubles,
+)
+    ghost t: { Freed }
+    requires valid { IsValid code.now }
+    requires frees { Frees code.now engine.old nulled t }
+    requires at { release.place ≡ t.place }
+    requires released { IsReleased code.now engine.old release finalization.record_type t.state.world }
+    requires place { t.place + 1 < 2 ^ 64 }
+    requires base { finalization.base ≡ tall t.state.control (heads_of t.state.world.activations) + length t.operands }
+    requires room { HasRoom code.now engine.old finalization.base }
+    requires control { vec_len engine.old.control + 4 ≤ vec_capacity engine.old.control }
+    requires spots { vec_len engine.old.spots < vec_capacity engine.old.spots }
+    requires doubles { AreDoubles doubles (whole_spot release.object) }
+    ensures { Makes code.now engine.old engine.new (Table.finalize_object code.now (Table.parts_of code.now finalization.record_type) finalization.cause release.object finalization.record_type (freeing_of code.now release.object t) t.state.world) }
+{
+    engine.control.push_reserved(Frame::Freeing {
+        object: release.object,
+        nulled,
+        storage: release.storage,
+        place: release.place + 1,
+    });
+    finalize_whole(engine, code, release.object, finalization, doubles);
+}
+
+/// Finalizes an object, as one of this record type, that the access value in the variable of this slot designates, before it is freed (RM
+/// 13.11.2). Unchanged where memory is refused.
+#[inline(never)]
+fn release_by_variable(
+    engine: &mut Engine,
+    code: &Code,
+    release: Release,
+    record_type: usize,
+    out: usize,
+    slot: usize,
+) -> Result<(), AllocError>
+    ghost s: { State }
+    requires valid { IsValid code.now }
+    requires before { (access : ℕ) × Before code.now engine.old release.place (InstrOf.Free access out slot) s }
+    requires released { IsReleased code.now engine.old release record_type s.world }
+    requires place { release.place + 1 < 2 ^ 64 }
+    requires number { engine.old.given_masters + 1 < 2 ^ 64 }
+    ensures ok { OnOk result (Makes code.now engine.old engine.new (Table.finalize_object code.now (Table.parts_of code.now record_type) CauseOf.Free release.object record_type (freeing_of code.now release.object (by_variable out slot release.place s)) s.world)) }
+    ensures err { OnErr result (GoesOn engine.old engine.new engine.old.mode engine.old.cells.items) }
+{
+    let finalization = Finalization {
+        cause: Cause::Free,
+        record_type,
+        base: engine.window() + code.kinds.height_at(release.place + 1, 0),
+    };
+    let doubles = doubled(engine.alloc, Spot::whole(engine.alloc, release.object))?;
+    engine.prepare_finalization(code, finalization.base)?;
+    let nulled = Nulled::Variable { out, slot };
+    crate::freeing::release(engine, code, release, nulled, finalization, doubles);
+    Ok(())
+}
+
+/// Frees an object that needs no finalization, which the access value in the variable of this slot designates (RM 13.11.2). Unchanged
+/// where memory is refused.
+#[inline(always)]
+fn free_at_once_by_variable(
+    engine: &mut Engine,
+    code: &Code,
+    release: Release,
+    out: usize,
+    slot: usize,
+) -> Result<(), AllocError>
+    ghost s: { State }
+    requires valid { IsValid code.now }
+    requires before { (access : ℕ) × Before code.now engine.old release.place (InstrOf.Free access out slot) s }
+    requires foreign { OwnsNone release.object engine.old.owned.items }
+    requires place { release.place + 1 < 2 ^ 64 }
+    requires number { engine.old.given_masters + 1 < 2 ^ 64 }
+    ensures ok { OnOk result (Makes code.now engine.old engine.new (Table.freed_in code.now (NullVariable out slot) release.object (place_of release.storage.place) release.storage.units false (point_of (by_variable out slot release.place s)) s.control s.world)) }
+    ensures err { OnErr result (GoesOn engine.old engine.new engine.old.mode engine.old.cells.items) }
+{
+    let place = release.place + 1;
+    prepare_return(engine, code, release.storage.place, place)?;
+    let ending = Ending {
+        ended: Ended::Complete,
+        storage: release.storage,
+        place,
+    };
+    null_variable(engine, code, release.object, out, slot, ending);
+    Ok(())
+}
+
+/// Frees the object that the access value in the variable of this slot designates, in the master so many further out (RM 13.11.2); null
+/// designates none, and nothing is done. Unchanged where memory is refused.
+#[inline(never)]
+pub(crate) fn free_variable(
+    engine: &mut Engine,
+    code: &Code,
+    access: usize,
+    out: usize,
+    slot: usize,
+    place: usize,
+) -> Result<(), AllocError>
+    ghost s: { State }
+    requires valid { IsValid code.now }
+    requires before { Before code.now engine.old place (InstrOf.Free access out slot) s }
+    requires place { place + 1 < 2 ^ 64 }
+    requires number { engine.old.given_masters + 1 < 2 ^ 64 }
+    ensures ok { OnOk result (Makes code.now engine.old engine.new (Table.by_instr code.now (Some (InstrOf.Free access out slot)) s.operands (here_of place s))) }
+    ensures err { OnErr result (GoesOn engine.old engine.new engine.old.mode engine.old.cells.items) }
+{
+    let object = engine.read_variable(code, out, slot);
+    if object == 0 {
+        engine.go_on(Mode::At(place + 2));
+        return Ok(());
+    }
+    let found = fate(engine, code, &code.accesses[access].collection, object);
+    let release = Release {
+        object,
+        storage: found.storage,
+        place,
+    };
+    match found.fate {
+        Fate::Stops(stop) => {
+            engine.go_on(Mode::Stopped(stop));
+            Ok(())
+        }
+        Fate::Goes => free_at_once_by_variable(engine, code, release, out, slot),
+        Fate::Finalizes(record_type) => {
+            release_by_variable(engine, code, release, record_type, out, slot)
         }
     }
+}
 
-    /// Begins the finalization of an object that is freed (RM 13.11.2): its frame waits for that, and says what becomes null then. There is
-    /// room.
-    fn release(
-        &mut self,
-        code: &Code,
-        release: Release,
-        nulled: Nulled,
-        finalization: Finalization,
-        doubles: Doubles,
-    )
-        ghost t: { Freed }
-        requires valid { IsValid code.now }
-        requires frees { Frees code.now self.old nulled t }
-        requires at { release.place ≡ t.place }
-        requires released { IsReleased code.now self.old release finalization.record_type t.state.world }
-        requires place { t.place + 1 < 2 ^ 64 }
-        requires base { finalization.base ≡ tall t.state.control (heads_of t.state.world.activations) + length t.operands }
-        requires room { HasRoom code.now self.old finalization.base }
-        requires control { vec_len self.old.control + 4 ≤ vec_capacity self.old.control }
-        requires spots { vec_len self.old.spots < vec_capacity self.old.spots }
-        requires doubles { AreDoubles doubles (whole_spot release.object) }
-        ensures { Makes code.now self.old self.new (Table.finalize_object code.now (Table.parts_of code.now finalization.record_type) finalization.cause release.object finalization.record_type (freeing_of code.now release.object t) t.state.world) }
-    {
-        self.control.push_reserved(Frame::Freeing {
-            object: release.object,
-            nulled,
-            storage: release.storage,
-            place: release.place + 1,
-        });
-        self.finalize_whole(code, release.object, finalization, doubles);
-    }
+/// Answers a component of the newest part, by its first cell and its position.
+fn component_of_newest(engine: &Engine, offset: usize, position: usize) -> Result<Spot, AllocError>
+    requires { 0 < length engine.now.spots.items }
+    ensures { IfOk result (λ spot. (s : S.Spot) × (slice_get engine.now.spots.items (length engine.now.spots.items - 1) ≡ Some s) × (spot ≡ Table.component_of s offset position)) }
+{
+    let newest = engine.count_spots() - 1;
+    let mut spot = engine.spots[newest].copied(engine.alloc)?;
+    spot.select(offset, position)?;
+    Ok(spot)
+}
 
-    /// Finalizes an object, as one of this record type, that the access value in the variable of this slot designates, before it is freed (RM
-    /// 13.11.2). Unchanged where memory is refused.
-    #[inline(never)]
-    fn release_by_variable(
-        &mut self,
-        code: &Code,
-        release: Release,
-        record_type: usize,
-        out: usize,
-        slot: usize,
-    ) -> Result<(), AllocError>
-        ghost s: { State }
-        requires valid { IsValid code.now }
-        requires before { (access : ℕ) × Before code.now self.old release.place (InstrOf.Free access out slot) s }
-        requires released { IsReleased code.now self.old release record_type s.world }
-        requires place { release.place + 1 < 2 ^ 64 }
-        requires number { self.old.given_masters + 1 < 2 ^ 64 }
-        ensures ok { OnOk result (Makes code.now self.old self.new (Table.finalize_object code.now (Table.parts_of code.now record_type) CauseOf.Free release.object record_type (freeing_of code.now release.object (by_variable out slot release.place s)) s.world)) }
-        ensures err { OnErr result (GoesOn self.old self.new self.old.mode self.old.cells.items) }
-    {
-        let finalization = Finalization {
-            cause: Cause::Free,
-            record_type,
-            base: self.window() + code.kinds.height_at(release.place + 1, 0),
-        };
-        let doubles = doubled(self.alloc, Spot::whole(self.alloc, release.object))?;
-        self.prepare_finalization(code, finalization.base)?;
-        let nulled = Nulled::Variable { out, slot };
-        self.release(code, release, nulled, finalization, doubles);
-        Ok(())
-    }
+/// Finalizes an object, as one of this record type, whose number a component of the part has that is the newest operand, before it is
+/// freed, by the first cell of the component and its position (RM 13.11.2). Unchanged where memory is refused.
+#[inline(never)]
+fn release_by_part(
+    engine: &mut Engine,
+    code: &Code,
+    release: Release,
+    record_type: usize,
+    offset: usize,
+    position: usize,
+) -> Result<(), AllocError>
+    ghost s: { State × S.Spot }
+    requires valid { IsValid code.now }
+    requires before { (access : ℕ) × (t : ℕ) × Before code.now engine.old release.place (InstrOf.FreePart access t position) s.0 }
+    requires released { IsReleased code.now engine.old release record_type s.0.world }
+    requires place { release.place + 1 < 2 ^ 64 }
+    requires number { engine.old.given_masters + 1 < 2 ^ 64 }
+    requires component { s.1 ≡ Table.component_of (first_spot s.0.operands) offset position }
+    ensures ok { OnOk result (Makes code.now engine.old engine.new (Table.finalize_object code.now (Table.parts_of code.now record_type) CauseOf.Free release.object record_type (freeing_of code.now release.object (by_component s.1 release.place s.0)) s.0.world)) }
+    ensures err { OnErr result (GoesOn engine.old engine.new engine.old.mode engine.old.cells.items) }
+{
+    let finalization = Finalization {
+        cause: Cause::Free,
+        record_type,
+        base: engine.window() + code.kinds.height_at(release.place + 1, 0),
+    };
+    let component = component_of_newest(engine, offset, position)?;
+    let doubles = doubled(engine.alloc, Spot::whole(engine.alloc, release.object))?;
+    engine.prepare_finalization(code, finalization.base)?;
+    let newest = engine.count_spots() - 1;
+    engine.spots[newest] = component;
+    crate::freeing::release(engine, code, release, Nulled::Part, finalization, doubles);
+    Ok(())
+}
 
-    /// Frees an object that needs no finalization, which the access value in the variable of this slot designates (RM 13.11.2). Unchanged
-    /// where memory is refused.
-    #[inline(always)]
-    fn free_at_once_by_variable(
-        &mut self,
-        code: &Code,
-        release: Release,
-        out: usize,
-        slot: usize,
-    ) -> Result<(), AllocError>
-        ghost s: { State }
-        requires valid { IsValid code.now }
-        requires before { (access : ℕ) × Before code.now self.old release.place (InstrOf.Free access out slot) s }
-        requires foreign { OwnsNone release.object self.old.owned.items }
-        requires place { release.place + 1 < 2 ^ 64 }
-        requires number { self.old.given_masters + 1 < 2 ^ 64 }
-        ensures ok { OnOk result (Makes code.now self.old self.new (Table.freed_in code.now (NullVariable out slot) release.object (place_of release.storage.place) release.storage.units false (point_of (by_variable out slot release.place s)) s.control s.world)) }
-        ensures err { OnErr result (GoesOn self.old self.new self.old.mode self.old.cells.items) }
-    {
-        let place = release.place + 1;
-        self.prepare_return(code, release.storage.place, place)?;
-        let ending = Ending {
-            ended: Ended::Complete,
-            storage: release.storage,
-            place,
-        };
-        self.null_variable(code, release.object, out, slot, ending);
-        Ok(())
-    }
+/// Frees an object that needs no finalization, whose number a component of the part has that is the newest operand, by the first cell of
+/// the component (RM 13.11.2). Unchanged where memory is refused.
+fn free_at_once_by_part(
+    engine: &mut Engine,
+    code: &Code,
+    release: Release,
+    offset: usize,
+) -> Result<(), AllocError>
+    ghost s: { State × S.Spot }
+    requires valid { IsValid code.now }
+    requires before { (access : ℕ) × (t : ℕ) × (position : ℕ) × Before code.now engine.old release.place (InstrOf.FreePart access t position) s.0 }
+    requires foreign { OwnsNone release.object engine.old.owned.items }
+    requires place { release.place + 1 < 2 ^ 64 }
+    requires number { engine.old.given_masters + 1 < 2 ^ 64 }
+    requires component { (s.1.object ≡ (first_spot s.0.operands).object) × (s.1.offset ≡ (first_spot s.0.operands).offset + offset) }
+    ensures ok { OnOk result (Makes code.now engine.old engine.new (Table.freed_in code.now (NullPart s.1) release.object (place_of release.storage.place) release.storage.units false (point_of (by_component s.1 release.place s.0)) s.0.control s.0.world)) }
+    ensures err { OnErr result (GoesOn engine.old engine.new engine.old.mode engine.old.cells.items) }
+{
+    let place = release.place + 1;
+    prepare_return(engine, code, release.storage.place, place)?;
+    let part = engine.spots.take_last();
+    let component = Component {
+        object: part.object(),
+        start: part.offset(),
+        offset,
+    };
+    let ending = Ending {
+        ended: Ended::Complete,
+        storage: release.storage,
+        place,
+    };
+    null_component(engine, code, release.object, component, ending);
+    Ok(())
+}
 
-    /// Frees the object that the access value in the variable of this slot designates, in the master so many further out (RM 13.11.2); null
-    /// designates none, and nothing is done. Unchanged where memory is refused.
-    #[inline(never)]
-    pub(crate) fn free_variable(
-        &mut self,
-        code: &Code,
-        access: usize,
-        out: usize,
-        slot: usize,
-        place: usize,
-    ) -> Result<(), AllocError>
-        ghost s: { State }
-        requires valid { IsValid code.now }
-        requires before { Before code.now self.old place (InstrOf.Free access out slot) s }
-        requires place { place + 1 < 2 ^ 64 }
-        requires number { self.old.given_masters + 1 < 2 ^ 64 }
-        ensures ok { OnOk result (Makes code.now self.old self.new (Table.by_instr code.now (Some (InstrOf.Free access out slot)) s.operands (here_of place s))) }
-        ensures err { OnErr result (GoesOn self.old self.new self.old.mode self.old.cells.items) }
-    {
-        let object = self.read_variable(code, out, slot);
-        if object == 0 {
-            self.go_on(Mode::At(place + 2));
-            return Ok(());
+/// Frees an object whose number a component of the part has that is the newest operand, by the first cell of the component and its
+/// position (RM 13.11.2); unchanged where memory is refused.
+fn free_designated(
+    engine: &mut Engine,
+    code: &Code,
+    access: usize,
+    object: u64,
+    offset: usize,
+    position: usize,
+    place: usize,
+) -> Result<(), AllocError>
+    ghost s: { State × S.Spot }
+    requires valid { IsValid code.now }
+    requires before { (t : ℕ) × Before code.now engine.old place (InstrOf.FreePart access t position) s.0 }
+    requires place { place + 1 < 2 ^ 64 }
+    requires number { engine.old.given_masters + 1 < 2 ^ 64 }
+    requires component { s.1 ≡ Table.component_of (first_spot s.0.operands) offset position }
+    ensures ok { OnOk result (Makes code.now engine.old engine.new (Table.free_object code.now (NullPart s.1) (slice_get code.now.accesses.items access) (object_at object s.0.world) (drop 1 s.0.operands) (here_of place s.0))) }
+    ensures err { OnErr result (GoesOn engine.old engine.new engine.old.mode engine.old.cells.items) }
+{
+    let found = fate(engine, code, &code.accesses[access].collection, object);
+    let release = Release {
+        object,
+        storage: found.storage,
+        place,
+    };
+    match found.fate {
+        Fate::Stops(stop) => {
+            engine.go_on(Mode::Stopped(stop));
+            Ok(())
         }
-        let found = self.fate(code, &code.accesses[access].collection, object);
-        let release = Release {
-            object,
-            storage: found.storage,
-            place,
-        };
-        match found.fate {
-            Fate::Stops(stop) => {
-                self.go_on(Mode::Stopped(stop));
-                Ok(())
-            }
-            Fate::Goes => self.free_at_once_by_variable(code, release, out, slot),
-            Fate::Finalizes(record_type) => {
-                self.release_by_variable(code, release, record_type, out, slot)
-            }
+        Fate::Goes => free_at_once_by_part(engine, code, release, offset),
+        Fate::Finalizes(record_type) => {
+            release_by_part(engine, code, release, record_type, offset, position)
         }
     }
+}
 
-    /// Answers a component of the newest part, by its first cell and its position.
-    fn component_of_newest(&self, offset: usize, position: usize) -> Result<Spot, AllocError>
-        requires { 0 < length self.now.spots.items }
-        ensures { IfOk result (λ spot. (s : S.Spot) × (slice_get self.now.spots.items (length self.now.spots.items - 1) ≡ Some s) × (spot ≡ Table.component_of s offset position)) }
-    {
-        let newest = self.count_spots() - 1;
-        let mut spot = self.spots[newest].copied(self.alloc)?;
-        spot.select(offset, position)?;
-        Ok(spot)
+/// Frees the object that the access value in a component of the part designates that is the newest operand, by the record type of the
+/// part and the position of the component (RM 13.11.2); null designates none, and the part is dropped. Unchanged where memory is
+/// refused.
+pub(crate) fn free_part(
+    engine: &mut Engine,
+    code: &Code,
+    access: usize,
+    record: usize,
+    position: usize,
+    place: usize,
+) -> Result<(), AllocError>
+    ghost s: { State }
+    requires valid { IsValid code.now }
+    requires before { Before code.now engine.old place (InstrOf.FreePart access «record» position) s }
+    requires place { place + 1 < 2 ^ 64 }
+    requires number { engine.old.given_masters + 1 < 2 ^ 64 }
+    ensures ok { OnOk result (Makes code.now engine.old engine.new (Table.by_instr code.now (Some (InstrOf.FreePart access «record» position)) s.operands (here_of place s))) }
+    ensures err { OnErr result (GoesOn engine.old engine.new engine.old.mode engine.old.cells.items) }
+{
+    let offset = offset_of(code, record, position);
+    let newest = engine.count_spots() - 1;
+    let spot = &engine.spots[newest];
+    let Some(object) = engine.read_at(code, spot.object(), spot.offset(), offset) else {
+        engine.go_on(Mode::Stopped(Stop::UseAfterFree));
+        return Ok(());
+    };
+    if object == 0 {
+        let _ = engine.spots.take_last();
+        engine.mode = Mode::At(place + 2);
+        return Ok(());
     }
+    free_designated(engine, code, access, object, offset, position, place)
+}
 
-    /// Finalizes an object, as one of this record type, whose number a component of the part has that is the newest operand, before it is
-    /// freed, by the first cell of the component and its position (RM 13.11.2). Unchanged where memory is refused.
-    #[inline(never)]
-    fn release_by_part(
-        &mut self,
-        code: &Code,
-        release: Release,
-        record_type: usize,
-        offset: usize,
-        position: usize,
-    ) -> Result<(), AllocError>
-        ghost s: { State × S.Spot }
-        requires valid { IsValid code.now }
-        requires before { (access : ℕ) × (t : ℕ) × Before code.now self.old release.place (InstrOf.FreePart access t position) s.0 }
-        requires released { IsReleased code.now self.old release record_type s.0.world }
-        requires place { release.place + 1 < 2 ^ 64 }
-        requires number { self.old.given_masters + 1 < 2 ^ 64 }
-        requires component { s.1 ≡ Table.component_of (first_spot s.0.operands) offset position }
-        ensures ok { OnOk result (Makes code.now self.old self.new (Table.finalize_object code.now (Table.parts_of code.now record_type) CauseOf.Free release.object record_type (freeing_of code.now release.object (by_component s.1 release.place s.0)) s.0.world)) }
-        ensures err { OnErr result (GoesOn self.old self.new self.old.mode self.old.cells.items) }
-    {
-        let finalization = Finalization {
-            cause: Cause::Free,
-            record_type,
-            base: self.window() + code.kinds.height_at(release.place + 1, 0),
-        };
-        let component = self.component_of_newest(offset, position)?;
-        let doubles = doubled(self.alloc, Spot::whole(self.alloc, release.object))?;
-        self.prepare_finalization(code, finalization.base)?;
-        let newest = self.count_spots() - 1;
-        self.spots[newest] = component;
-        self.release(code, release, Nulled::Part, finalization, doubles);
-        Ok(())
+/// Makes room for the call of the Deallocate that the user wrote for the pool in which storage lies, if there is one, which goes on at this
+/// place (RM 13.11); nothing else changes.
+#[inline(always)]
+fn prepare_return(
+    engine: &mut Engine,
+    code: &Code,
+    storage: Place,
+    place: usize,
+) -> Result<(), AllocError>
+    requires number { engine.old.given_masters + 1 < 2 ^ 64 }
+    ensures ok { OnOk result ((more : List ℕ) × GoesOn engine.old engine.new engine.old.mode (engine.old.cells.items ++ more)) }
+    ensures err { OnErr result (GoesOn engine.old engine.new engine.old.mode engine.old.cells.items) }
+    ensures room { OnOk result (HasReturnRoom code.now engine.new storage place) }
+{
+    if !calls_back(code, &engine.stock, storage) {
+        return Ok(());
     }
+    let height = code.kinds.height_at(place, 0);
+    let base = engine.window().checked_add(height).ok_or(AllocError)?;
+    engine.prepare(base, code.room, 1)
+}
 
-    /// Frees an object that needs no finalization, whose number a component of the part has that is the newest operand, by the first cell of
-    /// the component (RM 13.11.2). Unchanged where memory is refused.
-    fn free_at_once_by_part(
-        &mut self,
-        code: &Code,
-        release: Release,
-        offset: usize,
-    ) -> Result<(), AllocError>
-        ghost s: { State × S.Spot }
-        requires valid { IsValid code.now }
-        requires before { (access : ℕ) × (t : ℕ) × (position : ℕ) × Before code.now self.old release.place (InstrOf.FreePart access t position) s.0 }
-        requires foreign { OwnsNone release.object self.old.owned.items }
-        requires place { release.place + 1 < 2 ^ 64 }
-        requires number { self.old.given_masters + 1 < 2 ^ 64 }
-        requires component { (s.1.object ≡ (first_spot s.0.operands).object) × (s.1.offset ≡ (first_spot s.0.operands).offset + offset) }
-        ensures ok { OnOk result (Makes code.now self.old self.new (Table.freed_in code.now (NullPart s.1) release.object (place_of release.storage.place) release.storage.units false (point_of (by_component s.1 release.place s.0)) s.0.control s.0.world)) }
-        ensures err { OnErr result (GoesOn self.old self.new self.old.mode self.old.cells.items) }
-    {
-        let place = release.place + 1;
-        self.prepare_return(code, release.storage.place, place)?;
-        let part = self.spots.take_last();
-        let component = Component {
-            object: part.object(),
-            start: part.offset(),
-            offset,
-        };
-        let ending = Ending {
-            ended: Ended::Complete,
-            storage: release.storage,
-            place,
-        };
-        self.null_component(code, release.object, component, ending);
-        Ok(())
-    }
+/// Calls the Deallocate that the user wrote for the type of a pool, for a block of so many storage units (RM 13.11); the call goes on at
+/// this place, and the window of the body begins with this cell. There is room.
+fn deallocate(
+    engine: &mut Engine,
+    code: &Code,
+    call: Deallocation,
+    units: u64,
+    place: usize,
+    base: usize,
+)
+    ghost t: { StorageCall }
+    requires valid { IsValid code.now }
+    requires deallocates { Deallocates code.now engine.old call units place t }
+    requires base { base ≡ tall t.control (heads_of t.world.activations) + length t.point.operands }
+    requires room { HasRoom code.now engine.old base }
+    ensures { Makes code.now engine.old engine.new (Table.enter_body (slice_get code.now.entries.items t.body) (EventOf.Deallocate t.object.number t.units ∷ []) (home_of t.object.origin t.world) (storage_actuals t.object.number t.address t.units) (AfterProcedure 0 t.point) t.control t.world) }
+{
+    let Some(master) = engine.master_of(call.pool) else {
+        unreachable!();
+    };
+    let event = Event::Deallocate(call.pool, units);
+    let actuals = StorageActuals {
+        pool: call.pool,
+        address: call.address,
+        units,
+    };
+    let after = After::Procedure { place, copies: 0 };
+    let entry = code.entries[call.body];
+    engine.call_storage(code, &entry, master, base, event, actuals, after);
+}
 
-    /// Frees an object whose number a component of the part has that is the newest operand, by the first cell of the component and its
-    /// position (RM 13.11.2); unchanged where memory is refused.
-    fn free_designated(
-        &mut self,
-        code: &Code,
-        access: usize,
-        object: u64,
-        offset: usize,
-        position: usize,
-        place: usize,
-    ) -> Result<(), AllocError>
-        ghost s: { State × S.Spot }
-        requires valid { IsValid code.now }
-        requires before { (t : ℕ) × Before code.now self.old place (InstrOf.FreePart access t position) s.0 }
-        requires place { place + 1 < 2 ^ 64 }
-        requires number { self.old.given_masters + 1 < 2 ^ 64 }
-        requires component { s.1 ≡ Table.component_of (first_spot s.0.operands) offset position }
-        ensures ok { OnOk result (Makes code.now self.old self.new (Table.free_object code.now (NullPart s.1) (slice_get code.now.accesses.items access) (object_at object s.0.world) (drop 1 s.0.operands) (here_of place s.0))) }
-        ensures err { OnErr result (GoesOn self.old self.new self.old.mode self.old.cells.items) }
-    {
-        let found = self.fate(code, &code.accesses[access].collection, object);
-        let release = Release {
-            object,
-            storage: found.storage,
-            place,
-        };
-        match found.fate {
-            Fate::Stops(stop) => {
-                self.go_on(Mode::Stopped(stop));
-                Ok(())
-            }
-            Fate::Goes => self.free_at_once_by_part(code, release, offset),
-            Fate::Finalizes(record_type) => {
-                self.release_by_part(code, release, record_type, offset, position)
-            }
+/// Gives back the storage of an object that is gone, and goes on behind its freeing (RM 13.11.2); there is room for the call of a
+/// Deallocate.
+#[inline(always)]
+fn return_storage(engine: &mut Engine, code: &Code, ending: Ending)
+    ghost t: { Gone }
+    requires valid { IsValid code.now }
+    requires gone { IsGone code.now engine.old ending.place t }
+    requires ends { IsEnding code.now engine.old ending }
+    ensures { Makes code.now engine.old engine.new (Table.freed_by code.now ending.storage.units (Table.says_failed (Shows.tried_of ending.ended)) (Table.return_to code.now (place_of ending.storage.place) t.world) t.point t.control t.world) }
+{
+    let next = place_behind(ending.ended, ending.place);
+    match give_back(code, &mut engine.stock, ending.storage.place) {
+        GivenBack::Accepted => engine.mode = Mode::At(next),
+        GivenBack::Stops(stop) => engine.mode = Mode::Stopped(stop),
+        GivenBack::Calls(call) => {
+            let units = ending.storage.units as u64;
+            let base = engine.window() + code.kinds.height_at(ending.place, 0);
+            deallocate(engine, code, call, units, next, base);
         }
     }
+}
 
-    /// Frees the object that the access value in a component of the part designates that is the newest operand, by the record type of the
-    /// part and the position of the component (RM 13.11.2); null designates none, and the part is dropped. Unchanged where memory is
-    /// refused.
-    pub(crate) fn free_part(
-        &mut self,
-        code: &Code,
-        access: usize,
-        record: usize,
-        position: usize,
-        place: usize,
-    ) -> Result<(), AllocError>
-        ghost s: { State }
-        requires valid { IsValid code.now }
-        requires before { Before code.now self.old place (InstrOf.FreePart access «record» position) s }
-        requires place { place + 1 < 2 ^ 64 }
-        requires number { self.old.given_masters + 1 < 2 ^ 64 }
-        ensures ok { OnOk result (Makes code.now self.old self.new (Table.by_instr code.now (Some (InstrOf.FreePart access «record» position)) s.operands (here_of place s))) }
-        ensures err { OnErr result (GoesOn self.old self.new self.old.mode self.old.cells.items) }
-    {
-        let offset = offset_of(code, record, position);
-        let newest = self.count_spots() - 1;
-        let spot = &self.spots[newest];
-        let Some(object) = self.read_at(code, spot.object(), spot.offset(), offset) else {
-            self.go_on(Mode::Stopped(Stop::UseAfterFree));
-            return Ok(());
-        };
-        if object == 0 {
-            let _ = self.spots.take_last();
-            self.mode = Mode::At(place + 2);
-            return Ok(());
+/// Makes the variable null by which an object is freed; the object is gone, and its storage is given back (RM 13.11.2). There is room for
+/// the call of a Deallocate.
+#[inline(always)]
+fn null_variable(
+    engine: &mut Engine,
+    code: &Code,
+    object: u64,
+    out: usize,
+    slot: usize,
+    ending: Ending,
+)
+    ghost t: { Gone × Gone }
+    requires valid { IsValid code.now }
+    requires goes { IsLetGo code.now engine.old object ending.place t.0 }
+    requires gone { t.1 ≡ gone_by_variable object out slot t.0 }
+    requires ends { IsEnding code.now engine.old ending }
+    ensures { Makes code.now engine.old engine.new (Table.freed_in code.now (NullVariable out slot) object (place_of ending.storage.place) ending.storage.units (Table.says_failed (Shows.tried_of ending.ended)) t.0.point t.0.control t.0.world) }
+{
+    engine.give(code, out, slot, 0, ending.place);
+    engine.stock.forget(object);
+    return_storage(engine, code, ending);
+}
+
+/// Makes the component null by which an object is freed; the object is gone, and its storage is given back. Where the object of the
+/// component is gone, the program is erroneous (RM 13.11.2). There is room for the call of a Deallocate.
+fn null_component(
+    engine: &mut Engine,
+    code: &Code,
+    object: u64,
+    component: Component,
+    ending: Ending,
+)
+    ghost t: { Gone × S.Spot × Gone }
+    requires valid { IsValid code.now }
+    requires goes { IsLetGo code.now engine.old object ending.place t.0 }
+    requires component { (component.object ≡ t.1.object) × (component.start + component.offset ≡ t.1.offset) }
+    requires gone { t.2 ≡ gone_by_part object t.1 t.0 }
+    requires ends { IsEnding code.now engine.old ending }
+    ensures { Makes code.now engine.old engine.new (Table.freed_in code.now (NullPart t.1) object (place_of ending.storage.place) ending.storage.units (Table.says_failed (Shows.tried_of ending.ended)) t.0.point t.0.control t.0.world) }
+{
+    if !engine.stock.exists(component.object) {
+        engine.mode = Mode::Stopped(Stop::UseAfterFree);
+        return;
+    }
+    engine
+        .stock
+        .write_part(component.object, component.start, component.offset, 0);
+    engine.stock.forget(object);
+    return_storage(engine, code, ending);
+}
+
+/// Ends the freeing of an object by a variable, behind its finalization: the variable becomes null, the object is gone, and its storage
+/// is given back (RM 13.11.2). There is room for the call of a Deallocate.
+fn end_in_variable(
+    engine: &mut Engine,
+    code: &Code,
+    object: u64,
+    out: usize,
+    slot: usize,
+    ending: Ending,
+)
+    ghost s: { State }
+    requires valid { IsValid code.now }
+    requires before { BeforeResuming code.now engine.old s }
+    requires top { (fs : List Frame) × (reverse engine.old.control.items ≡ FrameOf.Freeing object (NulledOf.Variable out slot) ending.storage ending.place ∷ fs) }
+    requires ends { IsEnding code.now engine.old ending }
+    ensures { Makes code.now engine.old engine.new (Table.act code.now (Giving (Shows.tried_of ending.ended)) s.control s.operands s.world 0) }
+{
+    let _ = engine.control.take_last();
+    null_variable(engine, code, object, out, slot, ending);
+}
+
+/// Ends the freeing of an object by a component, behind its finalization: the component becomes null, the object is gone, and its storage
+/// is given back. Where the object of the component is gone, the program is erroneous (RM 13.11.2). There is room for the call of a
+/// Deallocate.
+fn end_in_part(engine: &mut Engine, code: &Code, object: u64, ending: Ending)
+    ghost s: { State }
+    requires valid { IsValid code.now }
+    requires before { BeforeResuming code.now engine.old s }
+    requires top { (fs : List Frame) × (reverse engine.old.control.items ≡ FrameOf.Freeing object NulledOf.Part ending.storage ending.place ∷ fs) }
+    requires ends { IsEnding code.now engine.old ending }
+    ensures { Makes code.now engine.old engine.new (Table.act code.now (Giving (Shows.tried_of ending.ended)) s.control s.operands s.world 0) }
+{
+    let part = engine.drop_frame();
+    let component = Component {
+        object: part.object(),
+        start: part.offset(),
+        offset: 0,
+    };
+    null_component(engine, code, object, component, ending);
+}
+
+/// Goes on with the freeing of an object behind its finalization, which has ended so: what designated it becomes null, it is gone, and
+/// its storage is given back; where a Finalize failed, Program_Error is raised (RM 13.11.2). Unchanged where memory is refused.
+#[inline(always)]
+pub(crate) fn resume_freeing(
+    engine: &mut Engine,
+    code: &Code,
+    ended: Ended,
+    object: u64,
+    nulled: Nulled,
+    storage: Storage,
+    place: usize,
+) -> Result<(), AllocError>
+    ghost s: { State }
+    requires valid { IsValid code.now }
+    requires before { BeforeResuming code.now engine.old s }
+    requires top { (fs : List Frame) × (reverse engine.old.control.items ≡ FrameOf.Freeing object nulled storage place ∷ fs) }
+    requires number { engine.old.given_masters + 1 < 2 ^ 64 }
+    ensures ok { OnOk result (Makes code.now engine.old engine.new (Table.act code.now (Giving (Shows.tried_of ended)) s.control s.operands s.world 0)) }
+    ensures err { OnErr result (GoesOn engine.old engine.new engine.old.mode engine.old.cells.items) }
+{
+    prepare_return(engine, code, storage.place, place)?;
+    let ending = Ending {
+        ended,
+        storage,
+        place,
+    };
+    match nulled {
+        Nulled::Variable { out, slot } => {
+            end_in_variable(engine, code, object, out, slot, ending);
         }
-        self.free_designated(code, access, object, offset, position, place)
+        Nulled::Part => end_in_part(engine, code, object, ending),
     }
-
-    /// Makes room for the call of the Deallocate that the user wrote for the pool in which storage lies, if there is one, which goes on at this
-    /// place (RM 13.11); nothing else changes.
-    #[inline(always)]
-    fn prepare_return(
-        &mut self,
-        code: &Code,
-        storage: Place,
-        place: usize,
-    ) -> Result<(), AllocError>
-        requires number { self.old.given_masters + 1 < 2 ^ 64 }
-        ensures ok { OnOk result ((more : List ℕ) × GoesOn self.old self.new self.old.mode (self.old.cells.items ++ more)) }
-        ensures err { OnErr result (GoesOn self.old self.new self.old.mode self.old.cells.items) }
-        ensures room { OnOk result (HasReturnRoom code.now self.new storage place) }
-    {
-        if !calls_back(code, &self.stock, storage) {
-            return Ok(());
-        }
-        let height = code.kinds.height_at(place, 0);
-        let base = self.window().checked_add(height).ok_or(AllocError)?;
-        self.prepare(base, code.room, 1)
-    }
-
-    /// Calls the Deallocate that the user wrote for the type of a pool, for a block of so many storage units (RM 13.11); the call goes on at
-    /// this place, and the window of the body begins with this cell. There is room.
-    fn deallocate(&mut self, code: &Code, call: Deallocation, units: u64, place: usize, base: usize)
-        ghost t: { StorageCall }
-        requires valid { IsValid code.now }
-        requires deallocates { Deallocates code.now self.old call units place t }
-        requires base { base ≡ tall t.control (heads_of t.world.activations) + length t.point.operands }
-        requires room { HasRoom code.now self.old base }
-        ensures { Makes code.now self.old self.new (Table.enter_body (slice_get code.now.entries.items t.body) (EventOf.Deallocate t.object.number t.units ∷ []) (home_of t.object.origin t.world) (storage_actuals t.object.number t.address t.units) (AfterProcedure 0 t.point) t.control t.world) }
-    {
-        let Some(master) = self.master_of(call.pool) else {
-            unreachable!();
-        };
-        let event = Event::Deallocate(call.pool, units);
-        let actuals = StorageActuals {
-            pool: call.pool,
-            address: call.address,
-            units,
-        };
-        let after = After::Procedure { place, copies: 0 };
-        let entry = code.entries[call.body];
-        self.call_storage(code, &entry, master, base, event, actuals, after);
-    }
-
-    /// Gives back the storage of an object that is gone, and goes on behind its freeing (RM 13.11.2); there is room for the call of a
-    /// Deallocate.
-    #[inline(always)]
-    fn return_storage(&mut self, code: &Code, ending: Ending)
-        ghost t: { Gone }
-        requires valid { IsValid code.now }
-        requires gone { IsGone code.now self.old ending.place t }
-        requires ends { IsEnding code.now self.old ending }
-        ensures { Makes code.now self.old self.new (Table.freed_by code.now ending.storage.units (Table.says_failed (Shows.tried_of ending.ended)) (Table.return_to code.now (place_of ending.storage.place) t.world) t.point t.control t.world) }
-    {
-        let next = place_behind(ending.ended, ending.place);
-        match give_back(code, &mut self.stock, ending.storage.place) {
-            GivenBack::Accepted => self.mode = Mode::At(next),
-            GivenBack::Stops(stop) => self.mode = Mode::Stopped(stop),
-            GivenBack::Calls(call) => {
-                let units = ending.storage.units as u64;
-                let base = self.window() + code.kinds.height_at(ending.place, 0);
-                self.deallocate(code, call, units, next, base);
-            }
-        }
-    }
-
-    /// Makes the variable null by which an object is freed; the object is gone, and its storage is given back (RM 13.11.2). There is room for
-    /// the call of a Deallocate.
-    #[inline(always)]
-    fn null_variable(&mut self, code: &Code, object: u64, out: usize, slot: usize, ending: Ending)
-        ghost t: { Gone × Gone }
-        requires valid { IsValid code.now }
-        requires goes { IsLetGo code.now self.old object ending.place t.0 }
-        requires gone { t.1 ≡ gone_by_variable object out slot t.0 }
-        requires ends { IsEnding code.now self.old ending }
-        ensures { Makes code.now self.old self.new (Table.freed_in code.now (NullVariable out slot) object (place_of ending.storage.place) ending.storage.units (Table.says_failed (Shows.tried_of ending.ended)) t.0.point t.0.control t.0.world) }
-    {
-        self.give(code, out, slot, 0, ending.place);
-        self.stock.forget(object);
-        self.return_storage(code, ending);
-    }
-
-    /// Makes the component null by which an object is freed; the object is gone, and its storage is given back. Where the object of the
-    /// component is gone, the program is erroneous (RM 13.11.2). There is room for the call of a Deallocate.
-    fn null_component(&mut self, code: &Code, object: u64, component: Component, ending: Ending)
-        ghost t: { Gone × S.Spot × Gone }
-        requires valid { IsValid code.now }
-        requires goes { IsLetGo code.now self.old object ending.place t.0 }
-        requires component { (component.object ≡ t.1.object) × (component.start + component.offset ≡ t.1.offset) }
-        requires gone { t.2 ≡ gone_by_part object t.1 t.0 }
-        requires ends { IsEnding code.now self.old ending }
-        ensures { Makes code.now self.old self.new (Table.freed_in code.now (NullPart t.1) object (place_of ending.storage.place) ending.storage.units (Table.says_failed (Shows.tried_of ending.ended)) t.0.point t.0.control t.0.world) }
-    {
-        if !self.stock.exists(component.object) {
-            self.mode = Mode::Stopped(Stop::UseAfterFree);
-            return;
-        }
-        self.stock
-            .write_part(component.object, component.start, component.offset, 0);
-        self.stock.forget(object);
-        self.return_storage(code, ending);
-    }
-
-    /// Ends the freeing of an object by a variable, behind its finalization: the variable becomes null, the object is gone, and its storage
-    /// is given back (RM 13.11.2). There is room for the call of a Deallocate.
-    fn end_in_variable(&mut self, code: &Code, object: u64, out: usize, slot: usize, ending: Ending)
-        ghost s: { State }
-        requires valid { IsValid code.now }
-        requires before { BeforeResuming code.now self.old s }
-        requires top { (fs : List Frame) × (reverse self.old.control.items ≡ FrameOf.Freeing object (NulledOf.Variable out slot) ending.storage ending.place ∷ fs) }
-        requires ends { IsEnding code.now self.old ending }
-        ensures { Makes code.now self.old self.new (Table.act code.now (Giving (Shows.tried_of ending.ended)) s.control s.operands s.world 0) }
-    {
-        let _ = self.control.take_last();
-        self.null_variable(code, object, out, slot, ending);
-    }
-
-    /// Ends the freeing of an object by a component, behind its finalization: the component becomes null, the object is gone, and its storage
-    /// is given back. Where the object of the component is gone, the program is erroneous (RM 13.11.2). There is room for the call of a
-    /// Deallocate.
-    fn end_in_part(&mut self, code: &Code, object: u64, ending: Ending)
-        ghost s: { State }
-        requires valid { IsValid code.now }
-        requires before { BeforeResuming code.now self.old s }
-        requires top { (fs : List Frame) × (reverse self.old.control.items ≡ FrameOf.Freeing object NulledOf.Part ending.storage ending.place ∷ fs) }
-        requires ends { IsEnding code.now self.old ending }
-        ensures { Makes code.now self.old self.new (Table.act code.now (Giving (Shows.tried_of ending.ended)) s.control s.operands s.world 0) }
-    {
-        let part = self.drop_frame();
-        let component = Component {
-            object: part.object(),
-            start: part.offset(),
-            offset: 0,
-        };
-        self.null_component(code, object, component, ending);
-    }
-
-    /// Goes on with the freeing of an object behind its finalization, which has ended so: what designated it becomes null, it is gone, and
-    /// its storage is given back; where a Finalize failed, Program_Error is raised (RM 13.11.2). Unchanged where memory is refused.
-    #[inline(always)]
-    pub(crate) fn resume_freeing(
-        &mut self,
-        code: &Code,
-        ended: Ended,
-        object: u64,
-        nulled: Nulled,
-        storage: Storage,
-        place: usize,
-    ) -> Result<(), AllocError>
-        ghost s: { State }
-        requires valid { IsValid code.now }
-        requires before { BeforeResuming code.now self.old s }
-        requires top { (fs : List Frame) × (reverse self.old.control.items ≡ FrameOf.Freeing object nulled storage place ∷ fs) }
-        requires number { self.old.given_masters + 1 < 2 ^ 64 }
-        ensures ok { OnOk result (Makes code.now self.old self.new (Table.act code.now (Giving (Shows.tried_of ended)) s.control s.operands s.world 0)) }
-        ensures err { OnErr result (GoesOn self.old self.new self.old.mode self.old.cells.items) }
-    {
-        self.prepare_return(code, storage.place, place)?;
-        let ending = Ending {
-            ended,
-            storage,
-            place,
-        };
-        match nulled {
-            Nulled::Variable { out, slot } => {
-                self.end_in_variable(code, object, out, slot, ending);
-            }
-            Nulled::Part => self.end_in_part(code, object, ending),
-        }
-        Ok(())
-    }
+    Ok(())
 }

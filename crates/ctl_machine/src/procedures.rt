@@ -7,22 +7,22 @@ ghost use Rattle.ctl_code.specs.States.{State, Word, worth};
 ghost use Rattle.ctl_meaning.specs.Finalization as S;
 ghost use Rattle.ctl_code.specs.Valid.{HaveOperands, IsValid};
 ghost use Rattle.ctl_code.specs.Windows.{height};
-ghost use Rattle.ctl_machine.specs.Calling as Calling;
-ghost use Rattle.ctl_machine.specs.Calling.{BeforeCall};
-ghost use Rattle.ctl_machine.specs.Masters.{first_window};
-ghost use Rattle.ctl_machine.specs.Moves.{GoesOn, Makes, here_of};
-ghost use Rattle.ctl_machine.specs.Passing.{AreActuals, StandIn, bound, cell_passed, formal_if, is_located, is_part_at, passed, with_actuals};
-ghost use Rattle.ctl_machine.specs.Spots.{located};
-ghost use Rattle.ctl_machine.specs.Shows.{kept};
-ghost use Rattle.ctl_machine.specs.declared.frame.Mode.TheVariants as ModeOf;
-ghost use Rattle.ctl_machine.specs.Windows.{IsGoing};
+ghost use Rattle.ctl_engine.specs.Calling as Calling;
+ghost use Rattle.ctl_engine.specs.Calling.{BeforeCall};
+ghost use Rattle.ctl_engine.specs.Masters.{first_window};
+ghost use Rattle.ctl_engine.specs.Moves.{GoesOn, Makes, here_of};
+ghost use Rattle.ctl_engine.specs.Passing.{AreActuals, StandIn, bound, cell_passed, formal_if, is_located, is_part_at, passed, with_actuals};
+ghost use Rattle.ctl_engine.specs.Spots.{located};
+ghost use Rattle.ctl_engine.specs.Shows.{kept};
+ghost use Rattle.ctl_engine.specs.declared.frame.Mode.TheVariants as ModeOf;
+ghost use Rattle.ctl_engine.specs.Windows.{IsGoing};
 
-use crate::engine::{Engine, clear};
-use crate::frame::{After, Callee, Formal, Master};
-use crate::record_values::is_value_as;
-use crate::spots::Spot;
 use ctl_code::code::Code;
 use ctl_code::kinds::Kind;
+use ctl_engine::engine::{Engine, clear};
+use ctl_engine::frame::{After, Callee, Formal, Master};
+use ctl_engine::record_values::is_value_as;
+use ctl_engine::spots::Spot;
 use ctl_program::types::Ty;
 use std::alloc::AllocError;
 
@@ -125,7 +125,7 @@ fn bind_parts(
 
 /// Counts the cells of a window below the actuals of a call, which stands at this place with so many.
 #[inline(always)]
-#[tactic(auto, using(crate::proofs::SubprogramCalled::height_over))]
+#[tactic(auto, using(ctl_engine::proofs::SubprogramCalled::height_over))]
 fn height_below(code: &Code, actuals: usize, place: usize) -> usize
     requires before { place < length code.now.kinds }
     requires actuals { HaveOperands actuals (stack_at code.now.kinds place) }
@@ -146,110 +146,124 @@ fn after_for(callee: Callee, copies: usize, place: usize) -> After
     }
 }
 
-impl Engine {
-    /// Begins the slots of a body, whose first cells are the actuals of its call: the formals stand for parts of objects or have values,
-    /// and all other slots are cleared (RM 6.4.1).
-    #[inline(always)]
-    fn begin_slots(&mut self, code: &Code, place: usize, base: usize, slots: usize, actuals: usize)
-        ghost t: { List Word × List S.Spot }
-        requires cells { base + slots ≤ length self.old.cells.items }
-        requires many { actuals ≤ slots }
-        requires formals { vec_len self.old.formals + actuals ≤ vec_capacity self.old.formals }
-        requires stack { AreActuals actuals (stack_at code.now.kinds place) t.0 }
-        requires spots { self.old.spots.items ≡ t.1 ++ located (take actuals t.0) }
-        requires words { StandIn actuals t.0 base self.old.cells.items }
-        ensures mode { self.new.mode ≡ self.old.mode }
-        ensures kept { kept self.new ≡ with_actuals (kept self.old) t.0 t.1 base slots actuals }
-        ensures events { self.new.events ≡ self.old.events }
-        ensures picks { self.new.picks ≡ self.old.picks }
-        ensures given { self.new.given_masters ≡ self.old.given_masters }
-        ensures masters { self.new.masters ≡ self.old.masters }
-        ensures control { self.new.control ≡ self.old.control }
-    {
-        bind_parts(
-            code,
-            place,
-            &mut self.cells,
-            &mut self.spots,
-            &mut self.formals,
-            base,
-            actuals,
-        );
-        clear(&mut self.cells, base + actuals, slots - actuals);
-    }
+/// Begins the slots of a body, whose first cells are the actuals of its call: the formals stand for parts of objects or have values,
+/// and all other slots are cleared (RM 6.4.1).
+#[inline(always)]
+fn begin_slots(
+    engine: &mut Engine,
+    code: &Code,
+    place: usize,
+    base: usize,
+    slots: usize,
+    actuals: usize,
+)
+    ghost t: { List Word × List S.Spot }
+    requires cells { base + slots ≤ length engine.old.cells.items }
+    requires many { actuals ≤ slots }
+    requires formals { vec_len engine.old.formals + actuals ≤ vec_capacity engine.old.formals }
+    requires stack { AreActuals actuals (stack_at code.now.kinds place) t.0 }
+    requires spots { engine.old.spots.items ≡ t.1 ++ located (take actuals t.0) }
+    requires words { StandIn actuals t.0 base engine.old.cells.items }
+    ensures mode { engine.new.mode ≡ engine.old.mode }
+    ensures kept { kept engine.new ≡ with_actuals (kept engine.old) t.0 t.1 base slots actuals }
+    ensures events { engine.new.events ≡ engine.old.events }
+    ensures picks { engine.new.picks ≡ engine.old.picks }
+    ensures given { engine.new.given_masters ≡ engine.old.given_masters }
+    ensures masters { engine.new.masters ≡ engine.old.masters }
+    ensures control { engine.new.control ≡ engine.old.control }
+{
+    bind_parts(
+        code,
+        place,
+        &mut engine.cells,
+        &mut engine.spots,
+        &mut engine.formals,
+        base,
+        actuals,
+    );
+    clear(&mut engine.cells, base + actuals, slots - actuals);
+}
 
-    /// Calls the procedure or the function whose body has this number, as `call_from` does, from the newest window.
-    #[inline(never)]
-    pub(crate) fn call(
-        &mut self,
-        code: &Code,
-        callee: Callee,
-        body: usize,
-        actuals: usize,
-        copies: usize,
-        place: usize,
-    ) -> Result<(), AllocError>
-        ghost s: { State }
-        requires valid { IsValid code.now }
-        requires before { BeforeCall code.now self.old callee place body actuals copies s }
-        requires place { place + 1 < 2 ^ 64 }
-        requires number { self.old.given_masters + 1 < 2 ^ 64 }
-        ensures ok { OnOk result (Makes code.now self.old self.new (Table.call_body code.now body actuals (Calling.leading_to callee copies) s.operands (here_of place s))) }
-        ensures going { OnOk result (IsGoing self.new.mode) }
-        ensures at { OnOk result ((at : ℕ) × (self.new.mode ≡ ModeOf.At at)) }
-        ensures err { OnErr result (GoesOn self.old self.new self.old.mode self.old.cells.items) }
-    {
-        self.call_from(self.window(), code, callee, body, actuals, copies, place)?;
-        Ok(())
-    }
+/// Calls the procedure or the function whose body has this number, as `call_from` does, from the newest window.
+#[inline(never)]
+pub(crate) fn call(
+    engine: &mut Engine,
+    code: &Code,
+    callee: Callee,
+    body: usize,
+    actuals: usize,
+    copies: usize,
+    place: usize,
+) -> Result<(), AllocError>
+    ghost s: { State }
+    requires valid { IsValid code.now }
+    requires before { BeforeCall code.now engine.old callee place body actuals copies s }
+    requires place { place + 1 < 2 ^ 64 }
+    requires number { engine.old.given_masters + 1 < 2 ^ 64 }
+    ensures ok { OnOk result (Makes code.now engine.old engine.new (Table.call_body code.now body actuals (Calling.leading_to callee copies) s.operands (here_of place s))) }
+    ensures going { OnOk result (IsGoing engine.new.mode) }
+    ensures at { OnOk result ((at : ℕ) × (engine.new.mode ≡ ModeOf.At at)) }
+    ensures err { OnErr result (GoesOn engine.old engine.new engine.old.mode engine.old.cells.items) }
+{
+    call_from(
+        engine,
+        engine.window(),
+        code,
+        callee,
+        body,
+        actuals,
+        copies,
+        place,
+    )?;
+    Ok(())
+}
 
-    /// Calls the procedure or the function whose body has this number, with so many of the newest operands as its actuals: the body is
-    /// entered inside the masters around it that this place sees, and the call goes on at the next place, where what so many of the first
-    /// formals of a procedure hold in the end are new operands, and so is the value of a function (RM 6.4, 6.4.1). The newest window begins
-    /// with this cell; answers where that of the body begins. Unchanged where memory is refused.
-    #[inline(always)]
-    pub(crate) fn call_from(
-        &mut self,
-        window: usize,
-        code: &Code,
-        callee: Callee,
-        body: usize,
-        actuals: usize,
-        copies: usize,
-        place: usize,
-    ) -> Result<usize, AllocError>
-        ghost s: { State }
-        requires valid { IsValid code.now }
-        requires before { BeforeCall code.now self.old callee place body actuals copies s }
-        requires place { place + 1 < 2 ^ 64 }
-        requires window { window ≡ first_window (reverse self.old.masters.items) }
-        requires number { self.old.given_masters + 1 < 2 ^ 64 }
-        ensures ok { OnOk result (Makes code.now self.old self.new (Table.call_body code.now body actuals (Calling.leading_to callee copies) s.operands (here_of place s))) }
-        ensures going { OnOk result (IsGoing self.new.mode) }
-        ensures at { OnOk result ((at : ℕ) × (self.new.mode ≡ ModeOf.At at)) }
-        ensures window { IfOk result (λ base. base ≡ first_window (reverse self.new.masters.items)) }
-        ensures err { OnErr result (GoesOn self.old self.new self.old.mode self.old.cells.items) }
-    {
-        let entry = code.entries[body];
-        let base = window + height_below(code, actuals, place);
-        self.prepare_body(base, code.room, actuals)?;
-        let outer_formals = self.count_formals();
-        self.begin_slots(code, place, base, entry.slots, actuals);
-        // Behind what may be a call, over which each number here would be kept.
-        let link = self.around(entry.level);
-        let master = Master {
-            number: self.given_masters + 1,
-            window: base,
-            base,
-            slots: entry.slots,
-            link,
-            depth: self.depth_at(link) + 1,
-            owned: self.count_owned(),
-            outer_formals,
-            formals: self.count_formals(),
-            spots: self.count_spots(),
-        };
-        self.stand(master, 0, after_for(callee, copies, place + 1), entry.place);
-        Ok(base)
-    }
+/// Calls the procedure or the function whose body has this number, with so many of the newest operands as its actuals: the body is
+/// entered inside the masters around it that this place sees, and the call goes on at the next place, where what so many of the first
+/// formals of a procedure hold in the end are new operands, and so is the value of a function (RM 6.4, 6.4.1). The newest window begins
+/// with this cell; answers where that of the body begins. Unchanged where memory is refused.
+#[inline(always)]
+pub(crate) fn call_from(
+    engine: &mut Engine,
+    window: usize,
+    code: &Code,
+    callee: Callee,
+    body: usize,
+    actuals: usize,
+    copies: usize,
+    place: usize,
+) -> Result<usize, AllocError>
+    ghost s: { State }
+    requires valid { IsValid code.now }
+    requires before { BeforeCall code.now engine.old callee place body actuals copies s }
+    requires place { place + 1 < 2 ^ 64 }
+    requires window { window ≡ first_window (reverse engine.old.masters.items) }
+    requires number { engine.old.given_masters + 1 < 2 ^ 64 }
+    ensures ok { OnOk result (Makes code.now engine.old engine.new (Table.call_body code.now body actuals (Calling.leading_to callee copies) s.operands (here_of place s))) }
+    ensures going { OnOk result (IsGoing engine.new.mode) }
+    ensures at { OnOk result ((at : ℕ) × (engine.new.mode ≡ ModeOf.At at)) }
+    ensures window { IfOk result (λ base. base ≡ first_window (reverse engine.new.masters.items)) }
+    ensures err { OnErr result (GoesOn engine.old engine.new engine.old.mode engine.old.cells.items) }
+{
+    let entry = code.entries[body];
+    let base = window + height_below(code, actuals, place);
+    engine.prepare_body(base, code.room, actuals)?;
+    let outer_formals = engine.count_formals();
+    begin_slots(engine, code, place, base, entry.slots, actuals);
+    // Behind what may be a call, over which each number here would be kept.
+    let link = engine.around(entry.level);
+    let master = Master {
+        number: engine.given_masters + 1,
+        window: base,
+        base,
+        slots: entry.slots,
+        link,
+        depth: engine.depth_at(link) + 1,
+        owned: engine.count_owned(),
+        outer_formals,
+        formals: engine.count_formals(),
+        spots: engine.count_spots(),
+    };
+    engine.stand(master, 0, after_for(callee, copies, place + 1), entry.place);
+    Ok(base)
 }

@@ -1,332 +1,56 @@
-//! A return statement with the value of a record (RM 6.5): the value is taken, and waits among the parts while masters are left; behind the call
-//! of the function it is the newest operand. A value of one cell, or of none, goes as any other.
+//! A master is closed behind whose end a value waits, or that of a record may stand (RM 6.5).
 
-ghost use Rattle.std.specs.Prelude.{◌≡◌, ◌+◌, ◌^◌, ◌<◌, ◌≤◌, ◌∷◌, ◌++◌, [], ℕ, List, IfOk, IsFalse, IsTrue, OnErr, OnOk, Some, if◌then◌else◌, length, reverse, take, vec_capacity, vec_len};
-ghost use Rattle.std.specs.Option.{option_map};
-ghost use Rattle.ctl_code.specs.declared.code.Instr.TheVariants as InstrOf;
-ghost use Rattle.ctl_code.specs.declared.code.Way.TheVariants as WayOf;
+ghost use Rattle.std.specs.Prelude.{◌≡◌, ◌<◌, ◌∷◌, [], List, OnErr, OnOk, reverse, vec_len};
 ghost use Rattle.ctl_code.specs.Fits.{Behind, FitsWorld};
-ghost use Rattle.ctl_code.specs.States.{State};
 ghost use Rattle.ctl_code.specs.Table as Table;
 ghost use Rattle.ctl_code.specs.Valid.{IsValid};
-ghost use Rattle.ctl_meaning.specs.Finalization as S;
-ghost use Rattle.ctl_meaning.specs.Names.{scalar_of};
-ghost use Rattle.ctl_meaning.specs.Objects.{first_cells};
-ghost use Rattle.ctl_machine.specs.declared.frame.Completion.TheVariants as CompletionOf;
-ghost use Rattle.ctl_machine.specs.declared.frame.Master.{Master};
-ghost use Rattle.ctl_machine.specs.Departing.{Departed, Departs};
-ghost use Rattle.ctl_machine.specs.Masters.{layers_from};
-ghost use Rattle.ctl_machine.specs.Moves.{Before, GoesOn, Makes, here_of};
-ghost use Rattle.ctl_machine.specs.RecordValues.{FindsRecord, IsPart, IsValue, cells_in};
-ghost use Rattle.ctl_machine.specs.Returning as Returning;
-ghost use Rattle.ctl_machine.specs.Returning.{GivesNoRecord};
-ghost use Rattle.ctl_machine.specs.Shows.{IsPlain, IsPlainly, kept, with_spots, written_at};
-ghost use Rattle.ctl_machine.specs.Spots.{last_value, spots_below};
+ghost use Rattle.ctl_engine.specs.declared.frame.Master.{Master};
+ghost use Rattle.ctl_engine.specs.Departing.{Departed, Departs};
+ghost use Rattle.ctl_engine.specs.Masters.{layers_from};
+ghost use Rattle.ctl_engine.specs.Moves.{GoesOn, Makes};
 
-use crate::calls::Departure;
-use crate::engine::Engine;
-use crate::frame::{After, Completion, Mode};
-use crate::layers::forget_owned;
-use crate::leaving::mode_behind;
-use crate::parts::size_of;
-use crate::room::reserve;
-use crate::spots::{Spot, first_of};
-use ctl_code::code::{Code, Way};
-use ctl_tree::ending::Stop;
+use crate::leaving::{close, mode_behind};
+use ctl_code::code::Code;
+use ctl_engine::calls::Departure;
+use ctl_engine::engine::Engine;
+use ctl_engine::layers::forget_owned;
+use ctl_engine::returning::{drop_parts, put_cell, put_record, waits_further};
+use ctl_objects::room::reserve;
 use std::alloc::AllocError;
 
-/// Tells whether statements are completed by a return statement whose value waits among the parts (RM 6.5).
-#[inline(always)]
-pub(crate) fn has_value_waiting(completion: Completion) -> bool
-    ensures waits { IsTrue result → completion ≡ CompletionOf.Transferred WayOf.ReturnRecord }
-    ensures plain { IsFalse result → IsPlainly completion }
+/// Takes the newest master off, which is left so and of whose layers none is left, with what it owned, and goes on behind it, where a value
+/// waits, or that of a record may stand (RM 6.5): behind a block the value waits further; behind the call of a function it is the newest
+/// operand; else it is dropped. Unchanged where memory is refused.
+#[inline(never)]
+pub(crate) fn close_with_record(
+    engine: &mut Engine,
+    code: &Code,
+    departure: Departure,
+    next: usize,
+) -> Result<(), AllocError>
+    ghost t: { Departed }
+    requires valid { IsValid code.now }
+    requires departs { Departs code.now engine.old departure.failed departure.pending departure.after next t }
+    requires fits { Behind code.now t.after t.control }
+    requires world { FitsWorld code.now t.world }
+    requires waiting { 0 < vec_len engine.old.control }
+    requires none { (m : Master) × (ms : List Master) × (reverse engine.old.masters.items ≡ m ∷ ms) × (layers_from m.owned engine.old.owned.items ≡ []) }
+    ensures ok { OnOk result (Makes code.now engine.old engine.new (Table.next_layer code.now t.master t.layers t.failed t.pending t.after t.control t.world)) }
+    ensures err { OnErr result (GoesOn engine.old engine.new engine.old.mode engine.old.cells.items) }
 {
-    matches!(completion, Completion::Transferred(Way::ReturnRecord))
-}
-
-/// Tells whether the value of a record stands behind the call of a body whose end leads there (RM 6.4).
-#[inline(always)]
-pub(crate) fn gives_record(after: After) -> bool
-    ensures { IsFalse result → GivesNoRecord after }
-{
-    matches!(after, After::Record { .. })
-}
-
-/// Tells whether a value waits where a master is left so, or that of a record may stand behind it.
-#[inline(always)]
-pub(crate) fn concerns_record(departure: Departure) -> bool
-    ensures plain { IsFalse result → IsPlainly departure.pending }
-    ensures none { IsFalse result → GivesNoRecord departure.after }
-{
-    has_value_waiting(departure.pending) || gives_record(departure.after)
-}
-
-/// Tells whether a value waits further behind a master whose statements were completed so: behind a block (RM 5.6, 6.5).
-fn waits_further(after: After, completion: Completion) -> bool
-    ensures { result ≡ Returning.waits_further after completion }
-{
-    match after {
-        After::Block(_) => has_value_waiting(completion),
-        _ => false,
-    }
-}
-
-/// Drops the parts behind so many, unless they stay.
-#[inline(always)]
-fn drop_parts(spots: &mut Vec<Spot>, count: usize, stays: bool)
-    ensures items { spots.new.items ≡ if stays then spots.old.items else take count spots.old.items }
-    ensures len { vec_len spots.new ≤ vec_len spots.old }
-    ensures capacity { vec_capacity spots.new ≡ vec_capacity spots.old }
-{
-    if stays {
-        return;
-    }
-    spots.truncate(count);
-}
-
-/// Puts the value of a record behind the parts, if there is one; there is room for it.
-#[inline(always)]
-fn put_record(spots: &mut Vec<Spot>, given: Option<Vec<u64>>)
-    requires { vec_len spots.old < vec_capacity spots.old }
-    ensures { spots.new.items ≡ Returning.with_record (option_map (λ v. v.items) given) spots.old.items }
-{
-    if let Some(value) = given {
-        spots.push_reserved(Spot::of_value(value));
-    }
-}
-
-/// Writes the cell of a value, if there is one.
-#[inline(always)]
-fn put_cell(cells: &mut [u64], at: usize, cell: Option<u64>)
-    requires { (x : ℕ) → cell ≡ Some x → at < length cells.old }
-    ensures { cells.new ≡ written_at cell at cells.old }
-{
-    if let Some(value) = cell {
-        cells[at] = value;
-    }
-}
-
-/// Answers the way in which control is transferred with a value of these cells: one of two cells or more waits among the parts.
-fn way_for(cells: &[u64]) -> Way
-    ensures { result ≡ Returning.way_for cells.now }
-{
-    match cells {
-        [] => Way::Return,
-        [value] => Way::ReturnValue(*value),
-        _ => Way::ReturnRecord,
-    }
-}
-
-/// Puts these cells, the value of a record, in place of the newest part, if it waits where control is transferred this way.
-fn put_waiting(spots: &mut Vec<Spot>, way: Way, cells: Vec<u64>)
-    requires { 0 < length spots.old.items }
-    ensures { (below : List S.Spot) (s : S.Spot) → spots.old.items ≡ below ++ s ∷ [] → spots.new.items ≡ Returning.parts_for way below s cells.items }
-{
-    if let Way::ReturnRecord = way {
-        let _ = spots.take_last();
-        spots.push_reserved(Spot::of_value(cells));
-    }
-}
-
-impl Engine {
-    /// Drops the parts that mean nothing any more where control is transferred this way, as `drop_spots` does: a value that waits stays.
-    #[inline(always)]
-    pub(crate) fn drop_for(&mut self, way: Way)
-        requires waits { way ≡ WayOf.ReturnRecord → 0 < length self.old.spots.items }
-        ensures plain { IsPlain way → kept self.new ≡ with_spots (kept self.old) (spots_below (reverse self.old.masters.items) self.old.spots.items) }
-        ensures waits { (below : List S.Spot) (s : S.Spot) → way ≡ WayOf.ReturnRecord → self.old.spots.items ≡ below ++ s ∷ [] → kept self.new ≡ with_spots (kept self.old) (spots_below (reverse self.old.masters.items) below ++ s ∷ []) }
-        ensures mode { self.new.mode ≡ self.old.mode }
-        ensures events { self.new.events ≡ self.old.events }
-        ensures picks { self.new.picks ≡ self.old.picks }
-        ensures given { (self.new.given_masters ≡ self.old.given_masters) × (self.new.numbered ≡ self.old.numbered) }
-    {
-        if let Way::ReturnRecord = way {
-            let value = self.spots.take_last();
-            self.drop_spots();
-            self.spots.push_reserved(value);
-            return;
-        }
-        self.drop_spots();
-    }
-
-    /// Answers so many cells of the newest operand, a part of an object or the value of a record; None where the object of the part is not
-    /// there.
-    fn cells_on_top(
-        &self,
-        code: &Code,
-        size: usize,
-        place: usize,
-    ) -> Result<Option<Vec<u64>>, AllocError>
-        ghost s: { State }
-        requires before { FindsRecord code.now self.now place s }
-        ensures { IfOk result (λ found. option_map (λ cells. cells.items) found ≡ cells_in size s.operands s.world) }
-    {
-        if self.is_newest_value(code, place) {
-            return self.cells_of_value(code, size, place);
-        }
-        self.cells_of_part(code, size, place)
-    }
-
-    /// Answers so many cells of the value of a record that is the newest operand.
-    fn cells_of_value(
-        &self,
-        code: &Code,
-        size: usize,
-        place: usize,
-    ) -> Result<Option<Vec<u64>>, AllocError>
-        ghost s: { State }
-        requires before { FindsRecord code.now self.now place s }
-        requires value { IsValue s.operands }
-        ensures { IfOk result (λ found. option_map (λ cells. cells.items) found ≡ cells_in size s.operands s.world) }
-    {
-        let cells = self.newest_value(code, size, place)?;
-        Ok(Some(cells))
-    }
-
-    /// Answers so many cells of the part of an object that is the newest operand; None where the object is not there.
-    fn cells_of_part(
-        &self,
-        code: &Code,
-        size: usize,
-        place: usize,
-    ) -> Result<Option<Vec<u64>>, AllocError>
-        ghost s: { State }
-        requires before { FindsRecord code.now self.now place s }
-        requires part { IsPart s.operands }
-        ensures { IfOk result (λ found. option_map (λ cells. cells.items) found ≡ cells_in size s.operands s.world) }
-    {
-        let spot = &self.spots[self.count_spots() - 1];
-        if !self.stock.exists(spot.object()) {
-            return Ok(None);
-        }
-        let cells = self.newest_cells(code, size, place)?;
-        Ok(Some(cells))
-    }
-
-    /// Transfers control by a return statement with the value of the newest operand, a part of an object or the value of a record, of this record
-    /// type (RM 6.5); where the object of the part is not there, the program is erroneous (RM 13.11.2). Unchanged where memory is refused.
-    pub(crate) fn return_record(
-        &mut self,
-        code: &Code,
-        record: usize,
-        place: usize,
-    ) -> Result<(), AllocError>
-        ghost s: { State }
-        requires valid { IsValid code.now }
-        requires before { Before code.now self.old place (InstrOf.ReturnRecord «record») s }
-        ensures ok { OnOk result (Makes code.now self.old self.new (Table.by_instr code.now (Some (InstrOf.ReturnRecord «record»)) s.operands (here_of place s))) }
-        ensures err { OnErr result (GoesOn self.old self.new self.old.mode self.old.cells.items) }
-    {
-        let size = size_of(code, record);
-        let found = self.cells_on_top(code, size, place)?;
-        match found {
-            Some(cells) => {
-                let way = way_for(cells.as_slice());
-                put_waiting(&mut self.spots, way, cells);
-                self.mode = Mode::Transfers(way);
-            }
-            None => self.mode = Mode::Stopped(Stop::UseAfterFree),
-        }
-        Ok(())
-    }
-
-    /// Answers so many cells of the value that waits: it is cut, or filled up with cells of 0.
-    fn cells_waiting(&self, count: usize) -> Result<Vec<u64>, AllocError>
-        requires { 0 < length self.now.spots.items }
-        ensures { IfOk result (λ cells. cells.items ≡ first_cells count (last_value self.now.spots.items)) }
-    {
-        let cells = self.spots[self.count_spots() - 1].first_cells(self.alloc, count)?;
-        Ok(cells)
-    }
-
-    /// Answers the first cell of the value that waits.
-    pub(crate) fn cell_waiting(&self) -> u64
-        requires { 0 < length self.now.spots.items }
-        ensures { result ≡ scalar_of (last_value self.now.spots.items) }
-    {
-        self.spots[self.count_spots() - 1].cell(0)
-    }
-
-    /// Answers the value of a record that stands behind a master, whose statements were completed so, if one does (RM 6.5).
-    fn record_behind(
-        &self,
-        after: After,
-        completion: Completion,
-    ) -> Result<Option<Vec<u64>>, AllocError>
-        requires { completion ≡ CompletionOf.Transferred WayOf.ReturnRecord → 0 < length self.now.spots.items }
-        ensures { IfOk result (λ found. option_map (λ cells. cells.items) found ≡ Returning.record_by after completion (last_value self.now.spots.items)) }
-    {
-        match (after, completion) {
-            (After::Record { cells, .. }, Completion::Transferred(Way::Return)) => {
-                let given = first_of(self.alloc, &[], cells)?;
-                Ok(Some(given))
-            }
-            (After::Record { cells, .. }, Completion::Transferred(Way::ReturnValue(value))) => {
-                let given = first_of(self.alloc, &[value], cells)?;
-                Ok(Some(given))
-            }
-            (After::Record { cells, .. }, Completion::Transferred(Way::ReturnRecord)) => {
-                let given = self.cells_waiting(cells)?;
-                Ok(Some(given))
-            }
-            _ => Ok(None),
-        }
-    }
-
-    /// Answers the cell of the value of a function behind a master, whose statements were completed so, if one stands there (RM 6.5).
-    fn cell_behind(&self, after: After, completion: Completion) -> Option<u64>
-        requires { completion ≡ CompletionOf.Transferred WayOf.ReturnRecord → 0 < length self.now.spots.items }
-        ensures { result ≡ Returning.cell_by after completion (last_value self.now.spots.items) }
-    {
-        match (after, completion) {
-            (After::Record { .. }, Completion::Transferred(Way::Return)) => Some(1),
-            (After::Record { .. }, Completion::Transferred(Way::ReturnValue(_))) => Some(1),
-            (After::Record { .. }, Completion::Transferred(Way::ReturnRecord)) => Some(1),
-            (After::Function { .. }, Completion::Transferred(Way::Return)) => Some(0),
-            (After::Function { .. }, Completion::Transferred(Way::ReturnValue(value))) => {
-                Some(value)
-            }
-            (After::Function { .. }, Completion::Transferred(Way::ReturnRecord)) => {
-                Some(self.cell_waiting())
-            }
-            _ => None,
-        }
-    }
-
-    /// Takes the newest master off, which is left so and of whose layers none is left, with what it owned, and goes on behind it, where a value
-    /// waits, or that of a record may stand (RM 6.5): behind a block the value waits further; behind the call of a function it is the newest
-    /// operand; else it is dropped. Unchanged where memory is refused.
-    #[inline(never)]
-    pub(crate) fn close_with_record(
-        &mut self,
-        code: &Code,
-        departure: Departure,
-        next: usize,
-    ) -> Result<(), AllocError>
-        ghost t: { Departed }
-        requires valid { IsValid code.now }
-        requires departs { Departs code.now self.old departure.failed departure.pending departure.after next t }
-        requires fits { Behind code.now t.after t.control }
-        requires world { FitsWorld code.now t.world }
-        requires waiting { 0 < vec_len self.old.control }
-        requires none { (m : Master) × (ms : List Master) × (reverse self.old.masters.items ≡ m ∷ ms) × (layers_from m.owned self.old.owned.items ≡ []) }
-        ensures ok { OnOk result (Makes code.now self.old self.new (Table.next_layer code.now t.master t.layers t.failed t.pending t.after t.control t.world)) }
-        ensures err { OnErr result (GoesOn self.old self.new self.old.mode self.old.cells.items) }
-    {
-        let _places = code.instructions.as_slice().len();
-        let _ = next;
-        let newest = self.newest();
-        let after = departure.after;
-        let completion = departure.completion();
-        let given = self.record_behind(after, completion)?;
-        let cell = self.cell_behind(after, completion);
-        reserve(&mut self.spots, 1)?;
-        forget_owned(&mut self.owned, &mut self.stock, &newest);
-        let base = self.close(mode_behind(after, completion));
-        let stays = waits_further(after, completion);
-        drop_parts(&mut self.spots, newest.spots, stays);
-        put_record(&mut self.spots, given);
-        put_cell(&mut self.cells, base, cell);
-        Ok(())
-    }
+    let _places = code.instructions.as_slice().len();
+    let _ = next;
+    let newest = engine.newest();
+    let after = departure.after;
+    let completion = departure.completion();
+    let given = engine.record_behind(after, completion)?;
+    let cell = engine.cell_behind(after, completion);
+    reserve(&mut engine.spots, 1)?;
+    forget_owned(&mut engine.owned, &mut engine.stock, &newest);
+    let base = close(engine, mode_behind(after, completion));
+    let stays = waits_further(after, completion);
+    drop_parts(&mut engine.spots, newest.spots, stays);
+    put_record(&mut engine.spots, given);
+    put_cell(&mut engine.cells, base, cell);
+    Ok(())
 }

@@ -14,9 +14,9 @@ use Rattle.ctl_code.specs.Steps.{step, machine, end_at, end_of}
 use Rattle.ctl_code.specs.Laws.{IsPrefix}
 use Rattle.ctl_gen.specs.Correct.{Behaves, HasReached}
 use Rattle.ctl_layout.specs.Layout.{IsLaidOut}
-use Rattle.ctl_machine.specs.declared.outcome.Outcome.{Outcome}
-use Rattle.ctl_machine.specs.Machine.{Running, Reports, Ends, after_steps}
-use Rattle.ctl_machine.specs.Shows.{chosen}
+use Rattle.ctl_engine.specs.declared.outcome.Outcome.{Outcome}
+use Rattle.ctl_engine.specs.Machine.{Running, Reports, Ends, after_steps}
+use Rattle.ctl_engine.specs.Shows.{chosen}
 use Rattle.ctl_run.specs.Headline.{ByItself, Reaches, Headline}
 
 -- A machine that has ended ----------------------------------------------------------------------------

@@ -14,9 +14,9 @@ use Rattle.ctl_code.specs.States.{Stuck}
 use Rattle.ctl_code.specs.Steps.{end_of}
 use Rattle.ctl_code.specs.Laws.{IsPrefix}
 use Rattle.ctl_layout.specs.Layout.{IsLaidOut}
-use Rattle.ctl_machine.specs.declared.outcome.Outcome.{Outcome}
-use Rattle.ctl_machine.specs.Machine.{after_steps}
-use Rattle.ctl_machine.specs.Shows.{chosen}
+use Rattle.ctl_engine.specs.declared.outcome.Outcome.{Outcome}
+use Rattle.ctl_engine.specs.Machine.{after_steps}
+use Rattle.ctl_engine.specs.Shows.{chosen}
 use Rattle.ctl_run.specs.Verdict.{IsVerdict}
 
 -- the run ended by itself

@@ -7,11 +7,11 @@ ghost use Rattle.ctl_front.specs.Text.{BreaksForm};
 ghost use Rattle.ctl_run.specs.Headline.{RunsSource};
 ghost use Rattle.ctl_run.specs.Verdict.{IsFaultOf, IsFaultless, IsLeftOut, Settles};
 
+use ctl_engine::outcome::Outcome;
 use ctl_front::program::{program_of, resolved_of};
 use ctl_gen::generate::generate;
 use ctl_layout::runs::is_run;
 use ctl_machine::machine::Machine;
-use ctl_machine::outcome::Outcome;
 use ctl_program::program::Checked;
 use ctl_slice::first_left_out;
 use ctl_tree::fault::{Fault, FaultCode};

@@ -3,7 +3,7 @@ use Rattle.std.specs.Prelude.{◌≡◌, ℕ, List, Option}
 use Rattle.std.specs.Io.KnownBytes.{Appends}
 use Rattle.ctl_tree.specs.declared.request.Order.{Order}
 use Rattle.ctl_run.specs.Headline.{RunsSource}
-use Rattle.ctl_machine.specs.declared.outcome.Outcome.{Outcome}
+use Rattle.ctl_engine.specs.declared.outcome.Outcome.{Outcome}
 use Rattle.ctl_serve.specs.declared.summary.Summary.{Summary}
 use Rattle.ctl_sink.specs.Prefix.{AppendsPart}
 use Rattle.ctl_text.specs.Texts.{output_of, trace_of}

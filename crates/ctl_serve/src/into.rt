@@ -12,7 +12,7 @@ ghost use Rattle.ctl_tree.specs.declared.fault.Fault.{Fault};
 ghost use Rattle.ctl_serve.specs.declared.summary.RunFault.TheVariants.{Write};
 
 use crate::summary::{RunFault, Summary};
-use ctl_machine::outcome::Outcome;
+use ctl_engine::outcome::Outcome;
 use ctl_run::run::run_source;
 use ctl_sink::{Sink, put_all};
 use ctl_text::{output_text_in, trace_text_in};

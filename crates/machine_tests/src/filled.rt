@@ -4,7 +4,7 @@ use crate::codes::{FAREWELL, valid_code_with};
 use crate::lines::{BODY_LEVEL, CELL_3, Line, UNITS};
 use crate::runs::{counted, outcome_of, traced};
 use ctl_code::code::{Begun, Initial, Instr, Layout, Parts};
-use ctl_machine::outcome::Outcome;
+use ctl_engine::outcome::Outcome;
 use ctl_program::types::{Ty, Var};
 use ctl_tree::ending::End;
 use ctl_tree::request::Order;

@@ -4,7 +4,7 @@ use crate::codes::{FAREWELL, code_of, is_well_formed, valid_code_of};
 use crate::lines::{FIRST, Line};
 use crate::runs::{outcome_of, run_and_step, traced};
 use ctl_code::code::Instr;
-use ctl_machine::outcome::Progress;
+use ctl_engine::outcome::Progress;
 use ctl_program::types::{Ty, Var};
 use ctl_tree::request::Order;
 use std::test::Fail;

@@ -4,8 +4,8 @@
 //! the drop of each list is proved at each way out of the function.
 
 use ctl_code::valid::ValidCode;
+use ctl_engine::outcome::{Outcome, Progress};
 use ctl_machine::machine::Machine;
-use ctl_machine::outcome::{Outcome, Progress};
 use ctl_text::trace_text;
 use ctl_tree::request::Order;
 use std::alloc::{AllocError, Global};

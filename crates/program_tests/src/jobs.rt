@@ -1,8 +1,8 @@
 //! Jobs on source texts, with readers and writers that fail.
 
 use crate::texts::{EMPTY, TWO_OBJECTS, TWO_OBJECTS_OUTPUT, TWO_OBJECTS_SERVED, TWO_OBJECTS_TRACE};
+use ctl_engine::outcome::Outcome;
 use ctl_job::{Job, UsageFault};
-use ctl_machine::outcome::Outcome;
 use ctl_run::run::run_source;
 use ctl_serve::report::{Picks, say, say_end};
 use ctl_serve::status::{Status, status_of_end};

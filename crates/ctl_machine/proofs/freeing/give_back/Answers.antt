@@ -5,10 +5,10 @@ use Rattle.ctl_meaning.specs.World.{Object}
 use Rattle.ctl_storage.specs.Allocated.{place_of}
 use Rattle.ctl_storage.specs.declared.existing.Place.{Place}
 use Rattle.ctl_code.specs.Table.{return_to}
-use Rattle.ctl_machine.specs.declared.freeing.GivenBack.TheVariants as BackOf
-use Rattle.ctl_machine.specs.Freeing.{IsGivenBack}
-use Rattle.ctl_machine.proofs.GivenBack.{gone_given, library_given, user_given}
-use Rattle.ctl_machine.proofs.MayJoin.{none_known}
+use Rattle.ctl_engine.specs.declared.freeing.GivenBack.TheVariants as BackOf
+use Rattle.ctl_engine.specs.Freeing.{IsGivenBack}
+use Rattle.ctl_engine.proofs.GivenBack.{gone_given, library_given, user_given}
+use Rattle.ctl_engine.proofs.MayJoin.{none_known}
 use Rattle.ctl_machine.proofs.freeing.give_back.Goals as goal
 
 pub returns-in_default-find-clause-back : goal.returns-in_default-find-clause-back

@@ -5,7 +5,7 @@ use Rattle.ctl_code.specs.declared.code.Code.{Code}
 use Rattle.ctl_gen.specs.Correct.{Behaves}
 use Rattle.ctl_layout.specs.Layout.{IsLaidOut}
 use Rattle.ctl_gen.proofs.FormedWhole.{linked_of}
-use Rattle.ctl_machine.specs.Machine.{Running}
+use Rattle.ctl_engine.specs.Machine.{Running}
 use Rattle.ctl_meaning.specs.Choice.{replayed}
 use Rattle.ctl_run.specs.Headline.{Headline}
 use Rattle.ctl_run.proofs.Composed.{composed}

@@ -1,7 +1,7 @@
 use Rattle.std.proofs.Common.{ℕ, List, Option, OnOk, IfOk, Result, Ok, Err, inr}
 use Rattle.std.proofs.lemmas.Result.{IfErr-weaker}
 use Rattle.std.specs.Io.KnownBytes.{Appends}
-use Rattle.ctl_machine.specs.declared.outcome.Outcome.{Outcome}
+use Rattle.ctl_engine.specs.declared.outcome.Outcome.{Outcome}
 use Rattle.ctl_run.specs.Headline.{RunsSource}
 use Rattle.ctl_serve.specs.declared.summary.RunFault.{RunFault}
 use Rattle.ctl_serve.specs.declared.summary.RunFault.TheVariants.{Refused, Write}

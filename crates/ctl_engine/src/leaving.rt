@@ -1,0 +1,30 @@
+//! Where the end of a master leads, and where control comes behind it.
+
+ghost use Rattle.std.specs.Prelude.{◌≡◌, ◌≢◌, ◌-◌, IfNone, IfSome, Some, length, slice_get};
+ghost use Rattle.ctl_engine.specs.declared.frame.Frame.TheVariants as FrameOf;
+ghost use Rattle.ctl_engine.specs.declared.frame.After.{After};
+ghost use Rattle.ctl_engine.specs.declared.frame.Handling.{Handling};
+
+use crate::engine::Engine;
+use crate::frame::{After, Frame};
+
+/// The place where control comes behind a master that is left, and the first cell of the window that is the newest one then.
+#[derive(Clone, Copy)]
+pub struct Continuation {
+    pub place: usize,
+    pub window: usize,
+}
+
+impl Engine {
+    /// Answers where the end of the innermost master leads, if its statements are being executed.
+    #[inline(always)]
+    pub fn innermost(&self) -> Option<After>
+        ensures some { IfSome result (λ after. (handling : Handling) × (slice_get self.now.control.items (length self.now.control.items - 1) ≡ Some (FrameOf.InMaster handling after))) }
+        ensures none { IfNone result ((handling : Handling) (after : After) → slice_get self.now.control.items (length self.now.control.items - 1) ≢ Some (FrameOf.InMaster handling after)) }
+    {
+        match self.control.as_slice().last().copied() {
+            Some(Frame::InMaster(_, after)) => Some(after),
+            _ => None,
+        }
+    }
+}

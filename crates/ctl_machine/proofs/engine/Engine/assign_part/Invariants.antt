@@ -1,6 +1,0 @@
-use Rattle.ctl_meaning.specs.Objects.{object_in}
-use Rattle.ctl_machine.proofs.Assigned.{assigned_at, source_of, value_found}
-use Rattle.ctl_machine.proofs.engine.Engine.assign_part.Given as goal
-
-abbrev pub ghost-replace_value : goal.ghost-replace_value
-ghost-replace_value g a = (assigned_at a.place g.s, value_found a.code.now a.record (object_in (source_of g.s).object a.self.now.stock.objects) g.s)

@@ -1,4 +1,0 @@
-use Rattle.ctl_machine.proofs.engine.Engine.fate.Given as goal
-
-abbrev pub ghost-set_held : goal.ghost-set_held
-ghost-set_held g a = g.s

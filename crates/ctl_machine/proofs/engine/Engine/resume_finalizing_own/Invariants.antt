@@ -1,5 +1,0 @@
-use Rattle.ctl_machine.proofs.AfterFinalize.{finished_in}
-use Rattle.ctl_machine.proofs.engine.Engine.resume_finalizing_own.Given as goal
-
-abbrev pub ghost-finalize_components : goal.ghost-finalize_components
-ghost-finalize_components g a = finished_in g.s.control g.s.world

@@ -1,4 +1,0 @@
-use Rattle.ctl_machine.proofs.engine.Engine.transfer.Given as goal
-
-abbrev pub ghost-leave : goal.ghost-leave
-ghost-leave g a = g.s

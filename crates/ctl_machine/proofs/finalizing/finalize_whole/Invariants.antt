@@ -1,0 +1,5 @@
+use Rattle.ctl_engine.proofs.WholeFinalized.{whole_of}
+use Rattle.ctl_machine.proofs.finalizing.finalize_whole.Given as goal
+
+abbrev pub ghost-finalize_part : goal.ghost-finalize_part
+ghost-finalize_part g a = whole_of a.finalization.cause a.doubles.spot g.t
