@@ -5,7 +5,6 @@ use ctl_objects::{Existing, Group, Life, Need, Objects, Origin, Place, Stage, St
 use ctl_program::types::Ty;
 use std::alloc::{AllocError, Global};
 use std::marker::Model;
-use std::test::Fail;
 
 /// The objects, the number of the next one, and the newest master.
 struct Numbered {
@@ -154,6 +153,11 @@ impl Numbered {
         objects
     }
 
+    /// Gives the objects up.
+    fn discard(self) {
+        self.finish().close();
+    }
+
     /// The first cells of objects 1 to 4, 100 for one that does not exist.
     fn first_cells(&self) -> [u64; 4] {
         let o = &self.objects;
@@ -175,31 +179,43 @@ fn four_objects(objects: &mut Numbered) -> [u64; 4] {
     [first, second, objects.declare(1), objects.allocate(6, 1)]
 }
 
-#[test]
-fn objects_stand_side_by_side(rt: HostRuntime) {
-    let mut objects = Numbered::new(rt.alloc(), Vec::new(rt.alloc()));
-    let numbers = four_objects(&mut objects);
+/// Says whether four objects are numbered as they come and new, hold what is written into them, and
+/// have nothing behind their last cells.
+fn are_written(objects: &mut Numbered) -> bool {
+    let numbers = four_objects(objects);
     let new = objects.first_cells();
     objects.write(1, 0, 11);
     objects.write(2, 0, 12);
     objects.write(3, 0, 13);
     objects.write(4, 0, 14);
     objects.write(4, 1, 15);
-    let written = objects.first_cells();
-    let beyond = [objects.objects.read(4, 1), objects.objects.read(9, 0)];
+    numbers == [1, 2, 3, 4]
+        && new == [0, 0, 0, 0]
+        && objects.first_cells() == [11, 12, 13, 14]
+        && objects.objects.read(4, 1) == Some(0)
+        && objects.objects.read(9, 0).is_none()
+}
+
+/// Says whether an allocated object is forgotten and a declared one is not, and those of the newest
+/// master and its collection end with it.
+fn are_left(objects: &mut Numbered) -> bool {
     let kept = objects.forget(1);
     let gone = objects.forget(2);
     let forgotten = objects.first_cells();
     objects.leave(&[6]);
-    let left = objects.first_cells();
-    objects.finish().close();
-    assert_eq!(rt; numbers, [1, 2, 3, 4]);
-    assert_eq!(rt; new, [0, 0, 0, 0]);
-    assert_eq!(rt; written, [11, 12, 13, 14]);
-    assert_eq!(rt; beyond, [Some(0), None]);
-    assert_eq!(rt; [kept, gone], [false, true]);
-    assert_eq!(rt; forgotten, [11, 100, 13, 14]);
-    assert_eq!(rt; left, [11, 100, 100, 100]);
+    !kept && gone && forgotten == [11, 100, 13, 14] && objects.first_cells() == [11, 100, 100, 100]
+}
+
+fn are_side_by_side(alloc: Global) -> bool {
+    let mut objects = Numbered::new(alloc, Vec::new(alloc));
+    let right = are_written(&mut objects) && are_left(&mut objects);
+    objects.discard();
+    right
+}
+
+#[test]
+fn objects_stand_side_by_side(rt: HostRuntime) {
+    assert!(rt; are_side_by_side(rt.alloc()));
 }
 
 /// Allocates objects 1, 4 and 6 of record type 7 and 5 of record type 8 for collection 5, 2 of
@@ -213,19 +229,16 @@ fn six_members(objects: &mut Numbered) -> [u64; 6] {
         objects.allocate_as(Ty::Record(8), 5, 1),
         objects.allocate_as(Ty::Record(7), 5, 1),
     ];
-    for number in [1, 2, 3, 5, 6] {
-        objects.join(number);
-    }
+    objects.join(1);
+    objects.join(2);
+    objects.join(3);
+    objects.join(5);
+    objects.join(6);
     numbers
 }
 
-/// The groups from a collection to another, one after another, each with how many of its objects
-/// are still to be finalized, the first and the last of them: 100 where there is none.
-fn three_groups(objects: &Numbered, first: u64, last: u64) -> [[u64; 5]; 3] {
-    let one = objects.group(Start::Collection(first), last);
-    let two = objects.group(behind(one), last);
-    [one, two, objects.group(behind(two), last)]
-}
+/// What stands for a group where there is none.
+const NONE: [u64; 5] = [100; 5];
 
 fn behind(group: [u64; 5]) -> Start {
     Start::Behind(Group {
@@ -234,69 +247,94 @@ fn behind(group: [u64; 5]) -> Start {
     })
 }
 
-#[test]
-fn groups_come_in_order(rt: HostRuntime) -> Result<(), Fail> {
-    let mut objects = Numbered::new(rt.alloc(), some_needs(rt.alloc())?);
-    let numbers = six_members(&mut objects);
-    let start = three_groups(&objects, 5, 6);
-    let other = three_groups(&objects, 6, u64::MAX);
+/// Says whether the groups from a collection to another, one after another, are these, each with how
+/// many of its objects are still to be finalized, the first and the last of them: 100 where there is
+/// none.
+fn are_groups(objects: &Numbered, [first, last]: [u64; 2], wanted: [[u64; 5]; 3]) -> bool {
+    let one = objects.group(Start::Collection(first), last);
+    let two = objects.group(behind(one), last);
+    [one, two, objects.group(behind(two), last)] == wanted
+}
+
+/// Says whether the groups of six members come from the lowest on, from each collection.
+fn are_in_order(objects: &mut Numbered) -> bool {
+    let all = [[5, 7, 2, 1, 6], [5, 8, 1, 5, 5], [6, 7, 1, 2, 2]];
+    let last = [[6, 7, 1, 2, 2], NONE, NONE];
+    six_members(objects) == [1, 2, 3, 4, 5, 6]
+        && are_groups(objects, [5, 6], all)
+        && are_groups(objects, [6, u64::MAX], last)
+}
+
+/// Says whether objects whose finalization begins do not wait any more, a group goes with its last
+/// object, and the groups of a collection end with it.
+fn are_gone(objects: &mut Numbered) -> bool {
     objects.begin(6);
     objects.begin(5);
-    let begun = three_groups(&objects, 0, 6);
+    let are_begun = are_groups(objects, [0, 6], [[5, 7, 1, 1, 1], [6, 7, 1, 2, 2], NONE]);
     let gone = [objects.forget(1), objects.forget(2)];
-    let left = three_groups(&objects, 0, 6);
+    let are_left = are_groups(objects, [0, 6], [[5, 7, 0, 100, 100], NONE, NONE]);
     objects.leave(&[5]);
-    let closed = three_groups(&objects, 0, 6);
-    objects.finish().close();
-    let none = [100; 5];
-    assert_eq!(rt; numbers, [1, 2, 3, 4, 5, 6]);
-    assert_eq!(rt; start, [[5, 7, 2, 1, 6], [5, 8, 1, 5, 5], [6, 7, 1, 2, 2]]);
-    assert_eq!(rt; other, [[6, 7, 1, 2, 2], none, none]);
-    assert_eq!(rt; begun, [[5, 7, 1, 1, 1], [6, 7, 1, 2, 2], none]);
-    assert_eq!(rt; gone, [true, true]);
-    assert_eq!(rt; left, [[5, 7, 0, 100, 100], none, none]);
-    assert_eq!(rt; closed, [none, none, none]);
-    Ok(())
+    are_begun && gone == [true, true] && are_left && are_groups(objects, [0, 6], [NONE, NONE, NONE])
+}
+
+fn are_right_groups(alloc: Global) -> Result<bool, AllocError> {
+    let needs = some_needs(alloc)?;
+    let mut objects = Numbered::new(alloc, needs);
+    let right = are_in_order(&mut objects) && are_gone(&mut objects);
+    objects.discard();
+    Ok(right)
+}
+
+#[test]
+fn groups_come_in_order(rt: HostRuntime) {
+    assert!(rt; matches!(are_right_groups(rt.alloc()), Ok(true)));
 }
 
 /// Allocates objects 1 of record type 6 and 2 of record type 9, which need no finalization, and 3
-/// of record type 7, which does, for collection 5; all join.
-fn three_members(objects: &mut Numbered) -> [u64; 3] {
+/// of record type 7, which does, for collection 5; all join. Answers whether they are numbered so.
+fn three_members(objects: &mut Numbered) -> bool {
     let numbers = [
         objects.allocate_as(Ty::Record(6), 5, 1),
         objects.allocate_as(Ty::Record(9), 5, 1),
         objects.allocate_as(Ty::Record(7), 5, 1),
     ];
-    for number in [1, 2, 3] {
-        objects.join(number);
-    }
-    numbers
+    objects.join(1);
+    objects.join(2);
+    objects.join(3);
+    numbers == [1, 2, 3]
 }
 
-#[test]
-fn plain_objects_stand_in_no_group(rt: HostRuntime) -> Result<(), Fail> {
-    let mut objects = Numbered::new(rt.alloc(), some_needs(rt.alloc())?);
-    let numbers = three_members(&mut objects);
-    let start = three_groups(&objects, 0, u64::MAX);
+/// Says whether object 3 is a group, alone, whatever is done to the others, until its finalization
+/// begins.
+fn is_group(objects: &mut Numbered) -> bool {
+    let third = [[5, 7, 1, 3, 3], NONE, NONE];
+    let start = are_groups(objects, [0, u64::MAX], third);
     objects.begin(1);
     objects.write(2, 0, 12);
-    let plain = three_groups(&objects, 0, u64::MAX);
+    let plain = are_groups(objects, [0, u64::MAX], third);
     objects.begin(3);
-    let begun = three_groups(&objects, 0, u64::MAX);
+    start && plain && are_groups(objects, [0, u64::MAX], [NONE, NONE, NONE])
+}
+
+/// Says whether the objects of no group can be forgotten, and end with their collection.
+fn are_ended(objects: &mut Numbered) -> bool {
     let gone = objects.forget(1);
     let forgotten = objects.first_cells();
     objects.leave(&[5]);
-    let closed = objects.first_cells();
-    objects.finish().close();
-    let none = [100; 5];
-    assert_eq!(rt; numbers, [1, 2, 3]);
-    assert_eq!(rt; start, [[5, 7, 1, 3, 3], none, none]);
-    assert_eq!(rt; plain, start);
-    assert_eq!(rt; begun, [none, none, none]);
-    assert!(rt; gone);
-    assert_eq!(rt; forgotten, [100, 12, 0, 100]);
-    assert_eq!(rt; closed, [100, 100, 100, 100]);
-    Ok(())
+    gone && forgotten == [100, 12, 0, 100] && objects.first_cells() == [100, 100, 100, 100]
+}
+
+fn are_plain(alloc: Global) -> Result<bool, AllocError> {
+    let needs = some_needs(alloc)?;
+    let mut objects = Numbered::new(alloc, needs);
+    let right = three_members(&mut objects) && is_group(&mut objects) && are_ended(&mut objects);
+    objects.discard();
+    Ok(right)
+}
+
+#[test]
+fn plain_objects_stand_in_no_group(rt: HostRuntime) {
+    assert!(rt; matches!(are_plain(rt.alloc()), Ok(true)));
 }
 
 /// The cells of objects 1 and 2, read one by one.
@@ -310,73 +348,103 @@ fn cells_of_two(objects: &Objects) -> [u64; 5] {
     ]
 }
 
-#[test]
-fn cells_are_copied_and_saved(rt: HostRuntime) -> Result<(), Fail> {
-    let mut saved = Vec::with_capacity(rt.alloc(), 4)?;
-    let mut objects = Numbered::new(rt.alloc(), Vec::new(rt.alloc()));
+/// Copies two cells of an object, from a place on, to the start of another.
+fn copy_two(objects: &mut Objects, from: u64, start: usize, to: u64) {
+    if from != to {
+        objects.copy(from, start, to, 0, 2);
+    }
+}
+
+/// Says whether cells are copied to another object up to its last, and a copy from or to none changes
+/// nothing.
+fn are_copied(objects: &mut Objects) -> bool {
+    let written = cells_of_two(objects);
+    copy_two(objects, 2, 1, 1);
+    let copied = cells_of_two(objects);
+    copy_two(objects, 1, 1, 3);
+    copy_two(objects, 1, 0, 9);
+    copy_two(objects, 9, 0, 1);
+    written == [0, 0, 0, 21, 22]
+        && copied == [21, 22, 0, 21, 22]
+        && cells_of_two(objects) == copied
+        && objects.read(3, 0) == Some(22)
+        && objects.read(3, 1) == Some(0)
+}
+
+/// Says whether the second cell of object 1, and what lies behind it, are saved.
+fn is_saved(alloc: Global, objects: &Objects) -> Result<bool, AllocError> {
+    let mut saved = Vec::with_capacity(alloc, 4)?;
+    let room = saved.len() == 0 && saved.capacity() >= 4;
+    let exists = room && objects.save(1, 1, 2, &mut saved);
+    Ok(exists && saved.as_slice() == [22, 0].as_slice())
+}
+
+fn are_copied_and_saved(alloc: Global) -> bool {
+    let mut objects = Numbered::new(alloc, Vec::new(alloc));
     let _ = four_objects(&mut objects);
     objects.write_all(2, 1, &[21, 22, 23]);
     let mut objects = objects.finish();
-    let written = cells_of_two(&objects);
-    objects.copy(2, 1, 1, 0, 2);
-    let copied = cells_of_two(&objects);
-    objects.copy(1, 1, 3, 0, 2);
-    objects.copy(1, 0, 9, 0, 2);
-    objects.copy(9, 0, 1, 0, 2);
-    let third = [objects.read(3, 0), objects.read(3, 1)];
-    let still = cells_of_two(&objects);
-    let room = saved.len() == 0 && saved.capacity() >= 4;
-    let exists = room && objects.save(1, 1, 2, &mut saved);
+    let right = are_copied(&mut objects) && matches!(is_saved(alloc, &objects), Ok(true));
     objects.close();
-    assert_eq!(rt; written, [0, 0, 0, 21, 22]);
-    assert_eq!(rt; copied, [21, 22, 0, 21, 22]);
-    assert_eq!(rt; third, [Some(22), Some(0)]);
-    assert_eq!(rt; still, copied);
-    assert!(rt; exists);
-    assert!(rt; saved.as_slice() == [22, 0].as_slice());
-    Ok(())
-}
-
-/// What is known of object 4 at its start, once its finalization has begun, and once it is
-/// complete.
-fn life_of_4(objects: &mut Objects) -> [Option<Existing>; 3] {
-    let start = objects.find(4);
-    objects.join(4);
-    objects.begin_finalization(4);
-    let begun = objects.find(4);
-    objects.end_finalization(4);
-    [start, begun, objects.find(4)]
+    right
 }
 
 #[test]
-fn a_finalization_begins_and_ends(rt: HostRuntime) {
-    let mut objects = Numbered::new(rt.alloc(), Vec::new(rt.alloc()));
-    let _ = four_objects(&mut objects);
-    let mut objects = objects.finish();
-    let life = life_of_4(&mut objects);
-    objects.end_finalization(3);
-    let other = objects.find(3);
-    objects.close();
-    let known = |life, has_joined| {
-        Some(Existing {
-            ty: Ty::Integer,
-            stage: Stage { life, has_joined },
-            origin: Origin::Allocated {
-                collection: 6,
-                place: Place::Standard,
-            },
-        })
-    };
-    let declared = Existing {
+fn cells_are_copied_and_saved(rt: HostRuntime) {
+    assert!(rt; are_copied_and_saved(rt.alloc()));
+}
+
+/// An integer of collection 6 at this stage.
+fn allocated(life: Life, has_joined: bool) -> Existing {
+    Existing {
+        ty: Ty::Integer,
+        stage: Stage { life, has_joined },
+        origin: Origin::Allocated {
+            collection: 6,
+            place: Place::Standard,
+        },
+    }
+}
+
+/// An object of record type 7 that is declared in master 2 and has not been touched.
+fn declared() -> Existing {
+    Existing {
         ty: Ty::Record(7),
         stage: Stage {
             life: Life::Untouched,
             has_joined: false,
         },
         origin: Origin::Declared(2),
-    };
-    assert!(rt; life[0] == known(Life::Untouched, false));
-    assert!(rt; life[1] == known(Life::Finalizing, true));
-    assert!(rt; life[2] == known(Life::Finalized, true));
-    assert!(rt; other == Some(declared));
+    }
+}
+
+fn is_known(objects: &Objects, number: u64, existing: Existing) -> bool {
+    objects.find(number) == Some(existing)
+}
+
+/// Says whether object 4 is known as it should be at its start, once its finalization has begun, and
+/// once it is complete, and object 3, whose finalization has not begun, stays as it is.
+fn has_life(objects: &mut Objects) -> bool {
+    let start = is_known(objects, 4, allocated(Life::Untouched, false));
+    objects.join(4);
+    objects.begin_finalization(4);
+    let begun = is_known(objects, 4, allocated(Life::Finalizing, true));
+    objects.end_finalization(4);
+    let ended = is_known(objects, 4, allocated(Life::Finalized, true));
+    objects.end_finalization(3);
+    start && begun && ended && is_known(objects, 3, declared())
+}
+
+fn is_life_known(alloc: Global) -> bool {
+    let mut objects = Numbered::new(alloc, Vec::new(alloc));
+    let _ = four_objects(&mut objects);
+    let mut objects = objects.finish();
+    let right = has_life(&mut objects);
+    objects.close();
+    right
+}
+
+#[test]
+fn a_finalization_begins_and_ends(rt: HostRuntime) {
+    assert!(rt; is_life_known(rt.alloc()));
 }

@@ -6,9 +6,8 @@ use ctl_objects::{
     Spot, Start, Waiting,
 };
 use ctl_program::types::Ty;
-use std::alloc::Global;
+use std::alloc::{AllocError, Global};
 use std::marker::Model;
-use std::test::Fail;
 
 /// The objects, and the number of the next one.
 struct Pooled {
@@ -265,11 +264,36 @@ impl Pooled {
         let Pooled { objects, next: _ } = self;
         objects
     }
+
+    /// Gives the objects up.
+    fn discard(self) {
+        self.finish().close();
+    }
+}
+
+/// No objects, of which those of record type 0 need finalization.
+fn no_objects(alloc: Global) -> Result<Pooled, AllocError> {
+    let needs = vec![in alloc; Need::Finalization; 1]?;
+    Ok(Pooled::new(alloc, needs))
+}
+
+/// So many objects of the group of the objects in blocks.
+fn so_many(count: usize) -> Option<Waiting> {
+    let group = Group {
+        collection: 6,
+        record_type: 0,
+    };
+    Some(Waiting { group, count })
+}
+
+/// The block at this address of pool 1.
+fn block_at(address: u64) -> Option<Place> {
+    Some(Place::InBlock(Spot { pool: 1, address }))
 }
 
 /// Object 1 is declared and has a pool, 2 is a plain one, and 3 and 4 lie in the blocks of the pool,
-/// and join their collection.
-fn four_objects(objects: &mut Pooled) -> [Option<Placing>; 2] {
+/// and join their collection. Answers whether both were placed.
+fn four_objects(objects: &mut Pooled) -> bool {
     let _ = objects.declare();
     let _ = objects.open(1);
     let _ = objects.allocate();
@@ -278,89 +302,106 @@ fn four_objects(objects: &mut Pooled) -> [Option<Placing>; 2] {
     let placed = [objects.place(1, first, 8), objects.place(1, second, 16)];
     objects.join(3);
     objects.join(4);
-    placed
+    matches!(placed, [Some(Placing::Placed), Some(Placing::Placed)])
 }
 
-#[test]
-fn objects_lie_in_blocks_beside_declared_ones(rt: HostRuntime) -> Result<(), Fail> {
-    let needs = vec![in rt.alloc(); Need::Finalization; 1]?;
-    let mut objects = Pooled::new(rt.alloc(), needs);
-    let placed = four_objects(&mut objects);
+/// Says whether the four objects hold what is written into them, and the declared one lies nowhere,
+/// the plain one in the standard pool, and the last in its block.
+fn are_written(objects: &mut Pooled) -> bool {
     objects.write(1, 11);
     objects.write(2, 12);
     objects.write(3, 13);
     objects.write(4, 14);
-    let written = objects.first_cells();
-    let places = [
-        objects.place_of(1),
-        objects.place_of(2),
-        objects.place_of(4),
-    ];
+    objects.first_cells() == [11, 12, 13, 14]
+        && objects.place_of(1).is_none()
+        && objects.place_of(2) == Some(Place::Standard)
+        && objects.place_of(4) == block_at(2)
+}
+
+/// Says whether both objects in blocks wait, no block is free, and none comes back before its object
+/// is forgotten, as an allocated one can be.
+fn are_held(objects: &mut Pooled) -> bool {
     let waiting = objects.waiting();
     let full = objects.take(1, 8);
     let held = objects.give(1, 1);
     let kept = objects.forget(1);
     let gone = objects.forget(3);
-    let one_left = objects.waiting();
+    waiting == so_many(2)
+        && full == 0
+        && matches!(held, Some(BlockReturn::Refused))
+        && !kept
+        && gone
+        && objects.waiting() == so_many(1)
+}
+
+/// Says whether the empty block comes back, once, and none to an object without a pool.
+fn are_given(objects: &mut Pooled) -> bool {
     let given = [objects.give(1, 1), objects.give(1, 1), objects.give(2, 2)];
-    objects.finish().close();
-    let group = Group {
-        collection: 6,
-        record_type: 0,
-    };
-    let spot = Spot {
-        pool: 1,
-        address: 2,
-    };
-    assert!(rt; placed[0] == Some(Placing::Placed) && placed[1] == Some(Placing::Placed));
-    assert_eq!(rt; written, [11, 12, 13, 14]);
-    assert!(rt; places[0].is_none() && places[1] == Some(Place::Standard));
-    assert!(rt; places[2] == Some(Place::InBlock(spot)));
-    assert!(rt; waiting == Some(Waiting { group, count: 2 }));
-    assert_eq!(rt; full, 0);
-    assert!(rt; held == Some(BlockReturn::Refused));
-    assert_eq!(rt; [kept, gone], [false, true]);
-    assert!(rt; one_left == Some(Waiting { group, count: 1 }));
-    assert!(rt; given[0] == Some(BlockReturn::Accepted));
-    assert!(rt; given[1] == Some(BlockReturn::Refused) && given[2].is_none());
-    Ok(())
+    matches!(
+        given,
+        [
+            Some(BlockReturn::Accepted),
+            Some(BlockReturn::Refused),
+            None
+        ]
+    )
+}
+
+fn are_in_blocks(alloc: Global) -> Result<bool, AllocError> {
+    let mut objects = no_objects(alloc)?;
+    let right = four_objects(&mut objects)
+        && are_written(&mut objects)
+        && are_held(&mut objects)
+        && are_given(&mut objects);
+    objects.discard();
+    Ok(right)
 }
 
 #[test]
-fn a_pool_closes_with_the_objects_in_its_blocks(rt: HostRuntime) -> Result<(), Fail> {
-    let needs = vec![in rt.alloc(); Need::Finalization; 1]?;
-    let mut objects = Pooled::new(rt.alloc(), needs);
-    let _ = four_objects(&mut objects);
-    let again = [objects.open(1), objects.open(2)];
-    objects.close(1);
-    let left = objects.first_cells();
-    let waiting = objects.waiting();
-    let pool = objects.objects.pool(1);
-    let taken = objects.take(1, 8);
-    let opened = objects.open(1);
-    objects.finish().close();
+fn objects_lie_in_blocks_beside_declared_ones(rt: HostRuntime) {
+    assert!(rt; matches!(are_in_blocks(rt.alloc()), Ok(true)));
+}
+
+/// Pool 1, closed.
+fn closed_pool() -> Option<Pool> {
     let size = PoolSize {
         block_size: 16,
         block_count: 2,
     };
-    assert_eq!(rt; again, [false, false]);
-    assert_eq!(rt; left, [0, 0, 100, 100]);
-    assert!(rt; waiting.is_none());
-    assert!(rt;
-        pool == Some(Pool {
-            size,
-            state: PoolState::Closed,
-        })
-    );
-    assert_eq!(rt; taken, 100);
-    assert!(rt; !opened);
-    Ok(())
+    let state = PoolState::Closed;
+    Some(Pool { size, state })
+}
+
+/// Says whether no second pool opens for an object and none for an allocated one, the objects in the
+/// blocks of a pool end with it, and it serves nothing then and does not open again.
+fn is_closed(objects: &mut Pooled) -> bool {
+    let again = [objects.open(1), objects.open(2)];
+    objects.close(1);
+    let left = objects.first_cells();
+    let taken = objects.take(1, 8);
+    again == [false, false]
+        && left == [0, 0, 100, 100]
+        && taken == 100
+        && objects.waiting().is_none()
+        && objects.objects.pool(1) == closed_pool()
+        && !objects.open(1)
+}
+
+fn is_closed_with_its_objects(alloc: Global) -> Result<bool, AllocError> {
+    let mut objects = no_objects(alloc)?;
+    let right = four_objects(&mut objects) && is_closed(&mut objects);
+    objects.discard();
+    Ok(right)
 }
 
 #[test]
-fn a_pool_comes_with_its_object_and_a_block_with_its_own(rt: HostRuntime) -> Result<(), Fail> {
-    let needs = vec![in rt.alloc(); Need::Finalization; 1]?;
-    let mut objects = Pooled::new(rt.alloc(), needs);
+fn a_pool_closes_with_the_objects_in_its_blocks(rt: HostRuntime) {
+    assert!(rt; matches!(is_closed_with_its_objects(rt.alloc()), Ok(true)));
+}
+
+/// Says whether an object is declared with its pool, which serves what its blocks have room for while
+/// one is free, and an object without a pool serves nothing.
+fn are_served(objects: &mut Pooled) -> bool {
     let declared = [objects.declare_pool(), objects.allocate()];
     let served = [
         objects.serve(1, 17),
@@ -369,32 +410,41 @@ fn a_pool_comes_with_its_object_and_a_block_with_its_own(rt: HostRuntime) -> Res
         objects.serve(1, 8),
         objects.serve(2, 8),
     ];
+    declared == [1, 2] && served == [0, 1, 2, 0, 100]
+}
+
+/// Says whether the objects that were served hold what is written into them, and the first of them
+/// lies in its block and waits.
+fn are_there(objects: &mut Pooled) -> bool {
     objects.join(3);
     objects.write(3, 13);
     objects.write(4, 14);
-    let written = objects.first_cells();
-    let place = objects.place_of(3);
-    let waiting = objects.waiting();
+    objects.first_cells() == [0, 0, 13, 14]
+        && objects.place_of(3) == block_at(1)
+        && objects.waiting() == so_many(1)
+}
+
+/// Says whether a block comes back once its object is forgotten, and is served under a new address.
+fn is_served_again(objects: &mut Pooled) -> bool {
     let held = objects.give(1, 1);
     let _ = objects.forget(3);
     let returned = objects.give(1, 1);
     let again = objects.serve(1, 8);
-    objects.finish().close();
-    let group = Group {
-        collection: 6,
-        record_type: 0,
-    };
-    let spot = Spot {
-        pool: 1,
-        address: 1,
-    };
-    assert_eq!(rt; declared, [1, 2]);
-    assert_eq!(rt; served, [0, 1, 2, 0, 100]);
-    assert_eq!(rt; written, [0, 0, 13, 14]);
-    assert!(rt; place == Some(Place::InBlock(spot)));
-    assert!(rt; waiting == Some(Waiting { group, count: 1 }));
-    assert!(rt; held == Some(BlockReturn::Refused));
-    assert!(rt; returned == Some(BlockReturn::Accepted));
-    assert_eq!(rt; again, 3);
-    Ok(())
+    matches!(held, Some(BlockReturn::Refused))
+        && matches!(returned, Some(BlockReturn::Accepted))
+        && again == 3
+}
+
+fn come_with_their_own(alloc: Global) -> Result<bool, AllocError> {
+    let mut objects = no_objects(alloc)?;
+    let right = are_served(&mut objects)
+        && are_there(&mut objects)
+        && is_served_again(&mut objects);
+    objects.discard();
+    Ok(right)
+}
+
+#[test]
+fn a_pool_comes_with_its_object_and_a_block_with_its_own(rt: HostRuntime) {
+    assert!(rt; matches!(come_with_their_own(rt.alloc()), Ok(true)));
 }

@@ -5,9 +5,8 @@ use ctl_storage::{
     Allocation, BlockReturn, Life, ObjectStorage, Place, Placing, Pool, PoolSize, PoolState, Spot,
     Stage, Step,
 };
-use std::alloc::Global;
+use std::alloc::{AllocError, Global};
 use std::marker::Model;
-use std::test::Fail;
 
 /// The storage, and the number of the next object.
 struct Numbered {
@@ -205,11 +204,16 @@ impl Numbered {
         let Numbered { storage, next: _ } = self;
         storage
     }
+
+    /// Gives the storage up.
+    fn discard(self) {
+        self.finish().close();
+    }
 }
 
-#[test]
-fn blocks_go_out_and_come_back(rt: HostRuntime) {
-    let mut storage = Numbered::new(rt.alloc());
+/// Says whether a pool opens, once, and its blocks go out one after another, each for what it has
+/// room for.
+fn are_taken(storage: &mut Numbered) -> bool {
     let opened = [storage.open(7), storage.open(7)];
     let taken = [
         storage.take(7, 17),
@@ -217,63 +221,98 @@ fn blocks_go_out_and_come_back(rt: HostRuntime) {
         storage.take(7, 8),
         storage.take(7, 8),
     ];
+    opened == [true, false] && taken == [0, 1, 2, 0]
+}
+
+/// Says whether a block comes back, once, one of no pool does not, and the next gets a new address.
+fn are_given(storage: &mut Numbered) -> bool {
     let given = [
         storage.give(7, 1),
         storage.give(7, 1),
         storage.give(7, 9),
         storage.give(8, 2),
     ];
-    let again = storage.take(7, 8);
-    storage.finish().close();
-    assert_eq!(rt; opened, [true, false]);
-    assert_eq!(rt; taken, [0, 1, 2, 0]);
-    assert!(rt; given[0] == Some(BlockReturn::Accepted));
-    assert!(rt; given[1] == Some(BlockReturn::Refused));
-    assert!(rt; given[2] == Some(BlockReturn::Refused));
-    assert!(rt; given[3].is_none());
-    assert_eq!(rt; again, 3);
+    let wanted = matches!(
+        given,
+        [
+            Some(BlockReturn::Accepted),
+            Some(BlockReturn::Refused),
+            Some(BlockReturn::Refused),
+            None
+        ]
+    );
+    wanted && storage.take(7, 8) == 3
 }
 
-/// Object 1 lies in the standard pool, 2 and 3 in the blocks of pool 7.
-fn three_objects(storage: &mut Numbered) -> [Option<Placing>; 2] {
+fn are_out_and_back(alloc: Global) -> bool {
+    let mut storage = Numbered::new(alloc);
+    let right = are_taken(&mut storage) && are_given(&mut storage);
+    storage.discard();
+    right
+}
+
+#[test]
+fn blocks_go_out_and_come_back(rt: HostRuntime) {
+    assert!(rt; are_out_and_back(rt.alloc()));
+}
+
+/// Object 1 lies in the standard pool, 2 and 3 in the blocks of pool 7. Answers whether both were
+/// placed.
+fn three_objects(storage: &mut Numbered) -> bool {
     let _ = storage.open(7);
     let _ = storage.add(2);
     let first = storage.take(7, 8);
     let second = storage.take(7, 16);
-    [storage.place(7, first, 8), storage.place(7, second, 16)]
+    let placed = [storage.place(7, first, 8), storage.place(7, second, 16)];
+    matches!(placed, [Some(Placing::Placed), Some(Placing::Placed)])
 }
 
-#[test]
-fn objects_lie_in_blocks(rt: HostRuntime) {
-    let mut storage = Numbered::new(rt.alloc());
-    let placed = three_objects(&mut storage);
+/// Says whether no object is placed in a block that has one, nor where none is, and all are new and
+/// hold what is written into them.
+fn are_written(storage: &mut Numbered) -> bool {
     let refused = [storage.place(7, 1, 8), storage.place(7, 5, 8)];
     let new = storage.first_cells();
     storage.write(1, 0, 11);
     storage.write(2, 0, 12);
     storage.write(3, 0, 13);
     storage.write(3, 1, 14);
-    let written = storage.first_cells();
+    matches!(refused, [Some(Placing::Refused), Some(Placing::Refused)])
+        && new == [0, 0, 0]
+        && storage.first_cells() == [11, 12, 13]
+}
+
+/// Says whether a block comes back once its object is removed, which goes once, and has no room for
+/// a larger one.
+fn are_removed(storage: &mut Numbered) -> bool {
     let held = storage.give(7, 1);
     let removed = [storage.remove(2), storage.remove(2)];
     let left = storage.first_cells();
     let small = storage.place(7, 1, 17);
     let returned = storage.give(7, 1);
-    storage.finish().close();
-    assert!(rt; placed[0] == Some(Placing::Placed) && placed[1] == Some(Placing::Placed));
-    assert!(rt; refused[0] == Some(Placing::Refused) && refused[1] == Some(Placing::Refused));
-    assert_eq!(rt; new, [0, 0, 0]);
-    assert_eq!(rt; written, [11, 12, 13]);
-    assert!(rt; held == Some(BlockReturn::Refused));
-    assert_eq!(rt; removed, [true, false]);
-    assert_eq!(rt; left, [11, 100, 13]);
-    assert!(rt; small == Some(Placing::Refused));
-    assert!(rt; returned == Some(BlockReturn::Accepted));
+    matches!(held, Some(BlockReturn::Refused))
+        && removed == [true, false]
+        && left == [11, 100, 13]
+        && matches!(small, Some(Placing::Refused))
+        && matches!(returned, Some(BlockReturn::Accepted))
+}
+
+fn are_in_blocks(alloc: Global) -> bool {
+    let mut storage = Numbered::new(alloc);
+    let right = three_objects(&mut storage)
+        && are_written(&mut storage)
+        && are_removed(&mut storage);
+    storage.discard();
+    right
 }
 
 #[test]
-fn objects_come_with_their_blocks(rt: HostRuntime) {
-    let mut storage = Numbered::new(rt.alloc());
+fn objects_lie_in_blocks(rt: HostRuntime) {
+    assert!(rt; are_in_blocks(rt.alloc()));
+}
+
+/// Says whether a pool serves what its blocks have room for, while one is free, no other pool serves
+/// anything, and the objects hold what is written into them.
+fn are_served(storage: &mut Numbered) -> bool {
     let _ = storage.open(7);
     let served = [
         storage.serve(7, 17),
@@ -284,80 +323,90 @@ fn objects_come_with_their_blocks(rt: HostRuntime) {
     ];
     storage.write(1, 0, 11);
     storage.write(2, 0, 12);
-    let written = storage.first_cells();
+    served == [0, 1, 2, 0, 100] && storage.first_cells() == [11, 12, 100]
+}
+
+/// Says whether a block comes back once its object is removed, and is served under a new address.
+fn is_served_again(storage: &mut Numbered) -> bool {
     let held = storage.give(7, 1);
     let _ = storage.remove(1);
     let returned = storage.give(7, 1);
     let again = storage.serve(7, 8);
-    let left = storage.first_cells();
-    storage.finish().close();
-    assert_eq!(rt; served, [0, 1, 2, 0, 100]);
-    assert_eq!(rt; written, [11, 12, 100]);
-    assert!(rt; held == Some(BlockReturn::Refused));
-    assert!(rt; returned == Some(BlockReturn::Accepted));
-    assert_eq!(rt; again, 3);
-    assert_eq!(rt; left, [100, 12, 0]);
+    matches!(held, Some(BlockReturn::Refused))
+        && matches!(returned, Some(BlockReturn::Accepted))
+        && again == 3
+        && storage.first_cells() == [100, 12, 0]
+}
+
+fn come_with_their_blocks(alloc: Global) -> bool {
+    let mut storage = Numbered::new(alloc);
+    let right = are_served(&mut storage) && is_served_again(&mut storage);
+    storage.discard();
+    right
 }
 
 #[test]
-fn a_pool_closes_with_its_objects(rt: HostRuntime) {
-    let mut storage = Numbered::new(rt.alloc());
-    let _ = three_objects(&mut storage);
+fn objects_come_with_their_blocks(rt: HostRuntime) {
+    assert!(rt; come_with_their_blocks(rt.alloc()));
+}
+
+/// Pool 7, closed.
+fn closed_pool() -> Option<Pool> {
+    let size = PoolSize {
+        block_size: 16,
+        block_count: 2,
+    };
+    let state = PoolState::Closed;
+    Some(Pool { size, state })
+}
+
+/// Says whether an open pool closes, with the objects in its blocks, and serves nothing then.
+fn is_closed(storage: &mut Numbered) -> bool {
     let open = storage.is_open(7);
     storage.close(7);
     let closed = storage.is_open(7);
     let left = storage.first_cells();
     let taken = storage.take(7, 8);
-    let there = storage.storage.pool(7);
-    storage.drop_closed(7);
-    let dropped = storage.storage.pool(7);
-    storage.finish().close();
-    assert!(rt; open && !closed);
-    assert_eq!(rt; left, [0, 100, 100]);
-    assert_eq!(rt; taken, 100);
-    assert!(rt;
-        there
-            == Some(Pool {
-                size: PoolSize {
-                    block_size: 16,
-                    block_count: 2,
-                },
-                state: PoolState::Closed,
-            })
-    );
-    assert!(rt; dropped.is_none());
+    open && !closed && left == [0, 100, 100] && taken == 100
 }
 
-/// What is known of object 2 at its start, and once it has joined and its finalization has begun.
-fn life_of_2(storage: &mut ObjectStorage) -> [Option<Allocation>; 2] {
-    let start = storage.find(2);
-    let _ = storage.step(2, Step::Join);
-    let _ = storage.step(2, Step::Begin);
-    [start, storage.find(2)]
+/// Says whether pool 7 is known as a closed one, until it is dropped.
+fn is_dropped(storage: &mut Numbered) -> bool {
+    let there = storage.storage.pool(7);
+    storage.drop_closed(7);
+    there == closed_pool() && storage.storage.pool(7).is_none()
+}
+
+fn is_closed_with_its_objects(alloc: Global) -> bool {
+    let mut storage = Numbered::new(alloc);
+    let _ = three_objects(&mut storage);
+    let right = is_closed(&mut storage) && is_dropped(&mut storage);
+    storage.discard();
+    right
 }
 
 #[test]
-fn what_is_known_of_an_object(rt: HostRuntime) {
-    let mut storage = Numbered::new(rt.alloc());
-    let _ = three_objects(&mut storage);
-    let mut storage = storage.finish();
-    let life = life_of_2(&mut storage);
-    let ended = storage.step(1, Step::End);
-    let other = storage.find(9);
-    storage.close();
-    let known = |life, has_joined| {
-        Some(Allocation {
-            ty: Ty::Integer,
-            collection: 6,
-            place: Place::InBlock(Spot {
-                pool: 7,
-                address: 1,
-            }),
-            cells: 1,
-            stage: Stage { life, has_joined },
-        })
-    };
-    let standard = Allocation {
+fn a_pool_closes_with_its_objects(rt: HostRuntime) {
+    assert!(rt; is_closed_with_its_objects(rt.alloc()));
+}
+
+/// Object 2, in the first block of pool 7, at this stage.
+fn second(life: Life, has_joined: bool) -> Option<Allocation> {
+    Some(Allocation {
+        ty: Ty::Integer,
+        collection: 6,
+        place: Place::InBlock(Spot {
+            pool: 7,
+            address: 1,
+        }),
+        cells: 1,
+        stage: Stage { life, has_joined },
+    })
+}
+
+/// Object 1, in the standard pool, untouched.
+fn first() -> Option<Allocation> {
+    Some(Allocation {
         ty: Ty::Integer,
         collection: 5,
         place: Place::Standard,
@@ -366,11 +415,43 @@ fn what_is_known_of_an_object(rt: HostRuntime) {
             life: Life::Untouched,
             has_joined: false,
         },
-    };
-    assert!(rt; life[0] == known(Life::Untouched, false));
-    assert!(rt; life[1] == known(Life::Finalizing, true));
-    assert!(rt; ended == Some(standard));
-    assert!(rt; other.is_none());
+    })
+}
+
+/// Says whether object 2 is known as it should be at its start, and once it has joined and its
+/// finalization has begun, and object 1, whose finalization has not begun, stays as it is.
+fn has_life(storage: &mut ObjectStorage) -> bool {
+    let start = storage.find(2);
+    let _ = storage.step(2, Step::Join);
+    let _ = storage.step(2, Step::Begin);
+    start == second(Life::Untouched, false)
+        && storage.find(2) == second(Life::Finalizing, true)
+        && storage.step(1, Step::End) == first()
+        && storage.find(9).is_none()
+}
+
+fn is_life_known(alloc: Global) -> bool {
+    let mut storage = Numbered::new(alloc);
+    let _ = three_objects(&mut storage);
+    let mut storage = storage.finish();
+    let right = has_life(&mut storage);
+    storage.close();
+    right
+}
+
+#[test]
+fn what_is_known_of_an_object(rt: HostRuntime) {
+    assert!(rt; is_life_known(rt.alloc()));
+}
+
+/// Says whether the objects that exist, and they alone, take several cells at once.
+fn are_all_written(storage: &mut ObjectStorage) -> bool {
+    let exists = [
+        storage.write_all(1, 1, &[21, 22]),
+        storage.write_all(2, 0, &[31, 32]),
+        storage.write_all(9, 0, &[41]),
+    ];
+    exists == [true, true, false]
 }
 
 /// Saves the first cells of an object, where there is room, and answers whether it exists.
@@ -382,23 +463,26 @@ fn save_first(storage: &ObjectStorage, number: u64, count: usize, saved: &mut Ve
     storage.save(number, 0, count, saved)
 }
 
-#[test]
-fn cells_are_written_and_saved(rt: HostRuntime) -> Result<(), Fail> {
-    let mut saved = Vec::with_capacity(rt.alloc(), 5)?;
-    let mut storage = Numbered::new(rt.alloc());
+/// Says whether the cells of two objects are saved, zero for those behind the last, and none of an
+/// object that does not exist.
+fn are_saved(alloc: Global, storage: &ObjectStorage) -> Result<bool, AllocError> {
+    let mut saved = Vec::with_capacity(alloc, 5)?;
+    let first = save_first(storage, 1, 3, &mut saved);
+    let second = save_first(storage, 2, 2, &mut saved);
+    let none = save_first(storage, 9, 0, &mut saved);
+    Ok(first && second && !none && saved.as_slice() == [0, 21, 0, 31, 0].as_slice())
+}
+
+fn are_written_and_saved(alloc: Global) -> bool {
+    let mut storage = Numbered::new(alloc);
     let _ = three_objects(&mut storage);
     let mut storage = storage.finish();
-    let exists = [
-        storage.write_all(1, 1, &[21, 22]),
-        storage.write_all(2, 0, &[31, 32]),
-        storage.write_all(9, 0, &[41]),
-    ];
-    let first = save_first(&storage, 1, 3, &mut saved);
-    let second = save_first(&storage, 2, 2, &mut saved);
-    let none = save_first(&storage, 9, 0, &mut saved);
+    let right = are_all_written(&mut storage) && matches!(are_saved(alloc, &storage), Ok(true));
     storage.close();
-    assert_eq!(rt; exists, [true, true, false]);
-    assert!(rt; first && second && !none);
-    assert!(rt; saved.as_slice() == [0, 21, 0, 31, 0].as_slice());
-    Ok(())
+    right
+}
+
+#[test]
+fn cells_are_written_and_saved(rt: HostRuntime) {
+    assert!(rt; are_written_and_saved(rt.alloc()));
 }

@@ -1,8 +1,7 @@
-use crate::HEAP_STEP;
-use linked_list_allocator::LocalHeap;
+use crate::growths::{Grown, refuses_each_growth};
+use crate::script::Call;
 use pool_area::{MarkArea, Standing};
-use std::alloc::Allocator;
-use std::test::Fail;
+use std::alloc::{Allocator, Global};
 
 // The calls, each with its condition tested first. 1000 stands for a condition that does not hold, 2000 for memory.
 
@@ -56,106 +55,6 @@ fn drop_last<A: Allocator>(area: &mut MarkArea<A>, number: u64) -> bool {
     true
 }
 
-/// A pool of four words: two of them are taken in its first subpool, 1, and two in a further one, 2.
-fn two_subpools<A: Allocator + Copy>(area: &mut MarkArea<A>, alloc: A) -> ([usize; 4], [bool; 4]) {
-    let first = allocate(area, 1, 7, 2);
-    let written = write(area, 1, 0, 1, 5);
-    let made = create(area, alloc, 2);
-    let below = allocate(area, 1, 9, 1);
-    let large = allocate(area, 2, 8, 3);
-    let second = allocate(area, 2, 8, 2);
-    let again = write(area, 2, 0, 0, 6);
-    (
-        [first, below, large, second],
-        [written, made, again, area.is_overfull(8)],
-    )
-}
-
-/// The words, the objects and the numbers of blocks in the two, and what is told once the second one's block is vacated.
-fn blocks_told<A: Allocator>(
-    area: &mut MarkArea<A>,
-) -> (
-    ([u64; 3], [Option<u64>; 3], [usize; 3]),
-    (Option<u64>, usize, bool),
-) {
-    let words = [
-        read(area, 1, 0, 1),
-        read(area, 2, 0, 0),
-        read(area, 2, 0, 1),
-    ];
-    let objects = [area.object(1, 0), area.object(2, 0), area.object(2, 1)];
-    let counts = [area.count(1), area.count(2), area.count(3)];
-    area.vacate(2, 0);
-    let vacated = (area.object(2, 0), area.block_len(2, 0), area.is_overfull(8));
-    ((words, objects, counts), vacated)
-}
-
-#[test]
-fn blocks_are_taken_in_the_last_subpool(rt: HostRuntime) -> Result<(), Fail> {
-    let mut area = MarkArea::new(rt.alloc(), 32, 1)?;
-    let (indices, held) = two_subpools(&mut area, rt.alloc());
-    let (told, vacated) = blocks_told(&mut area);
-    area.close();
-    assert_eq!(rt;
-        (indices, held),
-        ([0, 1000, 1000, 0], [true, true, true, true])
-    );
-    assert_eq!(rt; told, ([5, 6, 0], [Some(7), Some(8), None], [1, 1, 0]));
-    assert_eq!(rt; vacated, (None, 0, true));
-    Ok(())
-}
-
-/// The first of two subpools is dead: how the subpools stand, and whether the last one is dead.
-fn dead_first<A: Allocator>(area: &mut MarkArea<A>) -> ([Option<Standing>; 3], bool) {
-    area.set_standing(1, Standing::Dead);
-    let standing = [area.standing(1), area.standing(2), area.standing(3)];
-    (standing, area.is_last_dead())
-}
-
-/// Drops the last subpool twice: whether it can be, how many subpools stand then, which one is the last, and whether it is
-/// dead or how it stands.
-fn dropped_twice<A: Allocator>(
-    area: &mut MarkArea<A>,
-) -> (
-    [bool; 2],
-    (usize, Option<u64>, bool),
-    (usize, Option<u64>, Option<Standing>),
-) {
-    let dropped = drop_last(area, 3);
-    let left = (area.len(), area.last_number(), area.is_last_dead());
-    let again = drop_last(area, 3);
-    let renewed = (area.len(), area.last_number(), area.standing(3));
-    ([dropped, again], left, renewed)
-}
-
-#[test]
-fn the_last_subpool_is_dropped(rt: HostRuntime) -> Result<(), Fail> {
-    let mut area = MarkArea::new(rt.alloc(), 32, 1)?;
-    let _ = two_subpools(&mut area, rt.alloc());
-    let standing = dead_first(&mut area);
-    let dropped = dropped_twice(&mut area);
-    let index = allocate(&mut area, 3, 7, 4);
-    let word = read(&area, 3, 0, 1);
-    area.close();
-    assert_eq!(rt;
-        standing,
-        (
-            [Some(Standing::Dead), Some(Standing::Attached), None],
-            false
-        )
-    );
-    assert_eq!(rt;
-        dropped,
-        (
-            [true, true],
-            (1, Some(1), true),
-            (1, Some(3), Some(Standing::Attached))
-        )
-    );
-    assert_eq!(rt; (index, word), (0, 0));
-    Ok(())
-}
-
 fn release<A: Allocator>(area: &mut MarkArea<A>, number: u64, next: u64) -> bool {
     if next == u64::MAX || area.given() >= next {
         return false;
@@ -163,105 +62,157 @@ fn release<A: Allocator>(area: &mut MarkArea<A>, number: u64, next: u64) -> bool
     area.release(number, next)
 }
 
-/// A second subpool with an object of a word, and a third one with an object of three: whether each was made, and where
-/// the blocks stand.
-fn two_more_subpools<A: Allocator + Copy>(
-    area: &mut MarkArea<A>,
-    alloc: A,
-) -> ([bool; 2], [usize; 2]) {
-    let second = create(area, alloc, 2);
-    let below = allocate(area, 2, 6, 1);
-    let third = create(area, alloc, 3);
-    ([second, third], [below, allocate(area, 3, 7, 3)])
+/// Copies the first three words of a block to the places from the second on.
+fn copy_words<A: Allocator>(area: &mut MarkArea<A>, number: u64) -> bool {
+    if area.block_len(number, 0) < 4 {
+        return false;
+    }
+    area.copy_within(number, 0, 0, 1, 3);
+    true
 }
 
-/// Releases the second of three subpools: whether it is gone, how many stand, how it stands, whether a word more is too
-/// much, and the objects of the second and the third.
-fn second_released<A: Allocator>(
-    area: &mut MarkArea<A>,
-) -> (bool, (usize, Option<Standing>, bool), [Option<u64>; 2]) {
-    let below = release(area, 2, 9);
-    let standing = (area.len(), area.standing(2), area.is_overfull(8));
-    let objects = [area.object(2, 0), area.object(3, 0)];
-    (below, standing, objects)
+fn kill<A: Allocator>(area: &mut MarkArea<A>, number: u64) -> bool {
+    area.set_standing(number, Standing::Dead);
+    area.is_last_dead()
 }
 
-/// Releases the third subpool and then the first: whether each is gone, how many stand then and which is the last, whether
-/// the whole pool more is too much, and whether the last one is dead.
-fn others_released<A: Allocator>(
-    area: &mut MarkArea<A>,
-) -> ([bool; 2], [(usize, Option<u64>, bool); 2]) {
-    let last = release(area, 3, 9);
-    let left = (area.len(), area.last_number(), area.is_overfull(32));
-    let first = release(area, 1, 9);
-    let renewed = (area.len(), area.last_number(), area.is_last_dead());
-    ([last, first], [left, renewed])
+fn vacate<A: Allocator>(area: &mut MarkArea<A>, number: u64, index: usize) -> usize {
+    area.vacate(number, index);
+    area.block_len(number, index)
 }
 
-/// Of three subpools the second is released first: it stays, without its object, until the third is.
-#[test]
-fn a_release_drops_the_dead_ones(rt: HostRuntime) -> Result<(), Fail> {
-    let mut area = MarkArea::new(rt.alloc(), 32, 1)?;
-    let made = two_more_subpools(&mut area, rt.alloc());
-    let second = second_released(&mut area);
-    let others = others_released(&mut area);
-    area.close();
-    assert_eq!(rt; made, ([true, true], [0, 0]));
-    assert_eq!(rt;
-        second,
-        (false, (3, Some(Standing::Dead), true), [None, Some(7)])
-    );
-    assert_eq!(rt;
-        others,
-        ([true, true], [(1, Some(1), false), (1, Some(9), false)])
-    );
-    Ok(())
+/// 0 where there is none.
+fn standing_of<A: Allocator>(area: &MarkArea<A>, number: u64) -> u64 {
+    match area.standing(number) {
+        Some(Standing::Attached) => 1,
+        Some(Standing::Detached) => 2,
+        Some(Standing::Dead) => 3,
+        None => 0,
+    }
 }
 
-#[test]
-fn ten_subpools_stand(rt: HostRuntime) -> Result<(), Fail> {
-    let mut area = MarkArea::new(rt.alloc(), 8, 1)?;
-    let mut refused = 0;
-    for number in 2..13 {
-        if !create(&mut area, rt.alloc(), number) {
-            refused = number;
+/// 3000 where there is none.
+fn or_none(number: Option<u64>) -> u64 {
+    match number {
+        Some(number) => number,
+        None => 3000,
+    }
+}
+
+/// Makes one call: Allocate number object words, Create number, Drop number, Free number next (`release`), Kill number
+/// (whether the last one is dead then), Move number (`copy_words`), Vacate number index (the block's length then), and
+/// Write number index place value.
+fn answer<A: Allocator + Copy>(area: &mut MarkArea<A>, alloc: A, call: Call) -> u64 {
+    let [_, b, c, d, e, _] = call.numbers;
+    match call.capital {
+        b'A' => allocate(area, c, d, e as usize) as u64,
+        b'C' => create(area, alloc, e) as u64,
+        b'D' => drop_last(area, e) as u64,
+        b'F' => release(area, d, e) as u64,
+        b'K' => kill(area, e) as u64,
+        b'M' => copy_words(area, e) as u64,
+        b'V' => vacate(area, d, e as usize) as u64,
+        b'W' => write(area, b, c as usize, d as usize, e) as u64,
+        _ => told(area, call),
+    }
+}
+
+/// Asks a question: Blocks number (`count`), Holder number index (`object`), Is dead (`is_last_dead`), Last
+/// (`last_number`), Number place (`number_at`), Overfull units, Pools (`len`), Read number index place, and Standing
+/// number.
+fn told<A: Allocator>(area: &MarkArea<A>, call: Call) -> u64 {
+    let [_, _, c, d, e, _] = call.numbers;
+    match call.capital {
+        b'B' => area.count(e) as u64,
+        b'H' => or_none(area.object(d, e as usize)),
+        b'I' => area.is_last_dead() as u64,
+        b'L' => or_none(area.last_number()),
+        b'N' => or_none(area.number_at(e as usize)),
+        b'O' => area.is_overfull(e) as u64,
+        b'P' => area.len() as u64,
+        b'R' => read(area, c, d as usize, e as usize),
+        b'S' => standing_of(area, e),
+        _ => 4000,
+    }
+}
+
+/// Makes the calls of a text: whether each answers what the text says.
+fn are_answered<A: Allocator + Copy>(area: &mut MarkArea<A>, alloc: A, calls: &str) -> bool {
+    let mut call = Call::new();
+    for byte in calls.as_bytes() {
+        if *byte == b';' {
+            if !call.is_answer(answer(area, alloc, call)) {
+                return false;
+            }
+            call = Call::new();
+        } else {
+            call = call.with(*byte);
         }
     }
-    let last = (
-        area.len(),
-        area.number_at(0),
-        area.number_at(9),
-        area.number_at(10),
-    );
-    area.close();
-    assert_eq!(rt; refused, 12);
-    assert_eq!(rt; last, (10, Some(1), Some(10), None));
-    Ok(())
+    call.capital == 0
 }
 
-#[test]
-fn words_are_copied(rt: HostRuntime) -> Result<(), Fail> {
-    let mut area = MarkArea::new(rt.alloc(), 32, 1)?;
-    let _ = allocate(&mut area, 1, 7, 4);
-    let _ = write(&mut area, 1, 0, 0, 1);
-    let _ = write(&mut area, 1, 0, 1, 2);
-    let long = area.block_len(1, 0);
-    if long >= 4 {
-        area.copy_within(1, 0, 0, 1, 3);
+/// Makes the calls of a text on a new pool of so many storage units, and closes it.
+fn is_right(alloc: Global, units: u64, calls: &str) -> bool {
+    if units < 8 || units > 16777216 {
+        return false;
     }
-    let words = [
-        read(&area, 1, 0, 0),
-        read(&area, 1, 0, 1),
-        read(&area, 1, 0, 2),
-        read(&area, 1, 0, 3),
-    ];
+    let Ok(mut area) = MarkArea::new(alloc, units, 1) else {
+        return false;
+    };
+    let right = are_answered(&mut area, alloc, calls);
     area.close();
-    assert_eq!(rt; words, [1, 1, 2, 0]);
-    Ok(())
+    right
+}
+
+/// A pool of four words: two of them are taken in its first subpool, 1, and two in a further one, 2. Then the second one's
+/// block is vacated.
+const TWO_SUBPOOLS: &str =
+    "Allocate 1 7 2=0; Write 1 0 1 5=1; Create 2=1; Allocate 1 9 1=1000; Allocate 2 8 3=1000; Allocate 2 8 2=0; Write 2 0 0 6=1; Overfull 8=1; Read 1 0 1=5; Read 2 0 0=6; Read 2 0 1=0; Holder 1 0=7; Holder 2 0=8; Holder 2 1=3000; Blocks 1=1; Blocks 2=1; Blocks 3=0; Vacate 2 0=0; Holder 2 0=3000; Overfull 8=1;";
+
+#[test]
+fn blocks_are_taken_in_the_last_subpool(rt: HostRuntime) {
+    assert!(rt; is_right(rt.alloc(), 32, TWO_SUBPOOLS));
+}
+
+/// The first of two subpools is dead, and the last one is dropped twice; in the one that stands then the whole pool is
+/// taken.
+const DROPPED_TWICE: &str =
+    "Allocate 1 7 2=0; Write 1 0 1 5=1; Create 2=1; Allocate 1 9 1=1000; Allocate 2 8 3=1000; Allocate 2 8 2=0; Write 2 0 0 6=1; Kill 1=0; Standing 1=3; Standing 2=1; Standing 3=0; Is dead =0; Drop 3=1; Pools =1; Last =1; Is dead =1; Drop 3=1; Pools =1; Last =3; Standing 3=1; Allocate 3 7 4=0; Read 3 0 1=0;";
+
+#[test]
+fn the_last_subpool_is_dropped(rt: HostRuntime) {
+    assert!(rt; is_right(rt.alloc(), 32, DROPPED_TWICE));
+}
+
+/// Of three subpools the second is released first: it stays, without its object, until the third is. Then the first is
+/// released.
+const RELEASED: &str =
+    "Create 2=1; Allocate 2 6 1=0; Create 3=1; Allocate 3 7 3=0; Free 2 9=0; Pools =3; Standing 2=3; Overfull 8=1; Holder 2 0=3000; Holder 3 0=7; Free 3 9=1; Pools =1; Last =1; Overfull 32=0; Free 1 9=1; Pools =1; Last =9; Is dead =0;";
+
+#[test]
+fn a_release_drops_the_dead_ones(rt: HostRuntime) {
+    assert!(rt; is_right(rt.alloc(), 32, RELEASED));
+}
+
+const TEN: &str =
+    "Create 2=1; Create 3=1; Create 4=1; Create 5=1; Create 6=1; Create 7=1; Create 8=1; Create 9=1; Create 10=1; Create 11=0; Create 12=0; Pools =10; Number 0=1; Number 9=10; Number 10=3000;";
+
+#[test]
+fn ten_subpools_stand(rt: HostRuntime) {
+    assert!(rt; is_right(rt.alloc(), 8, TEN));
+}
+
+const COPIED: &str =
+    "Allocate 1 7 4=0; Write 1 0 0 1=1; Write 1 0 1 2=1; Move 1=1; Read 1 0 0=1; Read 1 0 1=1; Read 1 0 2=2; Read 1 0 3=0;";
+
+#[test]
+fn words_are_copied(rt: HostRuntime) {
+    assert!(rt; is_right(rt.alloc(), 32, COPIED));
 }
 
 /// A pool with two objects over a heap: whether all was made, and whether what was made before a refusal stays.
-fn grow_on<A: Allocator + Copy>(heap: A) -> [bool; 2] {
+pub fn grow_on<A: Allocator + Copy>(heap: A) -> [bool; 2] {
     match MarkArea::new(heap, 64, 1) {
         Ok(area) => {
             let mut area = area;
@@ -278,21 +229,7 @@ fn grow_on<A: Allocator + Copy>(heap: A) -> [bool; 2] {
     }
 }
 
-/// Heaps that are too small refuse, and all have their bytes back after `close`.
 #[test]
-fn each_growth_is_refused(rt: HostRuntime) -> Result<(), Fail> {
-    let mut made = false;
-    for size in 0..80 {
-        let heap = LocalHeap::new(rt.alloc(), HEAP_STEP * size)?;
-        let [all, same] = grow_on(&heap);
-        assert!(rt; same);
-        assert_eq!(rt; heap.used(), 0);
-        // No heap refuses what a smaller one had room for.
-        assert!(rt; all || !made);
-        // A heap without room refuses.
-        assert!(rt; !all || size > 0);
-        made = all;
-    }
-    assert!(rt; made);
-    Ok(())
+fn each_growth_is_refused(rt: HostRuntime) {
+    assert!(rt; refuses_each_growth(rt.alloc(), Grown::Area, 80));
 }

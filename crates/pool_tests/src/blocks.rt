@@ -1,10 +1,10 @@
 ghost use Rattle.std.specs.Prelude.{◌≡◌, ◌≤◌, length};
 
+use crate::growths::{Grown, refuses_each_growth};
 use block_pool::{BlockPool, PoolFault};
 use linked_list_allocator::LocalHeap;
 use raw_region::Block;
-use std::alloc::Allocator;
-use std::test::Fail;
+use std::alloc::{Allocator, Global};
 
 fn is_refused<A: Allocator>(pool: &mut BlockPool<A>, words: usize) -> bool
     ensures { pool.new ≡ pool.old }
@@ -18,9 +18,11 @@ fn is_refused<A: Allocator>(pool: &mut BlockPool<A>, words: usize) -> bool
     }
 }
 
-#[test]
-fn a_pool_of_two_blocks(rt: HostRuntime) -> Result<(), Fail> {
-    let mut pool = BlockPool::new(rt.alloc(), 2, 2)?;
+/// Takes both blocks of a pool of two and gives them back: whether each call answers as it should.
+fn gives_two(alloc: Global) -> bool {
+    let Ok(mut pool) = BlockPool::new(alloc, 2, 2) else {
+        return false;
+    };
     let large = is_refused(&mut pool, 3);
     let first = pool.take(1).unwrap();
     let second = pool.take(2).unwrap();
@@ -32,13 +34,15 @@ fn a_pool_of_two_blocks(rt: HostRuntime) -> Result<(), Fail> {
     let again = is_refused(&mut pool, 2);
     pool.give(second);
     let whole_at_last = pool.is_whole();
-    let sizes = (pool.count(), pool.block_words());
+    let sizes = [pool.count(), pool.block_words() as u64, none_left, one_back];
     pool.close();
-    assert_eq!(rt; [large, third, again], [true, true, false]);
-    assert_eq!(rt; [whole_when_out, whole_at_last], [false, true]);
-    assert_eq!(rt; sizes, (2, 2));
-    assert_eq!(rt; [none_left, one_back], [0, 1]);
-    Ok(())
+    let told = [large, third, again, whole_when_out, whole_at_last];
+    told == [true, true, false, false, true] && sizes == [2, 2, 0, 1]
+}
+
+#[test]
+fn a_pool_of_two_blocks(rt: HostRuntime) {
+    assert!(rt; gives_two(rt.alloc()));
 }
 
 /// Puts two values into the first two words of a Block.
@@ -59,10 +63,11 @@ fn two_words(block: &Block) -> [u64; 2]
     [words[0], words[1]]
 }
 
-/// Blocks that are out keep what is written to them, whatever else is taken and given.
-#[test]
-fn blocks_keep_their_words(rt: HostRuntime) -> Result<(), Fail> {
-    let mut pool = BlockPool::new(rt.alloc(), 2, 3)?;
+/// Three blocks that are out keep what is written to them, whatever else is taken and given, and stand apart.
+fn keeps_words(alloc: Global) -> bool {
+    let Ok(mut pool) = BlockPool::new(alloc, 2, 3) else {
+        return false;
+    };
     let mut first = pool.take(2).unwrap();
     let mut second = pool.take(2).unwrap();
     let third = pool.take(2).unwrap();
@@ -72,72 +77,62 @@ fn blocks_keep_their_words(rt: HostRuntime) -> Result<(), Fail> {
     let mut third = pool.take(1).unwrap();
     fill(&mut third, [5, 6]);
     let words = [two_words(&first), two_words(&second), two_words(&third)];
-    let starts = [first.start(), second.start(), third.start()];
+    let [a, b, c] = [first.start(), second.start(), third.start()];
     pool.give(second);
     pool.give(first);
     pool.give(third);
     pool.close();
-    assert_eq!(rt; words, [[1, 2], [3, 4], [5, 6]]);
-    assert_ne!(rt; starts[0], starts[1]);
-    assert_ne!(rt; starts[1], starts[2]);
-    assert_ne!(rt; starts[0], starts[2]);
-    Ok(())
+    words == [[1, 2], [3, 4], [5, 6]] && a != b && b != c && a != c
 }
 
-fn fault_of(rt: &HostRuntime, block_words: usize, count: usize) -> Option<u32> {
-    match BlockPool::new(rt.alloc(), block_words, count) {
+#[test]
+fn blocks_keep_their_words(rt: HostRuntime) {
+    assert!(rt; keeps_words(rt.alloc()));
+}
+
+/// The number of the fault of such a pool, 0 for none.
+fn fault_of(alloc: Global, block_words: usize, count: usize) -> u32 {
+    match BlockPool::new(alloc, block_words, count) {
         Ok(pool) => {
             pool.close();
-            None
+            0
         }
-        Err(fault) => Some(fault.code()),
+        Err(fault) => fault.code(),
     }
+}
+
+/// The faults of pools with too small or too great a block or number of blocks, and of the smallest and the greatest.
+fn faults(alloc: Global) -> [u32; 7] {
+    [
+        fault_of(alloc, 0, 1),
+        fault_of(alloc, 513, 1),
+        fault_of(alloc, 1, 0),
+        fault_of(alloc, 1, 65537),
+        fault_of(alloc, 1, 1),
+        fault_of(alloc, 512, 1),
+        fault_of(alloc, 1, 65536),
+    ]
 }
 
 #[test]
 fn sizes(rt: HostRuntime) {
-    let cases = [
-        (0, 1, Some(50)),
-        (513, 1, Some(50)),
-        (1, 0, Some(50)),
-        (1, 65537, Some(50)),
-        (1, 1, None),
-        (512, 1, None),
-        (1, 65536, None),
-    ];
-    for (block_words, count, fault) in cases {
-        assert_eq!(rt;
-            fault_of(&rt, block_words, count),
-            fault,
-            "{count} blocks of {block_words} words"
-        );
+    assert_eq!(rt; faults(rt.alloc()), [50, 50, 50, 50, 0, 0, 0]);
+}
+
+/// A pool over a heap, of which it needs one allocation: whether it was made, and whether it works or memory was refused.
+pub fn grow_on(heap: &LocalHeap) -> [bool; 2] {
+    match BlockPool::new(heap, 2, 4) {
+        Ok(mut pool) => {
+            let large = is_refused(&mut pool, 3);
+            let whole = is_refused(&mut pool, 2);
+            pool.close();
+            [true, large && !whole]
+        }
+        Err(fault) => [false, fault == PoolFault::Memory],
     }
 }
 
-/// A pool needs one allocation. Heaps that are too small refuse it, and the others have all their bytes back after
-/// `close`.
 #[test]
-fn a_small_heap_refuses(rt: HostRuntime) -> Result<(), Fail> {
-    let mut refused = false;
-    let mut opened = false;
-    for size in 0..40 {
-        let heap = LocalHeap::new(rt.alloc(), 16 * size)?;
-        match BlockPool::new(&heap, 2, 4) {
-            Ok(mut pool) => {
-                let large = is_refused(&mut pool, 3);
-                let whole = is_refused(&mut pool, 2);
-                pool.close();
-                assert_eq!(rt; [large, whole], [true, false]);
-                opened = true;
-            }
-            Err(fault) => {
-                assert_eq!(rt; fault, PoolFault::Memory);
-                refused = true;
-            }
-        }
-        assert_eq!(rt; heap.used(), 0);
-    }
-    assert!(rt; refused);
-    assert!(rt; opened);
-    Ok(())
+fn a_small_heap_refuses(rt: HostRuntime) {
+    assert!(rt; refuses_each_growth(rt.alloc(), Grown::Blocks, 40));
 }

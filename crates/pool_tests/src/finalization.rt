@@ -1,202 +1,220 @@
+use crate::growths::{Grown, refuses_each_growth};
+use crate::script::Call;
 use fin_lists::{FinLists, Layer, MasterNo, SetNo};
 use linked_list_allocator::LocalHeap;
 use std::alloc::{AllocError, Allocator, Global};
-use std::test::Fail;
 
-/// A master with the object 1 and then two collections of one freezing place, which hold 4 and 5.
-fn two_collections<A: Allocator + Copy>(lists: &mut FinLists<A>) -> Result<(), AllocError> {
-    let master = open_master(lists)?;
-    lists.add_object(master, 1)?;
-    let first = add_collection(lists, master, false)?;
-    let second = add_collection(lists, master, true)?;
-    lists.add_to(second, 5)?;
-    lists.add_to(first, 4)
-}
+// The calls. A number that is given is returned, and 3000 where memory or a condition lacks.
 
-fn newest_in_turn<A: Allocator>(lists: &mut FinLists<A>) -> [Option<Layer>; 3] {
-    let master = MasterNo(1);
-    let newest = lists.newest(master);
-    lists.drop_newest(master);
-    let next = lists.newest(master);
-    lists.drop_newest(master);
-    [newest, next, lists.newest(master)]
-}
-
-#[test]
-fn layers_from_the_newest(rt: HostRuntime) -> Result<(), Fail> {
-    let mut lists = FinLists::new(rt.alloc());
-    let made = two_collections(&mut lists);
-    let newest = newest_in_turn(&mut lists);
-    drop(lists);
-    made?;
-    assert_eq!(rt; newest, [Some(Layer::Sets), Some(Layer::Object(1)), None]);
-    Ok(())
-}
-
-#[test]
-fn a_layer_of_two_collections(rt: HostRuntime) -> Result<(), Fail> {
-    let mut lists = FinLists::new(rt.alloc());
-    let made = two_collections(&mut lists);
-    let both = first_three_of_layer(&lists);
-    lists.remove(SetNo(1), 4);
-    let left = first_three_of_layer(&lists);
-    drop(lists);
-    made?;
-    assert_eq!(rt; both, [Some(4), Some(5), None]);
-    assert_eq!(rt; left, [Some(5), None, None]);
-    Ok(())
-}
-
-/// Members that come in no order, some of one number in both sets.
-fn mixed_members<A: Allocator>(lists: &mut FinLists<A>) -> Result<(), AllocError> {
-    for (object, other) in [(7, 8), (3, 4), (9, 10), (1, 7)] {
-        lists.add_to(SetNo(1), object)?;
-        lists.add_to(SetNo(2), other)?;
+fn open_master<A: Allocator + Copy>(lists: &mut FinLists<A>) -> u64 {
+    if !lists.has_master_numbers() {
+        return 3000;
     }
-    lists.remove(SetNo(2), 7);
-    Ok(())
-}
-
-/// All that is told of the two collections with these members.
-fn told_of_mixed_members<A: Allocator + Copy>(
-    alloc: Global,
-    lists: &mut FinLists<A>,
-) -> Result<Vec<u64>, AllocError> {
-    two_collections(lists)?;
-    mixed_members(lists)?;
-    told(alloc, lists)
-}
-
-#[test]
-fn members_stand_by_number(rt: HostRuntime) -> Result<(), Fail> {
-    let mut lists = FinLists::new(rt.alloc());
-    let told = told_of_mixed_members(rt.alloc(), &mut lists);
-    drop(lists);
-    let expected = [
-        1000, 1, 3, 4, 4, 5, 7, 8, 9, 10, 2000, 0, 1, 3, 4, 7, 9, 0, 4, 5, 8, 10, 0, 0,
-    ];
-    assert_eq!(rt; told?.as_slice(), expected.as_slice());
-    Ok(())
-}
-
-/// The two collections, to the first of which its own member comes again, and the member of the second twice: how many
-/// members each has.
-fn repeated_members<A: Allocator + Copy>(lists: &mut FinLists<A>) -> Result<[u64; 2], AllocError> {
-    two_collections(lists)?;
-    lists.add_to(SetNo(1), 4)?;
-    lists.add_to(SetNo(1), 5)?;
-    lists.add_to(SetNo(1), 5)?;
-    Ok([lists.count(SetNo(1)), lists.count(SetNo(2))])
-}
-
-#[test]
-fn an_object_is_a_member_once(rt: HostRuntime) -> Result<(), Fail> {
-    let mut lists = FinLists::new(rt.alloc());
-    let counts = repeated_members(&mut lists);
-    drop(lists);
-    assert_eq!(rt; counts?, [2, 1]);
-    Ok(())
-}
-
-/// A collection of each of two masters and a subpool, each with the object 6, and finalization of each has started.
-fn three_sets<A: Allocator + Copy>(lists: &mut FinLists<A>) -> Result<[SetNo; 3], AllocError> {
-    let outer = open_master(lists)?;
-    let inner = open_master(lists)?;
-    let sets = [
-        add_collection(lists, outer, false)?,
-        add_collection(lists, inner, false)?,
-        open_subpool(lists)?,
-    ];
-    for set in sets {
-        lists.add_to(set, 6)?;
-        lists.start_collection(set);
+    match lists.open_master() {
+        Ok(MasterNo(number)) => number,
+        Err(_) => 3000,
     }
-    Ok(sets)
 }
 
-fn counts<A: Allocator>(lists: &FinLists<A>) -> [u64; 3] {
-    [
-        lists.count(SetNo(1)),
-        lists.count(SetNo(2)),
-        lists.count(SetNo(3)),
-    ]
+fn number_of(answer: Result<SetNo, AllocError>) -> u64 {
+    match answer {
+        Ok(SetNo(number)) => number,
+        Err(_) => 3000,
+    }
 }
 
-fn starts<A: Allocator>(lists: &FinLists<A>) -> [bool; 3] {
-    [
-        lists.started(SetNo(1)),
-        lists.started(SetNo(2)),
-        lists.started(SetNo(3)),
-    ]
+fn add_collection<A: Allocator + Copy>(lists: &mut FinLists<A>, master: u64, joins: bool) -> u64 {
+    if !lists.has_set_numbers() {
+        return 3000;
+    }
+    number_of(lists.add_collection(MasterNo(master), joins))
 }
 
-/// Closes the inner master: the counts, and whether it is open and its set stands, before and after; which finalizations
-/// have started after.
-fn inner_closed<A: Allocator>(
-    lists: &mut FinLists<A>,
-) -> ([[u64; 3]; 2], [(bool, bool); 2], [bool; 3]) {
-    let before = counts(lists);
-    let stood = (lists.is_open(MasterNo(2)), lists.stands(SetNo(2)));
-    lists.close_master(MasterNo(2));
-    let stands = (lists.is_open(MasterNo(2)), lists.stands(SetNo(2)));
-    ([before, counts(lists)], [stood, stands], starts(lists))
+fn open_subpool<A: Allocator + Copy>(lists: &mut FinLists<A>) -> u64 {
+    if !lists.has_set_numbers() {
+        return 3000;
+    }
+    number_of(lists.open_subpool())
 }
+
+/// 0 where memory is given.
+fn code_of(answer: Result<(), AllocError>) -> u64 {
+    match answer {
+        Ok(()) => 0,
+        Err(_) => 3000,
+    }
+}
+
+/// The object of the newest layer, 1000 for collections, and 2000 for none.
+fn newest<A: Allocator>(lists: &FinLists<A>, master: u64) -> u64 {
+    match lists.newest(MasterNo(master)) {
+        Some(Layer::Object(object)) => object,
+        Some(Layer::Sets) => 1000,
+        None => 2000,
+    }
+}
+
+fn layer_nth<A: Allocator>(lists: &FinLists<A>, master: u64, k: u64) -> u64 {
+    if k >= lists.layer_count(MasterNo(master)) {
+        return 3000;
+    }
+    lists.layer_nth(MasterNo(master), k)
+}
+
+fn nth<A: Allocator>(lists: &FinLists<A>, set: u64, k: u64) -> u64 {
+    if k >= lists.count(SetNo(set)) {
+        return 3000;
+    }
+    lists.nth(SetNo(set), k)
+}
+
+/// Whether the set stands, or how a call left it.
+fn stands<A: Allocator>(lists: &FinLists<A>, set: u64) -> u64 {
+    lists.stands(SetNo(set)) as u64
+}
+
+fn remove<A: Allocator>(lists: &mut FinLists<A>, set: u64, object: u64) -> u64 {
+    lists.remove(SetNo(set), object);
+    stands(lists, set)
+}
+
+fn start<A: Allocator>(lists: &mut FinLists<A>, set: u64) -> u64 {
+    lists.start_collection(SetNo(set));
+    lists.started(SetNo(set)) as u64
+}
+
+fn drop_newest<A: Allocator>(lists: &mut FinLists<A>, master: u64) -> u64 {
+    lists.drop_newest(MasterNo(master));
+    newest(lists, master)
+}
+
+fn close_master<A: Allocator>(lists: &mut FinLists<A>, master: u64) -> u64 {
+    lists.close_master(MasterNo(master));
+    lists.is_open(MasterNo(master)) as u64
+}
+
+/// Makes one call: Add master object, Begin set (`start_collection`), Collection master joins, Drop master
+/// (`drop_newest`), End master (`close_master`), Master (`open_master`), Put set object (`add_to`), Remove set object, and
+/// Subpool (`open_subpool`).
+fn answer<A: Allocator + Copy>(lists: &mut FinLists<A>, call: Call) -> u64 {
+    let [_, _, _, d, e, _] = call.numbers;
+    match call.capital {
+        b'A' => code_of(lists.add_object(MasterNo(d), e)),
+        b'B' => start(lists, e),
+        b'C' => add_collection(lists, d, e == 1),
+        b'D' => drop_newest(lists, e),
+        b'E' => close_master(lists, e),
+        b'M' => open_master(lists),
+        b'P' => code_of(lists.add_to(SetNo(d), e)),
+        b'R' => remove(lists, d, e),
+        b'S' => open_subpool(lists),
+        _ => told(lists, call),
+    }
+}
+
+/// Asks a question: Is open master, Kth master k (`layer_nth`), Layer master (`layer_count`), Newest master, Quantity set
+/// (`count`), There set (`stands`), Under way set (`started`), and Which set k (`nth`).
+fn told<A: Allocator>(lists: &FinLists<A>, call: Call) -> u64 {
+    let [_, _, _, d, e, _] = call.numbers;
+    match call.capital {
+        b'I' => lists.is_open(MasterNo(e)) as u64,
+        b'K' => layer_nth(lists, d, e),
+        b'L' => lists.layer_count(MasterNo(e)),
+        b'N' => newest(lists, e),
+        b'Q' => lists.count(SetNo(e)),
+        b'T' => stands(lists, e),
+        b'U' => lists.started(SetNo(e)) as u64,
+        b'W' => nth(lists, d, e),
+        _ => 4000,
+    }
+}
+
+/// Makes the calls of a text: whether each answers what the text says.
+fn are_answered<A: Allocator + Copy>(lists: &mut FinLists<A>, calls: &str) -> bool {
+    let mut call = Call::new();
+    for byte in calls.as_bytes() {
+        if *byte == b';' {
+            if !call.is_answer(answer(lists, call)) {
+                return false;
+            }
+            call = Call::new();
+        } else {
+            call = call.with(*byte);
+        }
+    }
+    call.capital == 0
+}
+
+/// Makes the calls of a text on lists with a master 1, which has the object 1 and then the collections 1 and 2 of one
+/// freezing place, which hold 4 and 5.
+fn is_right_of_two(alloc: Global, calls: &str) -> bool {
+    let mut lists = FinLists::new(alloc);
+    let right = are_answered(&mut lists, TWO) && are_answered(&mut lists, calls);
+    drop(lists);
+    right
+}
+
+const TWO: &str = "Master =1; Add 1 1=0; Collection 1 0=1; Collection 1 1=2; Put 2 5=0; Put 1 4=0;";
+
+/// Makes the calls of a text on new lists.
+fn is_right(alloc: Global, calls: &str) -> bool {
+    let mut lists = FinLists::new(alloc);
+    let right = are_answered(&mut lists, calls);
+    drop(lists);
+    right
+}
+
+const FROM_THE_NEWEST: &str = "Newest 1=1000; Drop 1=1; Newest 1=1; Drop 1=2000; Newest 1=2000;";
 
 #[test]
-fn a_master_closes(rt: HostRuntime) -> Result<(), Fail> {
-    let mut lists = FinLists::new(rt.alloc());
-    let sets = three_sets(&mut lists);
-    let closed = inner_closed(&mut lists);
-    let next = open_master(&mut lists);
-    let after = (counts(&lists), starts(&lists));
-    drop(lists);
-    assert_eq!(rt; sets?, [SetNo(1), SetNo(2), SetNo(3)]);
-    assert_eq!(rt;
-        closed,
-        (
-            [[1, 1, 1], [1, 0, 1]],
-            [(true, true), (false, false)],
-            [true, false, true]
-        )
-    );
-    assert_eq!(rt;
-        (next?, after),
-        (MasterNo(3), ([1, 0, 1], [true, false, true]))
-    );
-    Ok(())
+fn layers_from_the_newest(rt: HostRuntime) {
+    assert!(rt; is_right_of_two(rt.alloc(), FROM_THE_NEWEST));
 }
 
-/// A new subpool: how many members its set has, and its number.
-fn empty_subpool<A: Allocator + Copy>(lists: &mut FinLists<A>) -> Result<[u64; 2], AllocError> {
-    let subpool = open_subpool(lists)?;
-    Ok([lists.count(subpool), subpool.0])
+const LAYER: &str =
+    "Kth 1 0=4; Kth 1 1=5; Kth 1 2=3000; Remove 1 4=1; Kth 1 0=5; Kth 1 1=3000; Kth 1 2=3000;";
+
+#[test]
+fn a_layer_of_two_collections(rt: HostRuntime) {
+    assert!(rt; is_right_of_two(rt.alloc(), LAYER));
+}
+
+/// Members that come in no order, some of one number in both sets: all that is told of the first two masters and the first
+/// four sets.
+const MIXED: &str =
+    "Put 1 7=0; Put 2 8=0; Put 1 3=0; Put 2 4=0; Put 1 9=0; Put 2 10=0; Put 1 1=0; Put 2 7=0; Remove 2 7=1; Newest 1=1000; Layer 1=9; Kth 1 0=1; Kth 1 1=3; Kth 1 2=4; Kth 1 3=4; Kth 1 4=5; Kth 1 5=7; Kth 1 6=8; Kth 1 7=9; Kth 1 8=10; Newest 2=2000; Layer 2=0; Under way 1=0; Quantity 1=5; Which 1 0=1; Which 1 1=3; Which 1 2=4; Which 1 3=7; Which 1 4=9; Under way 2=0; Quantity 2=4; Which 2 0=4; Which 2 1=5; Which 2 2=8; Which 2 3=10; Under way 3=0; Quantity 3=0; Under way 4=0; Quantity 4=0;";
+
+#[test]
+fn members_stand_by_number(rt: HostRuntime) {
+    assert!(rt; is_right_of_two(rt.alloc(), MIXED));
+}
+
+/// To the first set its own member comes again, and the member of the second twice.
+const REPEATED: &str = "Put 1 4=0; Put 1 5=0; Put 1 5=0; Quantity 1=2; Quantity 2=1;";
+
+#[test]
+fn an_object_is_a_member_once(rt: HostRuntime) {
+    assert!(rt; is_right_of_two(rt.alloc(), REPEATED));
+}
+
+/// A collection of each of two masters and a subpool, each with the object 6, and finalization of each has started. The
+/// inner master closes, and another one is opened.
+const CLOSED: &str =
+    "Master =1; Master =2; Collection 1 0=1; Collection 2 0=2; Subpool =3; Put 1 6=0; Begin 1=1; Put 2 6=0; Begin 2=1; Put 3 6=0; Begin 3=1; Quantity 1=1; Quantity 2=1; Quantity 3=1; Is open 2=1; There 2=1; End 2=0; Is open 2=0; There 2=0; Quantity 1=1; Quantity 2=0; Quantity 3=1; Under way 1=1; Under way 2=0; Under way 3=1; Master =3; Quantity 1=1; Quantity 2=0; Quantity 3=1; Under way 1=1; Under way 2=0; Under way 3=1;";
+
+#[test]
+fn a_master_closes(rt: HostRuntime) {
+    assert!(rt; is_right(rt.alloc(), CLOSED));
 }
 
 /// A subpool's set is empty at first.
 #[test]
-fn a_subpool_is_empty(rt: HostRuntime) -> Result<(), Fail> {
-    let mut lists = FinLists::new(rt.alloc());
-    let subpool = empty_subpool(&mut lists);
-    drop(lists);
-    assert_eq!(rt; subpool?, [0, 1]);
-    Ok(())
-}
-
-fn first_three_of_layer<A: Allocator>(lists: &FinLists<A>) -> [Option<u64>; 3] {
-    [of_layer(lists, 0), of_layer(lists, 1), of_layer(lists, 2)]
-}
-
-/// The k-th of the newest layer of the first master.
-fn of_layer<A: Allocator>(lists: &FinLists<A>, k: u64) -> Option<u64> {
-    if k < lists.layer_count(MasterNo(1)) {
-        Some(lists.layer_nth(MasterNo(1), k))
-    } else {
-        None
-    }
+fn a_subpool_is_empty(rt: HostRuntime) {
+    assert!(rt; is_right(rt.alloc(), "Subpool =1; Quantity 1=0;"));
 }
 
 /// All that the lists tell of the first two masters and the first four sets.
-fn told<A: Allocator>(alloc: Global, lists: &FinLists<A>) -> Result<Vec<u64>, AllocError> {
+fn tell_all<A: Allocator>(alloc: Global, lists: &FinLists<A>) -> Result<Vec<u64>, AllocError> {
     let mut told = Vec::new(alloc);
     for number in 1..3 {
         tell_layer(&mut told, lists, MasterNo(number))?;
@@ -212,11 +230,7 @@ fn tell_layer<A: Allocator>(
     lists: &FinLists<A>,
     master: MasterNo,
 ) -> Result<(), AllocError> {
-    told.push(match lists.newest(master) {
-        Some(Layer::Object(object)) => object,
-        Some(Layer::Sets) => 1000,
-        None => 2000,
-    })?;
+    told.push(newest(lists, master.0))?;
     for k in 0..lists.layer_count(master) {
         told.push(lists.layer_nth(master, k))?;
     }
@@ -235,51 +249,17 @@ fn tell_set<A: Allocator>(
     Ok(())
 }
 
-fn open_master<A: Allocator + Copy>(lists: &mut FinLists<A>) -> Result<MasterNo, AllocError> {
-    if lists.has_master_numbers() {
-        lists.open_master()
-    } else {
-        Err(AllocError)
-    }
-}
-
-fn add_collection<A: Allocator + Copy>(
-    lists: &mut FinLists<A>,
-    master: MasterNo,
-    joins: bool,
-) -> Result<SetNo, AllocError> {
-    if lists.has_set_numbers() {
-        lists.add_collection(master, joins)
-    } else {
-        Err(AllocError)
-    }
-}
-
-fn open_subpool<A: Allocator + Copy>(lists: &mut FinLists<A>) -> Result<SetNo, AllocError> {
-    if lists.has_set_numbers() {
-        lists.open_subpool()
-    } else {
-        Err(AllocError)
-    }
-}
-
-/// One of the calls that may be refused memory.
-fn grow<A: Allocator + Copy>(lists: &mut FinLists<A>, call: u64) -> Result<(), AllocError> {
-    match call {
-        0 | 1 => {
-            let _ = open_master(lists)?;
-        }
-        2 | 5 => {
-            let _ = add_collection(lists, MasterNo(1), call == 5)?;
-        }
-        3 | 4 => lists.add_to(SetNo(1), call)?,
-        6 => {
-            let _ = open_subpool(lists)?;
-        }
-        7 | 8 | 9 => lists.add_to(SetNo(3), call)?,
-        _ => lists.add_object(MasterNo(2), call)?,
-    }
-    Ok(())
+/// One of the calls that may be refused memory: whether it was given.
+fn grow<A: Allocator + Copy>(lists: &mut FinLists<A>, call: u64) -> bool {
+    let answer = match call {
+        0 | 1 => open_master(lists),
+        2 | 5 => add_collection(lists, 1, call == 5),
+        6 => open_subpool(lists),
+        3 | 4 => code_of(lists.add_to(SetNo(1), call)),
+        7 | 8 | 9 => code_of(lists.add_to(SetNo(3), call)),
+        _ => code_of(lists.add_object(MasterNo(2), call)),
+    };
+    answer != 3000
 }
 
 /// The calls in turn, up to the first that is refused memory: what was told before it and after it.
@@ -288,36 +268,28 @@ fn grow_all<A: Allocator + Copy>(
     lists: &mut FinLists<A>,
 ) -> Result<Option<[Vec<u64>; 2]>, AllocError> {
     for call in 0..20 {
-        let before = told(alloc, lists)?;
-        if grow(lists, call).is_err() {
-            return Ok(Some([before, told(alloc, lists)?]));
+        let before = tell_all(alloc, lists)?;
+        if !grow(lists, call) {
+            return Ok(Some([before, tell_all(alloc, lists)?]));
         }
     }
     Ok(None)
 }
 
-fn grow_on(alloc: Global, heap: &LocalHeap) -> Result<Option<[Vec<u64>; 2]>, AllocError> {
+/// The calls on lists over a heap: whether all were given memory, and whether what was told before a refusal was told
+/// after it.
+pub fn grow_on(alloc: Global, heap: &LocalHeap) -> [bool; 2] {
     let mut lists = FinLists::new(heap);
     let refused = grow_all(alloc, &mut lists);
     drop(lists);
-    refused
+    match refused {
+        Ok(Some([before, after])) => [false, before.as_slice() == after.as_slice()],
+        Ok(None) => [true, true],
+        Err(_) => [false, false],
+    }
 }
 
 #[test]
-fn each_growth_is_refused(rt: HostRuntime) -> Result<(), Fail> {
-    let mut refused = false;
-    let mut all = false;
-    for size in 0..200 {
-        let heap = LocalHeap::new(rt.alloc(), 16 * size)?;
-        match grow_on(rt.alloc(), &heap)? {
-            Some([before, after]) => {
-                assert_eq!(rt; before, after);
-                refused = true;
-            }
-            None => all = true,
-        }
-    }
-    assert!(rt; refused);
-    assert!(rt; all);
-    Ok(())
+fn each_growth_is_refused(rt: HostRuntime) {
+    assert!(rt; refuses_each_growth(rt.alloc(), Grown::Lists, 200));
 }

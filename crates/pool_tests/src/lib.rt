@@ -8,10 +8,10 @@ mod blocks;
 #[cfg(test)]
 mod finalization;
 #[cfg(test)]
+mod growths;
+#[cfg(test)]
 mod marks;
 #[cfg(test)]
-mod stores;
-
-/// The unit in bytes in which a heap gives memory: the heaps of a test rise by it from each to the next.
+mod script;
 #[cfg(test)]
-const HEAP_STEP: usize = 16;
+mod stores;

@@ -1,10 +1,10 @@
 ghost use Rattle.std.specs.Prelude.{◌≡◌, ◌+◌, ◌<◌, ◌≤◌, length, replicate};
 ghost use Rattle.raw_region.specs.Places.{held};
 
+use crate::growths::{Grown, refuses_each_growth};
 use linked_list_allocator::LocalHeap;
 use mark_pool::{MarkNo, MarkPool, PoolFault};
 use std::alloc::{Allocator, Global};
-use std::test::Fail;
 
 /// Asks a pool of which no word is left for one, and returns whether it is given.
 fn is_given<A: Allocator>(pool: &mut MarkPool<A>) -> bool
@@ -56,19 +56,34 @@ fn two_marks(alloc: Global) -> Result<Told, PoolFault> {
     ))
 }
 
+/// Whether the marks are two of one pool and a third one that stands for the first.
+fn are_marks([first, second, newest, first_again, renewed]: [MarkNo; 5]) -> bool {
+    newest == second
+        && first_again == first
+        && first != second
+        && first != renewed
+        && second != renewed
+}
+
+fn is_told(told: Told) -> bool {
+    let (used, starts, out, marks, more) = told;
+    used == [4, 3, 0]
+        && starts == [0, 3]
+        && out == [(4, false), (0, true)]
+        && are_marks(marks)
+        && !more
+}
+
+fn marks_well(alloc: Global) -> bool {
+    match two_marks(alloc) {
+        Ok(told) => is_told(told),
+        Err(_) => false,
+    }
+}
+
 #[test]
-fn marks_and_releases(rt: HostRuntime) -> Result<(), Fail> {
-    let (used, starts, out, marks, more) = two_marks(rt.alloc())?;
-    let [first, second, newest, first_again, renewed] = marks;
-    assert!(rt; !more);
-    assert_eq!(rt; used, [4, 3, 0]);
-    assert_eq!(rt; starts, [0, 3]);
-    assert_eq!(rt; out, [(4, false), (0, true)]);
-    assert_eq!(rt; [newest, first_again], [second, first]);
-    assert_ne!(rt; first, second);
-    assert_ne!(rt; first, renewed);
-    assert_ne!(rt; second, renewed);
-    Ok(())
+fn marks_and_releases(rt: HostRuntime) {
+    assert!(rt; marks_well(rt.alloc()));
 }
 
 /// Releases the newest mark if the pool says that all words since then are back, and returns whether it did.
@@ -90,9 +105,10 @@ fn words_out<A: Allocator>(pool: &MarkPool<A>) -> (u64, u64) {
 }
 
 /// A mark is released while an older Block is out.
-#[test]
-fn older_blocks_stay_out(rt: HostRuntime) -> Result<(), Fail> {
-    let mut pool = MarkPool::new(rt.alloc(), 4)?;
+fn counts_older(alloc: Global) -> bool {
+    let Ok(mut pool) = MarkPool::new(alloc, 4) else {
+        return false;
+    };
     let three = pool.take(3).unwrap();
     let _ = pool.mark().unwrap();
     let one = pool.take(1).unwrap();
@@ -104,9 +120,12 @@ fn older_blocks_stay_out(rt: HostRuntime) -> Result<(), Fail> {
     pool.back(three);
     let none_out = words_out(&pool);
     pool.close();
-    assert_eq!(rt; (both_out, older_out), ((4, 1), (3, 0)));
-    assert_eq!(rt; (first_mark, none_out), ((3, 3), (0, 0)));
-    Ok(())
+    [both_out, older_out, first_mark, none_out] == [(4, 1), (3, 0), (3, 3), (0, 0)]
+}
+
+#[test]
+fn older_blocks_stay_out(rt: HostRuntime) {
+    assert!(rt; counts_older(rt.alloc()));
 }
 
 fn is_made<A: Allocator>(pool: &mut MarkPool<A>) -> bool
@@ -117,9 +136,11 @@ fn is_made<A: Allocator>(pool: &mut MarkPool<A>) -> bool
     pool.mark().is_some()
 }
 
-#[test]
-fn ten_marks_stand(rt: HostRuntime) -> Result<(), Fail> {
-    let mut pool = MarkPool::new(rt.alloc(), 4)?;
+/// Ten marks stand, an eleventh does not, and one does again after a release.
+fn makes_ten(alloc: Global) -> bool {
+    let Ok(mut pool) = MarkPool::new(alloc, 4) else {
+        return false;
+    };
     let made = [
         is_made(&mut pool),
         is_made(&mut pool),
@@ -137,34 +158,42 @@ fn ten_marks_stand(rt: HostRuntime) -> Result<(), Fail> {
     let room = !pool.is_full() && pool.has_mark_numbers();
     let after_a_release = is_made(&mut pool);
     pool.close();
-    assert_eq!(rt;
-        made,
-        [true, true, true, true, true, true, true, true, true, false]
-    );
-    assert!(rt; full && released && room && after_a_release);
-    Ok(())
+    made == [true, true, true, true, true, true, true, true, true, false]
+        && full
+        && released
+        && room
+        && after_a_release
 }
 
-fn fault_of(rt: &HostRuntime, words: usize) -> Option<u32> {
-    match MarkPool::new(rt.alloc(), words) {
+#[test]
+fn ten_marks_stand(rt: HostRuntime) {
+    assert!(rt; makes_ten(rt.alloc()));
+}
+
+/// The number of the fault of such a pool, 0 for none.
+fn fault_of(alloc: Global, words: usize) -> u32 {
+    match MarkPool::new(alloc, words) {
         Ok(pool) => {
             pool.close();
-            None
+            0
         }
-        Err(fault) => Some(fault.code()),
+        Err(fault) => fault.code(),
     }
+}
+
+/// The faults of a pool without words, of one with too many, and of the smallest and the greatest.
+fn faults(alloc: Global) -> [u32; 4] {
+    [
+        fault_of(alloc, 0),
+        fault_of(alloc, 2097153),
+        fault_of(alloc, 1),
+        fault_of(alloc, 2097152),
+    ]
 }
 
 #[test]
 fn sizes(rt: HostRuntime) {
-    for (words, fault) in [
-        (0, Some(50)),
-        (2097153, Some(50)),
-        (1, None),
-        (2097152, None),
-    ] {
-        assert_eq!(rt; fault_of(&rt, words), fault, "{words} words");
-    }
+    assert_eq!(rt; faults(rt.alloc()), [50, 50, 0, 0]);
 }
 
 /// Takes all four words of a new pool, and closes it.
@@ -179,27 +208,15 @@ fn used_whole<A: Allocator>(pool: MarkPool<A>) -> u64
     used
 }
 
-/// A pool needs one allocation. Heaps that are too small refuse it, and the others have all their bytes back after
-/// `close`.
-#[test]
-fn a_small_heap_refuses(rt: HostRuntime) -> Result<(), Fail> {
-    let mut refused = false;
-    let mut opened = false;
-    for size in 0..40 {
-        let heap = LocalHeap::new(rt.alloc(), 16 * size)?;
-        match MarkPool::new(&heap, 4) {
-            Ok(pool) => {
-                assert_eq!(rt; used_whole(pool), 4);
-                opened = true;
-            }
-            Err(fault) => {
-                assert_eq!(rt; fault, PoolFault::Memory);
-                refused = true;
-            }
-        }
-        assert_eq!(rt; heap.used(), 0);
+/// A pool over a heap, of which it needs one allocation: whether it was made, and whether it works or memory was refused.
+pub fn grow_on(heap: &LocalHeap) -> [bool; 2] {
+    match MarkPool::new(heap, 4) {
+        Ok(pool) => [true, used_whole(pool) == 4],
+        Err(fault) => [false, fault == PoolFault::Memory],
     }
-    assert!(rt; refused);
-    assert!(rt; opened);
-    Ok(())
+}
+
+#[test]
+fn a_small_heap_refuses(rt: HostRuntime) {
+    assert!(rt; refuses_each_growth(rt.alloc(), Grown::Marks, 40));
 }

@@ -2,11 +2,11 @@ ghost use Rattle.std.specs.Prelude.{◌≡◌, None, IsTrue};
 ghost use Rattle.std.specs.FinMap.{get};
 ghost use Rattle.pool_store.specs.Store.{IsWithin, IsBlockPool, IsMarkPool, IsDetached};
 
-use crate::HEAP_STEP;
+use crate::growths::{Grown, refuses_each_growth};
+use crate::script::Call;
 use linked_list_allocator::LocalHeap;
-use pool_store::{Address, PoolKind, PoolStore, Standing, SubpoolNo};
-use std::alloc::Allocator;
-use std::test::Fail;
+use pool_store::{Address, PoolKind, PoolStore, Standing, StoreFault, SubpoolNo};
+use std::alloc::{Allocator, Global};
 
 // What the calls ask for, found out by other calls.
 
@@ -49,16 +49,28 @@ fn is_detached<A: Allocator>(store: &PoolStore<A>, subpool: u64) -> bool
     }
 }
 
-// The calls, each with its condition tested first. 1000 stands for a condition that does not hold.
+// The calls, each with its condition tested first. A fault's number is returned, 0 for none, and with 1000 added where a
+// number is given too. 1000 stands for a condition that does not hold, and 2000 where a number is given.
+
+fn code_of(answer: Result<(), StoreFault>) -> u32 {
+    match answer {
+        Ok(()) => 0,
+        Err(fault) => fault.code(),
+    }
+}
+
+fn number_of(answer: Result<SubpoolNo, StoreFault>) -> u64 {
+    match answer {
+        Ok(SubpoolNo(number)) => number,
+        Err(fault) => fault.code() as u64 + 1000,
+    }
+}
 
 fn standard<A: Allocator + Copy>(store: &mut PoolStore<A>, object: u64, words: usize) -> u32 {
     if store.is_held(object) {
         return 1000;
     }
-    match store.standard(object, words) {
-        Ok(()) => 0,
-        Err(fault) => fault.code(),
-    }
+    code_of(store.standard(object, words))
 }
 
 fn read<A: Allocator>(store: &PoolStore<A>, object: u64, word: usize) -> u64 {
@@ -75,10 +87,7 @@ fn write<A: Allocator>(store: &mut PoolStore<A>, object: u64, word: usize, value
     if !allows(store, object, word, 1) {
         return 1000;
     }
-    match store.write(object, word, value) {
-        Ok(()) => 0,
-        Err(fault) => fault.code(),
-    }
+    code_of(store.write(object, word, value))
 }
 
 fn copy<A: Allocator>(
@@ -90,83 +99,7 @@ fn copy<A: Allocator>(
     if !allows(store, from, word, count) || !allows(store, to, target, count) {
         return 1000;
     }
-    match store.copy(from, word, to, target, count) {
-        Ok(()) => 0,
-        Err(fault) => fault.code(),
-    }
-}
-
-/// Object 9 of two words: its second word before and after a write, and once it is vacated. Objects are numbered as
-/// they come; 9 can come again then.
-fn life_of_an_object<A: Allocator + Copy>(store: &mut PoolStore<A>) -> [u64; 4] {
-    let before = read(store, 9, 1);
-    let _ = write(store, 9, 1, 5);
-    let after = read(store, 9, 1);
-    let left = match store.vacate(9) {
-        Ok(None) => 0,
-        Ok(Some(Address(address))) => address,
-        Err(fault) => fault.code() as u64,
-    };
-    [before, after, left, read(store, 9, 1)]
-}
-
-#[test]
-fn an_object_lives_and_is_gone(rt: HostRuntime) {
-    let mut store = PoolStore::new(rt.alloc());
-    let made = standard(&mut store, 9, 2);
-    let life = life_of_an_object(&mut store);
-    let again = store.vacate(9).is_err();
-    store.close();
-    assert_eq!(rt; (made, life, again), (0, [0, 5, 0, 64], true));
-}
-
-/// The four words of object 8.
-fn words_of_8<A: Allocator>(store: &PoolStore<A>) -> [u64; 4] {
-    [
-        read(store, 8, 0),
-        read(store, 8, 1),
-        read(store, 8, 2),
-        read(store, 8, 3),
-    ]
-}
-
-/// Object 8 has the words 1 to 4, and object 7 has 9.
-fn two_objects<A: Allocator + Copy>(store: &mut PoolStore<A>) -> bool {
-    let made = [standard(store, 8, 4), standard(store, 7, 1)];
-    let written = [
-        write(store, 8, 0, 1),
-        write(store, 8, 1, 2),
-        write(store, 8, 2, 3),
-        write(store, 8, 3, 4),
-    ];
-    made == [0, 0] && written == [0, 0, 0, 0] && write(store, 7, 0, 9) == 0
-}
-
-#[test]
-fn words_are_copied(rt: HostRuntime) {
-    let mut store = PoolStore::new(rt.alloc());
-    let made = two_objects(&mut store);
-    let within = copy(&mut store, [8, 8], [0, 1], 3);
-    let moved = words_of_8(&store);
-    let between = copy(&mut store, [7, 8], [0, 2], 1);
-    let copied = words_of_8(&store);
-    let gone = copy(&mut store, [8, 5], [0, 0], 0);
-    store.close();
-    assert_eq!(rt; (made, [within, between, gone]), (true, [0, 0, 64]));
-    assert_eq!(rt; [moved, copied], [[1, 1, 2, 3], [1, 1, 9, 3]]);
-}
-
-/// Objects 8 and 7 as above, over a heap: whether all was made, and whether what was made before a refusal stays.
-fn grow_on<A: Allocator + Copy>(heap: A) -> [bool; 2] {
-    let mut store = PoolStore::new(heap);
-    let first = standard(&mut store, 8, 1);
-    let _ = write(&mut store, 8, 0, 6);
-    let second = standard(&mut store, 7, 5);
-    let kept = if first == 0 { 6 } else { 64 };
-    let same = read(&store, 8, 0) == kept;
-    let other = read(&store, 7, 4) == if second == 0 { 0 } else { 64 };
-    store.close();
-    [first == 0 && second == 0, same && other]
+    code_of(store.copy(from, word, to, target, count))
 }
 
 fn open_block<A: Allocator + Copy>(
@@ -179,13 +112,10 @@ fn open_block<A: Allocator + Copy>(
     if store.kind(pool).is_some() || !sizes {
         return 1000;
     }
-    match store.open_block(pool, units, count) {
-        Ok(()) => 0,
-        Err(fault) => fault.code(),
-    }
+    code_of(store.open_block(pool, units, count))
 }
 
-/// The address, from 1, or a fault's number and 1000.
+/// The address, from 1.
 fn allocate<A: Allocator + Copy>(store: &mut PoolStore<A>, pool: u64, units: u64) -> u64 {
     if !is_blocks(store, pool) || !store.has_addresses() {
         return 2000;
@@ -205,76 +135,20 @@ fn occupy<A: Allocator + Copy>(
     if store.is_held(object) {
         return 1000;
     }
-    match store.occupy(pool, Address(address), object, units) {
-        Ok(()) => 0,
-        Err(fault) => fault.code(),
-    }
+    code_of(store.occupy(pool, Address(address), object, units))
 }
 
 fn deallocate<A: Allocator>(store: &mut PoolStore<A>, pool: u64, address: u64) -> u32 {
-    match store.deallocate(pool, Address(address)) {
-        Ok(()) => 0,
-        Err(fault) => fault.code(),
-    }
+    code_of(store.deallocate(pool, Address(address)))
 }
 
-/// The address of the block that an object leaves behind, 0 for none, or a fault's number and 1000.
+/// The address of the block that an object leaves behind, 0 for none.
 fn vacate<A: Allocator>(store: &mut PoolStore<A>, object: u64) -> u64 {
     match store.vacate(object) {
         Ok(Some(Address(address))) => address,
         Ok(None) => 0,
         Err(fault) => fault.code() as u64 + 1000,
     }
-}
-
-/// Pool 1 has one block of 16 storage units. Object 7 is put there and vacated.
-fn life_in_a_block<A: Allocator + Copy>(store: &mut PoolStore<A>) -> ([u64; 7], [u32; 9]) {
-    let opened = open_block(store, 1, 16, 1);
-    let large = allocate(store, 1, 24);
-    let address = allocate(store, 1, 16);
-    let held = occupy(store, [1, address], 7, 16);
-    let written = write(store, 7, 1, 5);
-    let word = read(store, 7, 1);
-    let full = allocate(store, 1, 8);
-    let busy = deallocate(store, 1, address);
-    let made = standard(store, 9, 2);
-    let copied = copy(store, [7, 9], [1, 0], 1);
-    let copy = read(store, 9, 0);
-    let left = vacate(store, 7);
-    let gone = read(store, 7, 1);
-    let back = deallocate(store, 1, address);
-    let bad = occupy(store, [1, address], 8, 16);
-    let again = deallocate(store, 1, address);
-    (
-        [large, address, word, full, copy, left, gone],
-        [opened, held, written, busy, made, copied, back, bad, again],
-    )
-}
-
-#[test]
-fn an_object_lives_in_a_block(rt: HostRuntime) {
-    let mut store = PoolStore::new(rt.alloc());
-    let (words, faults) = life_in_a_block(&mut store);
-    store.close();
-    assert_eq!(rt; words, [1060, 1, 5, 1060, 5, 1, 64]);
-    assert_eq!(rt; faults, [0, 0, 0, 63, 0, 0, 0, 63, 63]);
-}
-
-/// A block that was given back goes out again under another address, with words that are 0.
-#[test]
-fn an_address_is_used_once(rt: HostRuntime) {
-    let mut store = PoolStore::new(rt.alloc());
-    let _ = open_block(&mut store, 1, 16, 1);
-    let first = allocate(&mut store, 1, 16);
-    let _ = occupy(&mut store, [1, first], 7, 16);
-    let _ = write(&mut store, 7, 0, 3);
-    let _ = vacate(&mut store, 7);
-    let _ = deallocate(&mut store, 1, first);
-    let second = allocate(&mut store, 1, 9);
-    let held = occupy(&mut store, [1, second], 7, 16);
-    let word = read(&store, 7, 0);
-    store.close();
-    assert_eq!(rt; ([first, second], held, word), ([1, 2], 0, 0));
 }
 
 fn close_pool<A: Allocator>(store: &mut PoolStore<A>, pool: u64) -> bool {
@@ -285,79 +159,268 @@ fn close_pool<A: Allocator>(store: &mut PoolStore<A>, pool: u64) -> bool {
     !store.is_open(pool)
 }
 
-/// Pool 1 has the object 7 in one of its two blocks, and none in the other, pool 2 has 8, and 9 lies in no block: what
-/// stays when pool 1 closes.
-fn what_a_closed_pool_leaves<A: Allocator + Copy>(
-    store: &mut PoolStore<A>,
-) -> ([u64; 4], [u32; 8]) {
-    let first_pool = open_block(store, 1, 16, 2);
-    let second_pool = open_block(store, 2, 16, 1);
-    let first = allocate(store, 1, 16);
-    let vacant = allocate(store, 1, 16);
-    let other = allocate(store, 2, 16);
-    let held = occupy(store, [1, first], 7, 16);
-    let also = occupy(store, [2, other], 8, 16);
-    let made = standard(store, 9, 2);
-    let written = write(store, 8, 1, 3);
-    let last = write(store, 9, 1, 4);
-    let closed = close_pool(store, 1);
-    let gone = read(store, 7, 1);
-    let refused = deallocate(store, 1, vacant);
-    let words = [gone, read(store, 8, 1), read(store, 9, 1), closed as u64];
-    (
-        words,
-        [
-            first_pool,
-            second_pool,
-            held,
-            also,
-            made,
-            written,
-            last,
-            refused,
-        ],
-    )
+/// The number of the pool's first subpool.
+fn open_mark<A: Allocator + Copy>(store: &mut PoolStore<A>, pool: u64, units: u64) -> u64 {
+    if store.kind(pool).is_some() || units < 8 || units > 16777216 || !store.has_subpool_numbers() {
+        return 2000;
+    }
+    number_of(store.open_mark(pool, units))
 }
 
-/// Nothing can be allocated in the pool that closed, until it is opened again.
-fn open_again<A: Allocator + Copy>(store: &mut PoolStore<A>) -> (u64, u32, u64) {
-    let unavailable = allocate(store, 1, 16);
-    let reopened = open_block(store, 1, 8, 1);
-    (unavailable, reopened, allocate(store, 1, 8))
+fn allocate_in<A: Allocator + Copy>(
+    store: &mut PoolStore<A>,
+    subpool: u64,
+    pool: u64,
+    object: u64,
+    words: u64,
+) -> u32 {
+    if store.is_held(object) || words < 1 || words > 4096 {
+        return 2000;
+    }
+    code_of(store.allocate_in(SubpoolNo(subpool), pool, object, words * 8))
 }
+
+fn create_subpool<A: Allocator + Copy>(store: &mut PoolStore<A>, pool: u64) -> u64 {
+    if !is_marks(store, pool) || !store.has_subpool_numbers() {
+        return 2000;
+    }
+    number_of(store.create_subpool(pool))
+}
+
+fn detach<A: Allocator>(store: &mut PoolStore<A>, subpool: u64) -> u32 {
+    code_of(store.detach_subpool(SubpoolNo(subpool)))
+}
+
+/// 1 where the subpool was the last one, and 0 where it was not.
+fn release<A: Allocator>(store: &mut PoolStore<A>, subpool: u64) -> u64 {
+    if !is_detached(store, subpool) || !store.has_subpool_numbers() {
+        return 2000;
+    }
+    store.release_subpool(SubpoolNo(subpool)) as u64
+}
+
+fn default_subpool<A: Allocator>(store: &PoolStore<A>, pool: u64) -> u64 {
+    if !is_marks(store, pool) {
+        return 2000;
+    }
+    store.default_subpool(pool).0
+}
+
+/// Opens a pool with marks under the number of a pool of blocks.
+fn open_also<A: Allocator + Copy>(store: &mut PoolStore<A>, pool: u64) -> bool {
+    match store.kind(pool) {
+        Some(PoolKind::Blocks) => {
+            store.has_subpool_numbers() && store.open_mark(pool, 8).is_ok()
+        }
+        _ => false,
+    }
+}
+
+/// Makes one call with numbers in the order of its own: Allocate, Copy, Deallocate, End (`close_pool`), Free (`release`),
+/// In (`allocate_in`), Last (`default_subpool`), Mark (`open_mark`), New (`create_subpool`), Open (`open_block`), Put
+/// (`occupy`), Read, Standard, Untie (`detach`), Vacate and Write.
+fn answer<A: Allocator + Copy>(store: &mut PoolStore<A>, call: Call) -> u64 {
+    let [a, b, c, d, e, _] = call.numbers;
+    match call.capital {
+        b'A' => allocate(store, d, e),
+        b'C' => copy(store, [a, b], [c as usize, d as usize], e as usize) as u64,
+        b'D' => deallocate(store, d, e) as u64,
+        b'E' => close_pool(store, e) as u64,
+        b'F' => release(store, e),
+        b'I' => allocate_in(store, b, c, d, e) as u64,
+        b'L' => default_subpool(store, e),
+        b'M' => open_mark(store, d, e),
+        b'N' => create_subpool(store, e),
+        b'O' => open_block(store, c, d, e as usize) as u64,
+        b'P' => occupy(store, [b, c], d, e) as u64,
+        b'R' => read(store, d, e as usize),
+        b'S' => standard(store, d, e as usize) as u64,
+        b'U' => detach(store, e) as u64,
+        b'V' => vacate(store, e),
+        b'W' => write(store, c, d as usize, e) as u64,
+        _ => 4000,
+    }
+}
+
+/// Makes the calls of a text: whether each answers what the text says.
+fn are_answered<A: Allocator + Copy>(store: &mut PoolStore<A>, calls: &str) -> bool {
+    let mut call = Call::new();
+    for byte in calls.as_bytes() {
+        if *byte == b';' {
+            if !call.is_answer(answer(store, call)) {
+                return false;
+            }
+            call = Call::new();
+        } else {
+            call = call.with(*byte);
+        }
+    }
+    call.capital == 0
+}
+
+/// Makes the calls of a text on a new store, and closes it.
+fn is_right(alloc: Global, calls: &str) -> bool {
+    let mut store = PoolStore::new(alloc);
+    let right = are_answered(&mut store, calls);
+    store.close();
+    right
+}
+
+/// Object 9 of two words: its second word before and after a write, and once it is vacated.
+const LIFE: &str =
+    "Standard 9 2=0; Read 9 1=0; Write 9 1 5=0; Read 9 1=5; Vacate 9=0; Read 9 1=64; Vacate 9=1064;";
+
+#[test]
+fn an_object_lives_and_is_gone(rt: HostRuntime) {
+    assert!(rt; is_right(rt.alloc(), LIFE));
+}
+
+/// Object 8 has the words 1 to 4, and object 7 has 9. They are copied within 8, and from 7 to 8.
+const COPIED: &str =
+    "Standard 8 4=0; Standard 7 1=0; Write 8 0 1=0; Write 8 1 2=0; Write 8 2 3=0; Write 8 3 4=0; Write 7 0 9=0; Copy 8 8 0 1 3=0; Read 8 0=1; Read 8 1=1; Read 8 2=2; Read 8 3=3; Copy 7 8 0 2 1=0; Read 8 0=1; Read 8 1=1; Read 8 2=9; Read 8 3=3; Copy 8 5 0 0 0=64;";
+
+#[test]
+fn words_are_copied(rt: HostRuntime) {
+    assert!(rt; is_right(rt.alloc(), COPIED));
+}
+
+/// Pool 1 has one block of 16 storage units. Object 7 is put there, copied and vacated.
+const BLOCK: &str =
+    "Open 1 16 1=0; Allocate 1 24=1060; Allocate 1 16=1; Put 1 1 7 16=0; Write 7 1 5=0; Read 7 1=5; Allocate 1 8=1060; Deallocate 1 1=63; Standard 9 2=0; Copy 7 9 1 0 1=0; Read 9 0=5; Vacate 7=1; Read 7 1=64; Deallocate 1 1=0; Put 1 1 8 16=63; Deallocate 1 1=63;";
+
+#[test]
+fn an_object_lives_in_a_block(rt: HostRuntime) {
+    assert!(rt; is_right(rt.alloc(), BLOCK));
+}
+
+/// A block that was given back goes out again under another address, with words that are 0.
+const ADDRESS: &str =
+    "Open 1 16 1=0; Allocate 1 16=1; Put 1 1 7 16=0; Write 7 0 3=0; Vacate 7=1; Deallocate 1 1=0; Allocate 1 9=2; Put 1 2 7 16=0; Read 7 0=0;";
+
+#[test]
+fn an_address_is_used_once(rt: HostRuntime) {
+    assert!(rt; is_right(rt.alloc(), ADDRESS));
+}
+
+/// Pool 1 has the object 7 in one of its two blocks, and none in the other, pool 2 has 8, and 9 lies in no block: what
+/// stays when pool 1 closes. Nothing can be allocated in it then, until it is opened again.
+const CLOSED: &str =
+    "Open 1 16 2=0; Open 2 16 1=0; Allocate 1 16=1; Allocate 1 16=2; Allocate 2 16=3; Put 1 1 7 16=0; Put 2 3 8 16=0; Standard 9 2=0; Write 8 1 3=0; Write 9 1 4=0; End 1=1; Read 7 1=64; Deallocate 1 2=63; Read 8 1=3; Read 9 1=4; Allocate 1 16=2000; Open 1 8 1=0; Allocate 1 8=4;";
 
 #[test]
 fn a_pool_closes(rt: HostRuntime) {
-    let mut store = PoolStore::new(rt.alloc());
-    let (words, faults) = what_a_closed_pool_leaves(&mut store);
-    let opened_again = open_again(&mut store);
-    store.close();
-    assert_eq!(rt; words, [64, 3, 4, 1]);
-    assert_eq!(rt; faults, [0, 0, 0, 0, 0, 0, 0, 63]);
-    assert_eq!(rt; opened_again, (2000, 0, 4));
+    assert!(rt; is_right(rt.alloc(), CLOSED));
 }
 
-/// A pool that closes gives its region back.
+/// Pool 2 has 32 storage units: 16 of them in its first subpool, and a second subpool that is released. Nine further ones
+/// can be created.
+const SUBPOOLS: &str =
+    "Mark 2 32=1; In 1 2 10 2=0; New 2=2; In 1 2 11 1=61; In 2 2 11 3=60; Last 2=2; Untie 2=0; In 2 2 11 1=62; Free 2=1; In 2 2 11 1=66; Untie 2=66; New 2=3; New 2=4; New 2=5; New 2=6; New 2=7; New 2=8; New 2=9; New 2=10; New 2=11; New 2=1065;";
+
 #[test]
-fn a_closed_pool_is_freed(rt: HostRuntime) -> Result<(), Fail> {
-    let heap = LocalHeap::new(rt.alloc(), 16384)?;
-    let mut store = PoolStore::new(&heap);
-    let opened = open_block(&mut store, 1, 4096, 2);
+fn objects_live_in_subpools(rt: HostRuntime) {
+    assert!(rt; is_right(rt.alloc(), SUBPOOLS));
+}
+
+/// The objects 10 and 11 lie in the first subpool of pool 2 and in a further one, and 9 in the standard pool. The second
+/// word of 10 is copied to that of 9 and within 10; 11 is vacated, the first subpool is released, and the pool closes.
+const RELEASED: &str =
+    "Mark 2 64=1; In 1 2 10 2=0; New 2=2; In 2 2 11 2=0; Standard 9 2=0; Write 10 1 5=0; Write 11 1 6=0; Write 9 0 7=0; Copy 10 9 1 1 1=0; Copy 10 10 1 0 1=0; Read 10 0=5; Vacate 11=0; Read 10 1=5; Read 11 1=64; Read 9 1=5; Untie 1=0; Free 1=0; Read 10 1=64; Read 11 1=64; Read 9 1=5; End 2=1; Read 9 1=5;";
+
+#[test]
+fn a_release_takes_the_objects_of_its_subpool(rt: HostRuntime) {
+    assert!(rt; is_right(rt.alloc(), RELEASED));
+}
+
+fn is_kind<A: Allocator>(store: &PoolStore<A>, pool: u64, kind: Option<PoolKind>) -> bool {
+    store.kind(pool) == kind
+}
+
+fn stands<A: Allocator>(store: &PoolStore<A>, subpool: u64, standing: Option<Standing>) -> bool {
+    store.standing(SubpoolNo(subpool)) == standing
+}
+
+/// The kinds of four pools, the lengths of two objects and whether they are held, and whether numbers are left.
+fn tells_kinds<A: Allocator>(store: &PoolStore<A>) -> bool {
+    is_kind(store, 1, Some(PoolKind::Blocks))
+        && is_kind(store, 2, Some(PoolKind::Marks))
+        && is_kind(store, 3, Some(PoolKind::Both))
+        && is_kind(store, 4, None)
+        && store.len_of(10) == 2
+        && store.len_of(11) == 0
+        && store.is_held(10)
+        && !store.is_held(11)
+        && store.has_addresses()
+        && store.has_subpool_numbers()
+}
+
+/// How subpool 1 stands before and after it is detached, and 0, which is none.
+fn tells_standings<A: Allocator>(store: &mut PoolStore<A>) -> bool {
+    stands(store, 1, Some(Standing::Attached))
+        && detach(store, 1) == 0
+        && stands(store, 1, Some(Standing::Detached))
+        && stands(store, 0, None)
+}
+
+/// Pools of both kinds under 3, beside those of CONDITIONS.
+fn tells_conditions(alloc: Global) -> bool {
+    let mut store = PoolStore::new(alloc);
+    let right = are_answered(&mut store, CONDITIONS)
+        && open_also(&mut store, 3)
+        && tells_kinds(&store)
+        && tells_standings(&mut store);
+    store.close();
+    right
+}
+
+/// A pool of blocks 1, a pool with marks 2 with the object 10 of two words, and a pool of blocks 3.
+const CONDITIONS: &str = "Mark 2 32=1; Open 1 16 1=0; In 1 2 10 2=0; Open 3 16 1=0;";
+
+#[test]
+fn conditions_can_be_asked(rt: HostRuntime) {
+    assert!(rt; tells_conditions(rt.alloc()));
+}
+
+/// A pool of two blocks of 4,096 storage units each gives its region back as it closes.
+fn gives_back(heap: &LocalHeap) -> bool {
+    let mut store = PoolStore::new(heap);
+    let opened = open_block(&mut store, 1, 4096, 2) == 0;
     let open = heap.used();
     let closed = close_pool(&mut store, 1);
     let left = heap.used();
     store.close();
-    assert_eq!(rt; opened, 0);
-    assert!(rt; closed);
-    // Two blocks of 4,096 storage units each.
-    assert!(rt; left < open && open - left >= 8192);
-    assert_eq!(rt; heap.used(), 0);
-    Ok(())
+    opened && closed && left < open && open - left >= 8192
+}
+
+/// In the end no byte of the heap is taken.
+fn gives_all_back(alloc: Global) -> bool {
+    match LocalHeap::new(alloc, 16384) {
+        Ok(heap) => gives_back(&heap) && heap.used() == 0,
+        Err(_) => false,
+    }
+}
+
+#[test]
+fn a_closed_pool_is_freed(rt: HostRuntime) {
+    assert!(rt; gives_all_back(rt.alloc()));
+}
+
+/// Objects 8 and 7 as above, over a heap: whether all was made, and whether what was made before a refusal stays.
+pub fn grow_on<A: Allocator + Copy>(heap: A) -> [bool; 2] {
+    let mut store = PoolStore::new(heap);
+    let first = standard(&mut store, 8, 1);
+    let _ = write(&mut store, 8, 0, 6);
+    let second = standard(&mut store, 7, 5);
+    let kept = if first == 0 { 6 } else { 64 };
+    let same = read(&store, 8, 0) == kept;
+    let other = read(&store, 7, 4) == if second == 0 { 0 } else { 64 };
+    store.close();
+    [first == 0 && second == 0, same && other]
 }
 
 /// A pool of two blocks with two objects over a heap: whether all was made, and whether what a call refused was not
 /// there and what was there before stayed.
-fn grow_in_blocks<A: Allocator + Copy>(heap: A) -> [bool; 2] {
+pub fn grow_in_blocks<A: Allocator + Copy>(heap: A) -> [bool; 2] {
     let mut store = PoolStore::new(heap);
     let opened = open_block(&mut store, 1, 16, 2);
     let first = allocate(&mut store, 1, 16);
@@ -377,276 +440,9 @@ fn grow_in_blocks<A: Allocator + Copy>(heap: A) -> [bool; 2] {
     ]
 }
 
-#[test]
-fn each_growth_of_pools_is_refused(rt: HostRuntime) -> Result<(), Fail> {
-    let mut made = false;
-    for size in 0..800 {
-        let heap = LocalHeap::new(rt.alloc(), HEAP_STEP * size)?;
-        let [all, same] = grow_in_blocks(&heap);
-        assert!(rt; same);
-        assert_eq!(rt; heap.used(), 0);
-        // No heap refuses what a smaller one had room for.
-        assert!(rt; all || !made);
-        // A heap without room refuses.
-        assert!(rt; !all || size > 0);
-        made = all;
-    }
-    assert!(rt; made);
-    Ok(())
-}
-
-#[test]
-fn each_growth_is_refused(rt: HostRuntime) -> Result<(), Fail> {
-    let mut made = false;
-    for size in 0..60 {
-        let heap = LocalHeap::new(rt.alloc(), HEAP_STEP * size)?;
-        let [all, same] = grow_on(&heap);
-        assert!(rt; same);
-        assert_eq!(rt; heap.used(), 0);
-        // No heap refuses what a smaller one had room for.
-        assert!(rt; all || !made);
-        // A heap without room refuses.
-        assert!(rt; !all || size > 0);
-        made = all;
-    }
-    assert!(rt; made);
-    Ok(())
-}
-
-// Pools with marks. A number that is given is returned, a fault's number with 1000 added, and 2000 for a condition that
-// does not hold.
-
-fn open_mark<A: Allocator + Copy>(store: &mut PoolStore<A>, pool: u64, units: u64) -> u64 {
-    if store.kind(pool).is_some() || units < 8 || units > 16777216 || !store.has_subpool_numbers() {
-        return 2000;
-    }
-    match store.open_mark(pool, units) {
-        Ok(SubpoolNo(number)) => number,
-        Err(fault) => fault.code() as u64 + 1000,
-    }
-}
-
-fn allocate_in<A: Allocator + Copy>(
-    store: &mut PoolStore<A>,
-    subpool: u64,
-    pool: u64,
-    object: u64,
-    words: u64,
-) -> u32 {
-    if store.is_held(object) || words < 1 || words > 4096 {
-        return 2000;
-    }
-    match store.allocate_in(SubpoolNo(subpool), pool, object, words * 8) {
-        Ok(()) => 0,
-        Err(fault) => fault.code(),
-    }
-}
-
-fn create_subpool<A: Allocator + Copy>(store: &mut PoolStore<A>, pool: u64) -> u64 {
-    if !is_marks(store, pool) || !store.has_subpool_numbers() {
-        return 2000;
-    }
-    match store.create_subpool(pool) {
-        Ok(SubpoolNo(number)) => number,
-        Err(fault) => fault.code() as u64 + 1000,
-    }
-}
-
-fn detach<A: Allocator>(store: &mut PoolStore<A>, subpool: u64) -> u32 {
-    match store.detach_subpool(SubpoolNo(subpool)) {
-        Ok(()) => 0,
-        Err(fault) => fault.code(),
-    }
-}
-
-fn release<A: Allocator>(store: &mut PoolStore<A>, subpool: u64) -> Option<bool> {
-    if !is_detached(store, subpool) || !store.has_subpool_numbers() {
-        return None;
-    }
-    Some(store.release_subpool(SubpoolNo(subpool)))
-}
-
-fn default_subpool<A: Allocator>(store: &PoolStore<A>, pool: u64) -> u64 {
-    if !is_marks(store, pool) {
-        return 2000;
-    }
-    store.default_subpool(pool).0
-}
-
-/// Pool 2 has 32 storage units: 16 of them in its first subpool, and a second subpool that is released.
-fn life_in_subpools<A: Allocator + Copy>(
-    store: &mut PoolStore<A>,
-) -> ([u64; 5], [u32; 7], Option<bool>) {
-    let first = open_mark(store, 2, 32);
-    let held = allocate_in(store, first, 2, 10, 2);
-    let second = create_subpool(store, 2);
-    let below = allocate_in(store, first, 2, 11, 1);
-    let large = allocate_in(store, second, 2, 11, 3);
-    let last = default_subpool(store, 2);
-    let detached = detach(store, second);
-    let foreign = allocate_in(store, second, 2, 11, 1);
-    let released = release(store, second);
-    let gone = allocate_in(store, second, 2, 11, 1);
-    let again = detach(store, second);
-    let mut made = 0;
-    for _ in 0..9 {
-        made = create_subpool(store, 2);
-    }
-    let eleventh = create_subpool(store, 2);
-    (
-        [first, second, last, made, eleventh],
-        [held, below, large, detached, foreign, gone, again],
-        released,
-    )
-}
-
-#[test]
-fn objects_live_in_subpools(rt: HostRuntime) {
-    let mut store = PoolStore::new(rt.alloc());
-    let (numbers, faults, released) = life_in_subpools(&mut store);
-    store.close();
-    assert_eq!(rt; numbers, [1, 2, 2, 11, 1065]);
-    assert_eq!(rt;
-        (faults, released),
-        ([0, 61, 60, 0, 62, 66, 66], Some(true))
-    );
-}
-
-/// The objects 10 and 11 lie in the first subpool of pool 2 and in a further one, and 9 in the standard pool.
-fn three_objects<A: Allocator + Copy>(store: &mut PoolStore<A>) -> [u32; 6] {
-    let first = open_mark(store, 2, 64);
-    let below = allocate_in(store, first, 2, 10, 2);
-    let second = create_subpool(store, 2);
-    let above = allocate_in(store, second, 2, 11, 2);
-    let made = standard(store, 9, 2);
-    let written = [
-        write(store, 10, 1, 5),
-        write(store, 11, 1, 6),
-        write(store, 9, 0, 7),
-    ];
-    [below, above, made, written[0], written[1], written[2]]
-}
-
-/// What is read of the second word of each.
-fn second_words<A: Allocator>(store: &PoolStore<A>) -> [u64; 3] {
-    [read(store, 10, 1), read(store, 11, 1), read(store, 9, 1)]
-}
-
-/// The second word of 10 is copied to that of 9 and within 10: what the calls answer, and what is read then.
-fn copied_on<A: Allocator>(store: &mut PoolStore<A>) -> ([u32; 2], u64) {
-    let copied = copy(store, [10, 9], [1, 1], 1);
-    let within = copy(store, [10, 10], [1, 0], 1);
-    ([copied, within], read(store, 10, 0))
-}
-
-/// The first subpool is released: what the calls answer, and what is read of the second words then.
-fn first_released<A: Allocator>(store: &mut PoolStore<A>) -> (u32, Option<bool>, [u64; 3]) {
-    let detached = detach(store, 1);
-    let below = release(store, 1);
-    (detached, below, second_words(store))
-}
-
-#[test]
-fn a_release_takes_the_objects_of_its_subpool(rt: HostRuntime) {
-    let mut store = PoolStore::new(rt.alloc());
-    let made = three_objects(&mut store);
-    let copied = copied_on(&mut store);
-    let vacated = (vacate(&mut store, 11), second_words(&store));
-    let released = first_released(&mut store);
-    let closed = (close_pool(&mut store, 2), read(&store, 9, 1));
-    store.close();
-    assert_eq!(rt; made, [0, 0, 0, 0, 0, 0]);
-    assert_eq!(rt; (copied, vacated), (([0, 0], 5), (0, [5, 64, 5])));
-    assert_eq!(rt;
-        (released, closed),
-        ((0, Some(false), [64, 64, 5]), (true, 5))
-    );
-}
-
-/// What is asked of pools and of objects: the kinds of four pools, the lengths of two objects and whether they are held, and
-/// whether numbers are left.
-fn queried<A: Allocator>(
-    store: &PoolStore<A>,
-) -> ([Option<PoolKind>; 4], [usize; 2], [bool; 2], bool) {
-    let kinds = [store.kind(1), store.kind(2), store.kind(3), store.kind(4)];
-    let lengths = [store.len_of(10), store.len_of(11)];
-    let held = [store.is_held(10), store.is_held(11)];
-    let numbers = store.has_addresses() && store.has_subpool_numbers();
-    (kinds, lengths, held, numbers)
-}
-
-/// How a subpool stands before and after it is detached, what that call answers, and how 0 stands, which is none.
-fn standing_of<A: Allocator>(
-    store: &mut PoolStore<A>,
-    subpool: u64,
-) -> ([Option<Standing>; 3], u32) {
-    let attached = store.standing(SubpoolNo(subpool));
-    let detached = detach(store, subpool);
-    let standing = [
-        attached,
-        store.standing(SubpoolNo(subpool)),
-        store.standing(SubpoolNo(0)),
-    ];
-    (standing, detached)
-}
-
-/// Opens a pool of blocks 1, a pool with marks 2 with the object 10 of two words, and pools of both kinds under 3: the
-/// number of the subpool, and what the other calls answer.
-fn open_three<A: Allocator + Copy>(store: &mut PoolStore<A>) -> (u64, [u32; 3], bool) {
-    let subpool = open_mark(store, 2, 32);
-    let opened = [
-        open_block(store, 1, 16, 1),
-        allocate_in(store, subpool, 2, 10, 2),
-        open_block(store, 3, 16, 1),
-    ];
-    (subpool, opened, open_also(store, 3))
-}
-
-/// Asks the queries about these pools, and no pool 4.
-#[test]
-fn conditions_can_be_asked(rt: HostRuntime) {
-    let mut store = PoolStore::new(rt.alloc());
-    let opened = open_three(&mut store);
-    let asked = queried(&store);
-    let standing = standing_of(&mut store, 1);
-    store.close();
-    assert_eq!(rt; opened, (1, [0, 0, 0], true));
-    assert_eq!(rt;
-        asked,
-        (
-            [
-                Some(PoolKind::Blocks),
-                Some(PoolKind::Marks),
-                Some(PoolKind::Both),
-                None
-            ],
-            [2, 0],
-            [true, false],
-            true
-        )
-    );
-    assert_eq!(rt;
-        standing,
-        (
-            [Some(Standing::Attached), Some(Standing::Detached), None],
-            0
-        )
-    );
-}
-
-/// Opens a pool with marks under the number of a pool of blocks.
-fn open_also<A: Allocator + Copy>(store: &mut PoolStore<A>, pool: u64) -> bool {
-    match store.kind(pool) {
-        Some(PoolKind::Blocks) => {
-            store.has_subpool_numbers() && store.open_mark(pool, 8).is_ok()
-        }
-        _ => false,
-    }
-}
-
 /// A pool with two subpools over a heap: whether all was made, and whether what was refused was not there and what was
 /// there before stayed.
-fn grow_in_subpools<A: Allocator + Copy>(heap: A) -> [bool; 2] {
+pub fn grow_in_subpools<A: Allocator + Copy>(heap: A) -> [bool; 2] {
     let mut store = PoolStore::new(heap);
     let first = open_mark(&mut store, 2, 32);
     let held = allocate_in(&mut store, first, 2, 7, 2);
@@ -663,19 +459,16 @@ fn grow_in_subpools<A: Allocator + Copy>(heap: A) -> [bool; 2] {
 }
 
 #[test]
-fn each_growth_of_subpools_is_refused(rt: HostRuntime) -> Result<(), Fail> {
-    let mut made = false;
-    for size in 0..640 {
-        let heap = LocalHeap::new(rt.alloc(), HEAP_STEP * size)?;
-        let [all, same] = grow_in_subpools(&heap);
-        assert!(rt; same);
-        assert_eq!(rt; heap.used(), 0);
-        // No heap refuses what a smaller one had room for.
-        assert!(rt; all || !made);
-        // A heap without room refuses.
-        assert!(rt; !all || size > 0);
-        made = all;
-    }
-    assert!(rt; made);
-    Ok(())
+fn each_growth_is_refused(rt: HostRuntime) {
+    assert!(rt; refuses_each_growth(rt.alloc(), Grown::Standard, 60));
+}
+
+#[test]
+fn each_growth_of_pools_is_refused(rt: HostRuntime) {
+    assert!(rt; refuses_each_growth(rt.alloc(), Grown::InBlocks, 800));
+}
+
+#[test]
+fn each_growth_of_subpools_is_refused(rt: HostRuntime) {
+    assert!(rt; refuses_each_growth(rt.alloc(), Grown::InSubpools, 640));
 }
