@@ -61,7 +61,8 @@ use Rattle.ctl_draft.specs.Draft.{Doing, by_tables, early_when, fault_when, aski
 use Rattle.ctl_draft.specs.Marks.{named_type, concrete_type, no_pool, is_pool, is_controlled, positions, root_of_type}
 use Rattle.ctl_draft.specs.Freezing.{changed, with_records, is_free_type, done_by}
 use Rattle.ctl_draft.specs.Operations.{provides, operation_formals, formal}
-use Rattle.ctl_declarations.specs.Types.{is_given, record_type, extension, access_type}
+use Rattle.ctl_declarations.specs.Types.{is_given, record_type, extension}
+use Rattle.ctl_access_types.specs.AccessTypes.{access_type}
 use Rattle.ctl_syntax.specs.declared.item.Definition.{Definition as Type_definition}
 use Rattle.ctl_syntax.specs.declared.item.Definition.TheVariants as definition
 use Rattle.ctl_syntax.specs.declared.item.Taggedness.{Taggedness}

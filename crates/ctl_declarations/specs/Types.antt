@@ -1,8 +1,7 @@
 -- Types and their components as they are declared (3.8, 3.9.1, 3.10, 13.11), and the pools of access types.
-use Rattle.std.specs.Prelude.{ℕ, ◌+◌, Bool, true, false, ◌&&◌, ◌||◌, if◌then◌else◌, nat_eq, nat_lt, nat_le, List, [], ◌∷◌, ◌++◌, length, slice_get, Option, Some, None, option_map}
+use Rattle.std.specs.Prelude.{ℕ, ◌+◌, Bool, true, false, ◌&&◌, ◌||◌, if◌then◌else◌, nat_eq, nat_le, List, [], ◌∷◌, ◌++◌, length, slice_get, Option, Some, None, option_map}
 use Rattle.ctl_grammar.specs.Spelling.{same_name}
 use Rattle.ctl_tree.specs.declared.span.Span.{Span}
-use Rattle.ctl_tree.specs.declared.fault.FaultCode.{FaultCode}
 use Rattle.ctl_tree.specs.declared.fault.FaultCode.TheVariants as rule
 use Rattle.ctl_program.specs.declared.types.Ty.{Ty}
 use Rattle.ctl_program.specs.declared.types.Ty.TheVariants as ty
@@ -18,15 +17,9 @@ use Rattle.ctl_syntax.specs.declared.denoted.Denoted.TheVariants as denoted
 use Rattle.ctl_syntax.specs.declared.denoted.LibraryName.{LibraryName}
 use Rattle.ctl_syntax.specs.declared.denoted.LibraryName.TheVariants as library
 use Rattle.ctl_syntax.specs.declared.denoted.Use.{Use}
-use Rattle.ctl_syntax.specs.declared.denoted.Definition.{Definition}
 use Rattle.ctl_syntax.specs.declared.item.Components.{Components}
-use Rattle.ctl_syntax.specs.declared.item.Coverage.{Coverage}
-use Rattle.ctl_syntax.specs.declared.item.Coverage.TheVariants as coverage
-use Rattle.ctl_syntax.specs.declared.item.Generality.{Generality}
-use Rattle.ctl_syntax.specs.declared.item.Generality.TheVariants as generality
 use Rattle.ctl_syntax.specs.declared.item.Limitation.{Limitation}
 use Rattle.ctl_syntax.specs.declared.item.Limitation.TheVariants as limitation
-use Rattle.ctl_syntax.specs.declared.item.Taggedness.TheVariants as taggedness
 use Rattle.ctl_syntax.specs.declared.name.Identifier.{Identifier}
 use Rattle.ctl_syntax.specs.declared.name.Mark.{Mark}
 use Rattle.ctl_typing.specs.declared.notes.Deed.TheVariants.{Freezes}
@@ -43,20 +36,19 @@ use Rattle.ctl_typing.specs.declared.table.Concreteness.TheVariants as concreten
 use Rattle.ctl_typing.specs.declared.table.Control.{Control}
 use Rattle.ctl_typing.specs.declared.table.Control.TheVariants as control
 use Rattle.ctl_typing.specs.declared.table.Defaults.TheVariants.{Unused}
-use Rattle.ctl_typing.specs.declared.table.Designated.{Designated}
-use Rattle.ctl_typing.specs.declared.table.Designated.TheVariants as designated
 use Rattle.ctl_typing.specs.declared.table.Freezing.TheVariants.{Free}
 use Rattle.ctl_typing.specs.declared.found.Asked.TheVariants.{Exactly}
 use Rattle.ctl_draft.specs.declared.draft.Draft.{Draft}
 use Rattle.ctl_draft.specs.declared.draft.Around.{Around}
 use Rattle.ctl_draft.specs.declared.draft.Enclosing.{Enclosing}
 use Rattle.ctl_typing.specs.Judgement.{Judgement, known, but, wrong, unresolved, ◌>>=◌, each, with_early}
-use Rattle.ctl_typing.specs.Lookup.{component_of, root_of, is_limited, is_mark_root}
+use Rattle.ctl_typing.specs.Lookup.{component_of, root_of, is_limited}
 use Rattle.ctl_typing.specs.Typing.{Sense, sense, discriminant_named, together}
-use Rattle.ctl_draft.specs.Draft.{Doing, by_tables, early_when, fault_when, asking, deeds_of, asked, enter, take_slot, next_var}
+use Rattle.ctl_draft.specs.Draft.{Doing, by_tables, early_when, asking, deeds_of, asked, enter}
 use Rattle.ctl_draft.specs.Marks.{concrete_type, named_type, no_pool, is_controlled, pool_named}
-use Rattle.ctl_draft.specs.Freezing.{changed, changed_each, with_accesses, is_free_type, done_by}
+use Rattle.ctl_draft.specs.Freezing.{changed, with_accesses, is_free_type, done_by}
 use Rattle.ctl_draft.specs.Operations.{operations_of}
+use Rattle.ctl_access_types.specs.AccessTypes.{enter_type, untagged_kept, pool_for}
 
 -- Components (3.8) --------------------------------------------------------------------------------
 
@@ -219,31 +211,6 @@ add_record r s cs d =
       components = d.components ++ cs ∷ [];
     }
 
--- Incomplete types (3.10.1) --------------------------------------------------------------------------------------
-
-abbrev pub completed_designated : ℕ → Ty → Designated → Designated
-completed_designated number t (designated.Awaited n) = if nat_eq n number then designated.Known t else designated.Awaited n
-completed_designated number t d = d
-
-abbrev pub completed_access : ℕ → Ty → AccessEntry → AccessEntry
-completed_access number t a = record a { designated = completed_designated number t a.designated }
-
--- the access types of the part that wait for this declaration
-abbrev pub complete : Around → ℕ → Ty → Draft → Draft
-complete around number t d = with_accesses (changed_each (completed_access number t) around.first_access d.tables.states.accesses) d
-
--- the type of this number of declaration is known from here on
-abbrev pub enter_type : Around → ℕ → Ty → Draft → Draft
-enter_type around number t d = complete around number t (enter around number (entry.«Type» t) d)
-
-abbrev pub is_said_tagged : Option Entry → Bool
-is_said_tagged (Some (entry.Incomplete taggedness.Tagged)) = true
-is_said_tagged e = false
-
--- a type that was said to be tagged is completed by one that is (3.10.1(4)): this one is not
-abbrev pub untagged_kept : Span → ℕ → Draft → Draft
-untagged_kept place number d = fault_when (is_said_tagged (slice_get d.tables.entries number)) rule.Type place d
-
 -- Types by their definitions ------------------------------------------------------------------------------------
 
 abbrev pub enter_record : Around → Enclosing → Root → Limitation → Option (List Component) × Draft → Draft
@@ -297,67 +264,6 @@ extension_of place number cs around (Some t, d) = extend around place number t c
 -- an extension freezes its parent (13.14(7))
 abbrev pub extension : Span → ℕ → Mark Use → List (Components Use) → Around → Draft → List Checked_item × Draft
 extension place number m cs around d = extension_of place number cs around (by_tables (parent_named place m) d)
-
--- Access types (3.10) ------------------------------------------------------------------------------------------------
-
--- a type that is complete, and no pool
-abbrev pub designated_type : Tables → Span → Mark Use → Judgement Designated
-designated_type tables place m = named_type tables place m >>= no_pool tables m.first.span >>= (λ t. known (designated.Known t))
-
-abbrev pub designated_entry : Tables → Span → Mark Use → ℕ → Option Entry → Judgement Designated
-designated_entry tables place m number (Some (entry.Incomplete t)) = known (designated.Awaited number)
-designated_entry tables place m number e = designated_type tables place m
-
-abbrev pub designated_denoted : Tables → Span → Mark Use → Denoted → Judgement Designated
-designated_denoted tables place m (denoted.Declared number level) = designated_entry tables place m number (slice_get tables.entries number)
-designated_denoted tables place m d = designated_type tables place m
-
--- an access type may designate an incomplete type (3.10.1); a class only once class-wide types are there
-abbrev pub designated_named : Span → Mark Use → Coverage → Tables → Judgement Designated
-designated_named place m coverage.Specific tables = designated_denoted tables place m m.first.denoted
-designated_named place m coverage.ClassWide tables = wrong rule.Type place
-
-abbrev pub is_all : Generality → Bool
-is_all generality.General = true
-is_all generality.PoolSpecific = false
-
-abbrev pub same_pool : (Var × ℕ) → Bool → FaultCode → Span → Judgement (Var × ℕ)
-same_pool p b code place = if b then but code place p else known p
-
--- a type with subpools is not general, and no deeper than its pool (13.11.4, profile)
-abbrev pub pool_for : Tables → Generality → ℕ → Span → Span → Var × ℕ → Judgement (Var × ℕ)
-pool_for tables g level identifier place p =
-    if is_mark_root (root_of (slice_get tables.records p.1))
-    then (same_pool p (is_all g) rule.Pool place >>= (λ q. same_pool q (nat_lt q.0.level level) rule.SubpoolLevel identifier))
-    else known p
-
-abbrev pub pool_given : Generality → ℕ → Span → Option (Mark Use) → Tables → Judgement (Var × ℕ)
-pool_given g level identifier None tables = λ n. (None, n)
-pool_given g level identifier (Some m) tables = pool_named tables m >>= pool_for tables g level identifier m.first.span
-
-abbrev pub or_unclear : Option Designated → Designated
-or_unclear None = designated.Unclear
-or_unclear (Some t) = t
-
-abbrev pub add_access : Around → ℕ → AccessEntry → Draft → Draft
-add_access around number a d =
-    take_slot (ty.Access (length d.tables.states.accesses))
-    (enter_type around number (ty.Access (length d.tables.states.accesses)) (with_accesses (d.tables.states.accesses ++ a ∷ []) d))
-
-abbrev pub access_entry : Around → Span → Generality → Coverage → Option Designated → Option (Var × ℕ) → Draft → AccessEntry
-access_entry around identifier g c t p d =
-    record { level = around.level; span = identifier; generality = g; coverage = c; designated = or_unclear t; collection = next_var around d; pool = p; freezing = Free }
-
-abbrev pub enter_access : Around → ℕ → Span → Generality → Coverage → Option Designated → Option (Var × ℕ) × Draft → Draft
-enter_access around number identifier g c t (p, d) = add_access around number (access_entry around identifier g c t p d) d
-
-abbrev pub access_with : Around → ℕ → Span → Generality → Coverage → Option (Mark Use) → Option Designated × Draft → Draft
-access_with around number identifier g c pool (t, d) = enter_access around number identifier g c t (by_tables (pool_given g around.level identifier pool) d)
-
--- it takes a slot, for its collection; it is elaborated where that is made
-abbrev pub access_type : Span → Definition → Generality → Mark Use → Coverage → Option (Mark Use) → Around → Draft → List Checked_item × Draft
-access_type place name g m c pool around d =
-    ([], access_with around name.number name.identifier.span g c pool (by_tables (designated_named place m c) (untagged_kept place name.number d)))
 
 -- Storage_Pool clauses (13.3, 13.11) ------------------------------------------------------------------------------------
 

@@ -3,9 +3,9 @@
 ghost use Rattle.ctl_declarations.specs.Declarations as spec;
 ghost use Rattle.ctl_typing.specs.Judgement.{Yields};
 
-use crate::accesses::access_type;
 use crate::own_names::keep_name;
 use crate::records::{extension, record_type};
+use ctl_access_types::accesses::access_type;
 use ctl_draft::draft::{Around, Draft};
 use ctl_program::statement::Item;
 use ctl_syntax::denoted::{Definition, Use};

@@ -3,13 +3,13 @@
 //! "RM" is ISO/IEC 8652:2012.
 #![tactic(auto)]
 
-pub mod accesses;
 pub mod components;
 pub mod definitions;
 pub mod discriminants;
 pub mod exceptions;
 pub mod formals;
 pub mod headings;
+pub mod incomplete;
 pub mod instances;
 pub mod objects;
 pub mod overriding;

@@ -5,7 +5,8 @@ ghost use Rattle.ctl_declarations.specs.Types as spec;
 ghost use Rattle.ctl_draft.specs.Freezing as freezing;
 ghost use Rattle.ctl_typing.specs.Judgement.{Answers, Yields};
 
-use crate::accesses::{pool_for, silent};
+use crate::incomplete::silent;
+use ctl_access_types::accesses::pool_for;
 use ctl_draft::draft::{Around, Draft};
 use ctl_draft::freezing::is_free_type;
 use ctl_draft::types::pool_named;

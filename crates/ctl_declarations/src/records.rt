@@ -6,8 +6,9 @@ ghost use Rattle.ctl_draft.specs.Draft as draft_spec;
 ghost use Rattle.ctl_draft.specs.Operations as operation_spec;
 ghost use Rattle.ctl_typing.specs.Judgement.{Answers, Judges, Yields};
 
-use crate::accesses::{enter_type, silent, untagged_kept};
 use crate::components::{components, inherited_count, last_position};
+use crate::incomplete::silent;
+use ctl_access_types::accesses::{enter_type, untagged_kept};
 use ctl_draft::draft::{Around, Draft, Enclosing};
 use ctl_draft::freezing::done_by;
 use ctl_draft::named_types::named_type;

@@ -1,23 +1,15 @@
 //! Objects are freed (RM 13.11.2): one that is still to be finalized is finalized, what designated it becomes null, it is gone, and its storage
 //! is given back.
 
-ghost use Rattle.std.specs.Prelude.{◌≡◌, ◌+◌, ◌-◌, ◌^◌, ◌<◌, ◌≤◌, ◌∷◌, ◌++◌, ◌&&◌, [], List, ℕ, IfOk, OnErr, OnOk, Some, drop, is_some, length, reverse, slice_get, true, false, vec_capacity, vec_len};
+ghost use Rattle.std.specs.Prelude.{◌≡◌, ◌+◌, ◌-◌, ◌^◌, ◌<◌, ◌≤◌, ◌∷◌, ◌++◌, List, ℕ, IfOk, OnErr, OnOk, Some, drop, is_some, length, reverse, slice_get, false, vec_capacity, vec_len};
 ghost use Rattle.ctl_tree.specs.declared.event.Cause.TheVariants as CauseOf;
-ghost use Rattle.ctl_tree.specs.declared.event.Event.TheVariants as EventOf;
-ghost use Rattle.ctl_meaning.specs.Changes.{home_of, object_at};
+ghost use Rattle.ctl_meaning.specs.Changes.{object_at};
 ghost use Rattle.ctl_meaning.specs.Finalization as S;
-ghost use Rattle.ctl_meaning.specs.Objects.{is_untouched, object_in};
-ghost use Rattle.ctl_meaning.specs.Pools.{block_pool_at};
-ghost use Rattle.ctl_meaning.specs.Storage.{storage_actuals};
-ghost use Rattle.ctl_meaning.specs.World.{World};
 ghost use Rattle.ctl_objects.specs.Existing.{origin_of};
-ghost use Rattle.ctl_objects.specs.Pools.{ShowsPools};
 ghost use Rattle.ctl_storage.specs.Allocated.{place_of};
-ghost use Rattle.ctl_storage.specs.Stages.{state_of};
-ghost use Rattle.ctl_code.specs.declared.code.Code as CodeOf;
 ghost use Rattle.ctl_code.specs.declared.code.Instr.TheVariants as InstrOf;
 ghost use Rattle.ctl_code.specs.Table as Table;
-ghost use Rattle.ctl_code.specs.States.{AfterProcedure, Giving, NullPart, NullVariable, State, whole_spot};
+ghost use Rattle.ctl_code.specs.States.{Giving, NullPart, NullVariable, State, whole_spot};
 ghost use Rattle.ctl_code.specs.Valid.{IsValid};
 ghost use Rattle.ctl_engine.specs.declared.frame.Frame.{Frame};
 ghost use Rattle.ctl_engine.specs.declared.frame.Frame.TheVariants as FrameOf;
@@ -26,45 +18,29 @@ ghost use Rattle.ctl_engine.specs.Allocating.{OwnsNone};
 ghost use Rattle.ctl_engine.specs.Assigning.{HasRoom};
 ghost use Rattle.ctl_engine.specs.Finishing.{AreDoubles};
 ghost use Rattle.ctl_engine.specs.Freeing as Freeing;
-ghost use Rattle.ctl_engine.specs.Freeing.{Freed, Frees, Deallocates, Gone, HasReturnRoom, IsEnding, IsFate, IsGivenBack, IsGone, IsLetGo, IsReleased, by_component, by_variable, freeing_of, gone_by_part, gone_by_variable, point_of, storage_at, units_at};
+ghost use Rattle.ctl_engine.specs.Freeing.{Freed, Frees, Gone, HasReturnRoom, IsEnding, IsFate, IsLetGo, IsReleased, by_component, by_variable, freeing_of, gone_by_part, point_of, storage_at, units_at};
 ghost use Rattle.ctl_engine.specs.Masters.{heads_of};
 ghost use Rattle.ctl_engine.specs.Moves.{Before, BeforeResuming, GoesOn, Makes, here_of};
 ghost use Rattle.ctl_engine.specs.Shows as Shows;
 ghost use Rattle.ctl_engine.specs.Shows.{Holds, IsStored, kept};
 ghost use Rattle.ctl_engine.specs.Spots.{first_spot};
-ghost use Rattle.ctl_engine.specs.StorageCalling.{StorageCall};
 ghost use Rattle.ctl_engine.specs.Under.{tall};
 
 use crate::finalizing::finalize_whole;
-use ctl_code::code::{Code, Parts};
+use ctl_code::code::Code;
 use ctl_engine::engine::Engine;
 use ctl_engine::finalizing::{Doubles, Finalization, doubled};
-use ctl_engine::frame::{After, Ended, Frame, Mode, Nulled, Storage};
-use ctl_engine::freeing::{Component, Deallocation, Ending, Fate, Found, GivenBack, Release};
+use ctl_engine::frame::{Ended, Frame, Mode, Nulled, Storage};
+use ctl_engine::freeing::{Component, Ending, Fate, Found, Release};
 use ctl_engine::granting::units_for;
 use ctl_engine::parts::{offset_of, parts_of};
 use ctl_engine::spots::Spot;
-use ctl_engine::storage_calls::StorageActuals;
-use ctl_objects::{BlockReturn, Existing, Life, Objects, Origin, Place, PoolState};
+use ctl_objects::{Existing, Life, Objects, Origin, Place};
 use ctl_program::types::{Ty, Var};
+use ctl_steps::freeing::{deallocate_of, is_unfinished, null_variable, return_storage};
 use ctl_tree::ending::Stop;
-use ctl_tree::event::{Cause, Event};
+use ctl_tree::event::Cause;
 use std::alloc::AllocError;
-
-/// Tells whether an object of a record type is still to be finalized: it has joined its collection, its finalization has not begun, and some
-/// part of it is controlled (RM 7.6.1).
-#[tactic(auto, unfolding(ctl_meaning::specs::Objects::is_untouched))]
-fn is_unfinished(code: &Code, existing: &Existing, record: usize) -> bool
-    ensures { result ≡ (existing.now.stage.has_joined && (is_untouched (state_of existing.now.stage.life) && Table.has_part (Table.parts_of code.now «record»))) }
-{
-    if !existing.stage.has_joined {
-        return false;
-    }
-    match existing.stage.life {
-        Life::Untouched => !matches!(parts_of(code, record), Parts::Plain),
-        _ => false,
-    }
-}
 
 /// Answers what becomes of an object that exists, by the collection from which it is to be freed (RM 13.11.2).
 fn fate_of(code: &Code, set: u64, existing: &Existing) -> Fate
@@ -101,60 +77,6 @@ fn storage_of(origin: Origin) -> Place
     }
 }
 
-/// Answers the number of the body that the user wrote for the Deallocate of a type, if there is one (RM 13.11).
-fn deallocate_of(code: &Code, ty: Ty) -> Option<usize>
-    ensures { result ≡ Table.operation_for (λ x. x.deallocate) code.now ty }
-{
-    let Ty::Record(record) = ty else {
-        return None;
-    };
-    code.records.as_slice().get(record)?.deallocate
-}
-
-/// Gives a block back to its pool by the library's Deallocate (RM 13.11); the object of the pool exists. Where the pool has closed, or the
-/// block is not out, or holds an object, the program is erroneous, and nothing changes (RM 13.11.2).
-fn give_to_pool(stock: &mut Objects, number: u64, address: u64) -> GivenBack
-    requires exists { is_some (object_in number stock.old.objects) ≡ true }
-    ensures objects { stock.new.objects ≡ stock.old.objects }
-    ensures needs { stock.new.needs ≡ stock.old.needs }
-    ensures back { (code : CodeOf.Code) (next : ℕ) (w : World) → w.objects ≡ stock.old.objects → ShowsPools next w.pools stock.old → IsGivenBack code next w stock.new (Table.pool_return number address (block_pool_at number w.pools) w) result }
-{
-    let Some(pool) = stock.pool(number) else {
-        return GivenBack::Stops(Stop::UseAfterFree);
-    };
-    if let PoolState::Closed = pool.state {
-        return GivenBack::Stops(Stop::UseAfterFree);
-    }
-    match stock.give_block(number, address) {
-        BlockReturn::Accepted => GivenBack::Accepted,
-        BlockReturn::Refused => GivenBack::Stops(Stop::BadAddress),
-    }
-}
-
-/// Gives back the storage of an object that is gone (RM 13.11.2): a block goes back to its pool, by the Deallocate that the user wrote for
-/// its type, which is still to be called, or by the library's. Where the pool is gone, the program is erroneous, and nothing changes.
-#[inline(always)]
-fn give_back(code: &Code, stock: &mut Objects, storage: Place) -> GivenBack
-    ensures objects { stock.new.objects ≡ stock.old.objects }
-    ensures needs { stock.new.needs ≡ stock.old.needs }
-    ensures back { (next : ℕ) (w : World) → w.objects ≡ stock.old.objects → ShowsPools next w.pools stock.old → IsGivenBack code.now next w stock.new (Table.return_to code.now (place_of storage) w) result }
-{
-    let Place::InBlock(block) = storage else {
-        return GivenBack::Accepted;
-    };
-    let Some(pool) = stock.find(block.pool) else {
-        return GivenBack::Stops(Stop::UseAfterFree);
-    };
-    match deallocate_of(code, pool.ty) {
-        Some(body) => GivenBack::Calls(Deallocation {
-            pool: block.pool,
-            address: block.address,
-            body,
-        }),
-        None => give_to_pool(stock, block.pool, block.address),
-    }
-}
-
 /// Tells whether storage is given back by a Deallocate that the user wrote: that of the pool in which the block lies (RM 13.11).
 #[inline(always)]
 fn calls_back(code: &Code, stock: &Objects, storage: Place) -> bool
@@ -166,18 +88,6 @@ fn calls_back(code: &Code, stock: &Objects, storage: Place) -> bool
     match stock.find(block.pool) {
         Some(pool) => deallocate_of(code, pool.ty).is_some(),
         None => false,
-    }
-}
-
-/// Answers the place where it goes on behind the freeing of an object whose finalization has ended so: at this place, where Program_Error is
-/// raised, if a Finalize failed, or else at the next one (RM 13.11.2).
-fn place_behind(ended: Ended, place: usize) -> usize
-    requires { place + 1 < 2 ^ 64 }
-    ensures { result ≡ Freeing.place_behind ended place }
-{
-    match ended {
-        Ended::Complete => place + 1,
-        _ => place,
     }
 }
 
@@ -517,82 +427,6 @@ fn prepare_return(
     let height = code.kinds.height_at(place, 0);
     let base = engine.window().checked_add(height).ok_or(AllocError)?;
     engine.prepare(base, code.room, 1)
-}
-
-/// Calls the Deallocate that the user wrote for the type of a pool, for a block of so many storage units (RM 13.11); the call goes on at
-/// this place, and the window of the body begins with this cell. There is room.
-fn deallocate(
-    engine: &mut Engine,
-    code: &Code,
-    call: Deallocation,
-    units: u64,
-    place: usize,
-    base: usize,
-)
-    ghost t: { StorageCall }
-    requires valid { IsValid code.now }
-    requires deallocates { Deallocates code.now engine.old call units place t }
-    requires base { base ≡ tall t.control (heads_of t.world.activations) + length t.point.operands }
-    requires room { HasRoom code.now engine.old base }
-    ensures { Makes code.now engine.old engine.new (Table.enter_body (slice_get code.now.entries.items t.body) (EventOf.Deallocate t.object.number t.units ∷ []) (home_of t.object.origin t.world) (storage_actuals t.object.number t.address t.units) (AfterProcedure 0 t.point) t.control t.world) }
-{
-    let Some(master) = engine.master_of(call.pool) else {
-        unreachable!();
-    };
-    let event = Event::Deallocate(call.pool, units);
-    let actuals = StorageActuals {
-        pool: call.pool,
-        address: call.address,
-        units,
-    };
-    let after = After::Procedure { place, copies: 0 };
-    let entry = code.entries[call.body];
-    engine.call_storage(code, &entry, master, base, event, actuals, after);
-}
-
-/// Gives back the storage of an object that is gone, and goes on behind its freeing (RM 13.11.2); there is room for the call of a
-/// Deallocate.
-#[inline(always)]
-fn return_storage(engine: &mut Engine, code: &Code, ending: Ending)
-    ghost t: { Gone }
-    requires valid { IsValid code.now }
-    requires gone { IsGone code.now engine.old ending.place t }
-    requires ends { IsEnding code.now engine.old ending }
-    ensures { Makes code.now engine.old engine.new (Table.freed_by code.now ending.storage.units (Table.says_failed (Shows.tried_of ending.ended)) (Table.return_to code.now (place_of ending.storage.place) t.world) t.point t.control t.world) }
-{
-    let next = place_behind(ending.ended, ending.place);
-    match give_back(code, &mut engine.stock, ending.storage.place) {
-        GivenBack::Accepted => engine.mode = Mode::At(next),
-        GivenBack::Stops(stop) => engine.mode = Mode::Stopped(stop),
-        GivenBack::Calls(call) => {
-            let units = ending.storage.units as u64;
-            let base = engine.window() + code.kinds.height_at(ending.place, 0);
-            deallocate(engine, code, call, units, next, base);
-        }
-    }
-}
-
-/// Makes the variable null by which an object is freed; the object is gone, and its storage is given back (RM 13.11.2). There is room for
-/// the call of a Deallocate.
-#[inline(always)]
-fn null_variable(
-    engine: &mut Engine,
-    code: &Code,
-    object: u64,
-    out: usize,
-    slot: usize,
-    ending: Ending,
-)
-    ghost t: { Gone × Gone }
-    requires valid { IsValid code.now }
-    requires goes { IsLetGo code.now engine.old object ending.place t.0 }
-    requires gone { t.1 ≡ gone_by_variable object out slot t.0 }
-    requires ends { IsEnding code.now engine.old ending }
-    ensures { Makes code.now engine.old engine.new (Table.freed_in code.now (NullVariable out slot) object (place_of ending.storage.place) ending.storage.units (Table.says_failed (Shows.tried_of ending.ended)) t.0.point t.0.control t.0.world) }
-{
-    engine.give(code, out, slot, 0, ending.place);
-    engine.stock.forget(object);
-    return_storage(engine, code, ending);
 }
 
 /// Makes the component null by which an object is freed; the object is gone, and its storage is given back. Where the object of the

@@ -9,11 +9,11 @@ ghost use Rattle.ctl_engine.specs.declared.frame.Frame.TheVariants as FrameOf;
 ghost use Rattle.ctl_engine.specs.Moves.{BeforeResuming, Makes};
 ghost use Rattle.ctl_engine.specs.Shows as Shows;
 
-use crate::closing::close_after;
 use ctl_code::code::Code;
 use ctl_engine::engine::Engine;
 use ctl_engine::frame::{Ended, Frame, Mode};
 use ctl_engine::layers::remembered;
+use ctl_steps::closing::close_after;
 use ctl_tree::event::Cause;
 
 /// Notes that the finalization of the object of this number, for this cause, has ended, and hands on whether it failed (RM 7.6.1). A

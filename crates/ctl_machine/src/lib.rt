@@ -3,21 +3,17 @@
 
 mod advance;
 mod assign;
-mod closing;
 mod emptying;
 mod ending;
 mod evaluating;
 mod finalizing;
 mod freeing;
 mod handlers;
-mod initialize;
-mod jumps;
 mod layers;
 mod leaving;
 pub mod machine;
 mod procedures;
 mod resuming;
-mod returning;
 mod several;
 mod step;
 mod stretch;

@@ -11,31 +11,19 @@ ghost use Rattle.ctl_engine.specs.Calling as Calling;
 ghost use Rattle.ctl_engine.specs.Calling.{BeforeCall};
 ghost use Rattle.ctl_engine.specs.Masters.{first_window};
 ghost use Rattle.ctl_engine.specs.Moves.{GoesOn, Makes, here_of};
-ghost use Rattle.ctl_engine.specs.Passing.{AreActuals, StandIn, bound, cell_passed, formal_if, is_located, is_part_at, passed, with_actuals};
+ghost use Rattle.ctl_engine.specs.Passing.{AreActuals, StandIn, bound, cell_passed, formal_if, is_located, passed, with_actuals};
 ghost use Rattle.ctl_engine.specs.Spots.{located};
 ghost use Rattle.ctl_engine.specs.Shows.{kept};
 ghost use Rattle.ctl_engine.specs.declared.frame.Mode.TheVariants as ModeOf;
 ghost use Rattle.ctl_engine.specs.Windows.{IsGoing};
 
 use ctl_code::code::Code;
-use ctl_code::kinds::Kind;
 use ctl_engine::engine::{Engine, clear};
 use ctl_engine::frame::{After, Callee, Formal, Master};
 use ctl_engine::record_values::is_value_as;
 use ctl_engine::spots::Spot;
-use ctl_program::types::Ty;
+use ctl_steps::procedures::is_part;
 use std::alloc::AllocError;
-
-/// Tells whether the operand under so many newer ones before the instruction at a place is a part of an object, or the value of a record
-/// (RM 6.2).
-fn is_part(code: &Code, place: usize, depth: usize) -> bool
-    ensures { result ≡ is_part_at (stack_at code.now.kinds place) depth }
-{
-    matches!(
-        code.kinds.kind_at(place, depth),
-        Some(Kind::Operand(Ty::Record(_)))
-    )
-}
 
 /// Passes the actual in a cell to the formal of a slot: where it is a part of an object, the newest one, the formal stands for it from then
 /// on, and where it is the value of a record, the formal is a copy of it; the cell becomes 0 (RM 6.2). There is room for the formal.

@@ -45,6 +45,7 @@ use Rattle.ctl_draft.specs.Draft.{enter, with_entries}
 use Rattle.ctl_types.specs.Elaboration.{surely}
 use Rattle.ctl_draft.specs.Freezing.{changed, changed_from, changed_each, done_by, is_free_type, with_accesses}
 use Rattle.ctl_draft.specs.Marks as marks
+use Rattle.ctl_access_types.specs.AccessTypes as accessing
 use Rattle.ctl_declarations.specs.Types as types
 use Rattle.ctl_declarations.specs.Types.{is_given}
 use Rattle.ctl_well_typed.specs.Setting.{Collection, Names, Frames, Encloses, Setting, HasAccess, InView}
@@ -84,26 +85,26 @@ module _ (k : Setting) (env : Frames) (tables : Tables) (sound : Sound k env tab
   abbrev Fine : Var × ℕ → Type 0
   Fine p = PoolFine k env tables sound p
 
-  same_pool_good : (p : Var × ℕ) (b : Bool) (which : FaultCode) (place : Span) → Fine p → Gives Fine (types.same_pool p b which place)
+  same_pool_good : (p : Var × ℕ) (b : Bool) (which : FaultCode) (place : Span) → Fine p → Gives Fine (accessing.same_pool p b which place)
   same_pool_good p true which place h = λ s. h
   same_pool_good p false which place h = λ s. h
 
-  pool_for_good : (g : Generality) (level : ℕ) (identifier place : Span) (p : Var × ℕ) → Fine p → Gives Fine (types.pool_for tables g level identifier place p)
+  pool_for_good : (g : Generality) (level : ℕ) (identifier place : Span) (p : Var × ℕ) → Fine p → Gives Fine (accessing.pool_for tables g level identifier place p)
   pool_for_good g level identifier place p h = by_root (is_mark_root (root_of (slice_get tables.records p.1)))
     where
-      by_root : (b : Bool) → Gives Fine (if b then (types.same_pool p (types.is_all g) fault.Pool place >>= (λ q. types.same_pool q (nat_lt q.0.level level) fault.SubpoolLevel identifier)) else known p)
-      by_root true = next Fine Fine (types.same_pool p (types.is_all g) fault.Pool place) (λ q. types.same_pool q (nat_lt q.0.level level) fault.SubpoolLevel identifier) (same_pool_good p (types.is_all g) fault.Pool place h) (λ q i. same_pool_good q (nat_lt q.0.level level) fault.SubpoolLevel identifier i)
+      by_root : (b : Bool) → Gives Fine (if b then (accessing.same_pool p (accessing.is_all g) fault.Pool place >>= (λ q. accessing.same_pool q (nat_lt q.0.level level) fault.SubpoolLevel identifier)) else known p)
+      by_root true = next Fine Fine (accessing.same_pool p (accessing.is_all g) fault.Pool place) (λ q. accessing.same_pool q (nat_lt q.0.level level) fault.SubpoolLevel identifier) (same_pool_good p (accessing.is_all g) fault.Pool place h) (λ q i. same_pool_good q (nat_lt q.0.level level) fault.SubpoolLevel identifier i)
       by_root false = λ s. h
 
-  pub pool_given_good : (g : Generality) (level : ℕ) (identifier : Span) (m : Option (Mark Use)) → Gives Fine (types.pool_given g level identifier m tables)
+  pub pool_given_good : (g : Generality) (level : ℕ) (identifier : Span) (m : Option (Mark Use)) → Gives Fine (accessing.pool_given g level identifier m tables)
   pool_given_good g level identifier None = λ s. tt
-  pool_given_good g level identifier (Some m) = next Fine Fine (marks.pool_named tables m) (types.pool_for tables g level identifier m.first.span) (pool_named_good k env tables sound m) (pool_for_good g level identifier m.first.span)
+  pool_given_good g level identifier (Some m) = next Fine Fine (marks.pool_named tables m) (accessing.pool_for tables g level identifier m.first.span) (pool_named_good k env tables sound m) (pool_for_good g level identifier m.first.span)
 
   pool_for_entry_good : (place : Span) (o : Option AccessEntry) (p : Var × ℕ) → Fine p → Gives Fine (types.pool_for_entry tables place o p)
   pool_for_entry_good place None p h = λ s. h
   pool_for_entry_good place (Some x) p h = tested_not (is_given x.pool)
     where
-      tested_not : (b : Bool) → Gives Fine (if b then wrong fault.Pool place else types.pool_for tables x.generality x.level x.span place p)
+      tested_not : (b : Bool) → Gives Fine (if b then wrong fault.Pool place else accessing.pool_for tables x.generality x.level x.span place p)
       tested_not true = λ s. tt
       tested_not false = pool_for_good x.generality x.level x.span place p h
 
@@ -182,22 +183,22 @@ module _ (a : Around) (number : ℕ) (x : AccessEntry) (d : Draft) where
   plain = with_accesses longer d
 
   abbrev completed : List AccessEntry
-  completed = changed_each (types.completed_access number (ty.Access n)) a.first_access longer
+  completed = changed_each (accessing.completed_access number (ty.Access n)) a.first_access longer
 
   abbrev behind : Draft
   behind = record (with_accesses completed (with_entries (entered a.start number (entry.«Type» (ty.Access n)) d.tables.entries) plain)) { slots = d.slots ++ ty.Access n ∷ [] }
 
   abbrev to_behind : Draft → Draft
-  to_behind e = record (with_accesses (changed_each (types.completed_access number (ty.Access n)) a.first_access e.tables.states.accesses) e) { slots = e.slots ++ ty.Access n ∷ [] }
+  to_behind e = record (with_accesses (changed_each (accessing.completed_access number (ty.Access n)) a.first_access e.tables.states.accesses) e) { slots = e.slots ++ ty.Access n ∷ [] }
 
-  access_is : types.add_access a number x d ≡ behind
+  access_is : accessing.add_access a number x d ≡ behind
   access_is = ap to_behind (enter_is a number (entry.«Type» (ty.Access n)) plain)
 
   counted : length completed ≡ n + 1
-  counted = each_length (types.completed_access number (ty.Access n)) a.first_access longer ∙ length-append d.tables.states.accesses (x ∷ [])
+  counted = each_length (accessing.completed_access number (ty.Access n)) a.first_access longer ∙ length-append d.tables.states.accesses (x ∷ [])
 
   all_later : AllLater d.tables.states.accesses completed
-  all_later = all_further d.tables.states.accesses longer completed (more_later d.tables.states.accesses x) (changed_later (types.completed_access number (ty.Access n)) (completed_later number (ty.Access n)) a.first_access longer)
+  all_later = all_further d.tables.states.accesses longer completed (more_later d.tables.states.accesses x) (changed_later (accessing.completed_access number (ty.Access n)) (completed_later number (ty.Access n)) a.first_access longer)
 
   access_grows : Grows (access_made n) d behind
   access_grows = record {
@@ -229,12 +230,12 @@ module _ (a : Around) (number : ℕ) (x : AccessEntry) (d : Draft) where
   -- it is in the program, where the draft behind is
   in_program : (s : Site) → Back s.k behind → InAccesses s.k n x
   in_program s b =
-      let y = changed_later (types.completed_access number (ty.Access n)) (completed_later number (ty.Access n)) a.first_access longer n x (last_read d.tables.states.accesses x) in
+      let y = changed_later (accessing.completed_access number (ty.Access n)) (completed_later number (ty.Access n)) a.first_access longer n x (last_read d.tables.states.accesses x) in
       let q = b.accesses n y.is y.found in
       record { is = q.is; found = q.found; collection = q.collection ∙ y.later.collection; designated = λ t e. q.designated t (y.later.designated t e) }
 
   pub access_leads : x.level ≡ a.level → x.collection ≡ record { level = a.level; slot = length d.slots } → ((s : Site) → Front s d → (t : Ty) → x.designated ≡ designated.Known t → InView s.k (around_site s) t) → ((s : Site) → Front s d → (p : Var × ℕ) → x.pool ≡ Some p → PoolKnown s.k (around_site s) p) →
-      Leads (here a) (RightItems a) d (Some [], types.add_access a number x d)
+      Leads (here a) (RightItems a) d (Some [], accessing.add_access a number x d)
   access_leads level collection usable pools = subst (λ e. Leads (here a) (RightItems a) d (Some [], e)) (sym access_is) (record {
     made = access_made n;
     grows = access_grows;
@@ -262,14 +263,14 @@ module _ (a : Around) (number : ℕ) (x : AccessEntry) (d : Draft) where
         let inner = inner_longer s f home in
         let all = complete_known s number (ty.Access n) a.first_access i.first has longer inner (each_at (AccessKnown s.k) d.tables.states.accesses x f.known.accesses known_x) b.accesses in
         let entries = entries_entered s a.start number (entry.«Type» (ty.Access n)) d.tables.entries i.start has (f.entries, f.base) in
-        let counts = each_length (types.completed_access number (ty.Access n)) a.first_access longer in
+        let counts = each_length (accessing.completed_access number (ty.Access n)) a.first_access longer in
         let known' : Known s.k behind = record { records = f.known.records; operations = f.known.operations; subprograms = f.known.subprograms; accesses = all; states = f.known.states; components = f.known.components } in
         (record { entries = entries.0; base = entries.1; known = known'; own = f.own; inner = λ m h first less at. inner m h first (omega (arith, counts, less)) at }, rule.no_more_items);
   })
 
 -- Access types by their definitions (3.10) -----------------------------------------------------------------------
 
-known_designated : (k : Setting) (env : Frames) (tables : Tables) (sound : Sound k env tables) (o : Option Designated) → IfSome (DesignatedFine k env tables sound) o → (t : Ty) → types.or_unclear o ≡ designated.Known t → InView k env t
+known_designated : (k : Setting) (env : Frames) (tables : Tables) (sound : Sound k env tables) (o : Option Designated) → IfSome (DesignatedFine k env tables sound) o → (t : Ty) → accessing.or_unclear o ≡ designated.Known t → InView k env t
 known_designated k env tables sound None h t e = absurd (cc)
 known_designated k env tables sound (Some (designated.Known u)) h t e = let same : u ≡ t = cc in subst (InView k env) same h
 known_designated k env tables sound (Some designated.Unclear) h t e = absurd (cc)
@@ -283,16 +284,16 @@ known_pool k env tables sound (Some q) h p e = subst (PoolKnown k env) (one_pool
     one_pool q p e = cc
 
 module _ (a : Around) (place : Span) (name : Definition) (g : Generality) (m : Mark Use) (c : Coverage) (pool : Option (Mark Use)) where
-  access_type_leads : (d : Draft) → Leads (here a) (RightItems a) d (surely (types.access_type place name g m c pool a d))
+  access_type_leads : (d : Draft) → Leads (here a) (RightItems a) d (surely (accessing.access_type place name g m c pool a d))
   access_type_leads d =
-      let d1 = types.untagged_kept place name.number d in
-      let r1 = types.designated_named place m c d1.tables d1.notes in
-      let r2 = types.pool_given g a.level name.identifier.span pool d1.tables r1.1 in
+      let d1 = accessing.untagged_kept place name.number d in
+      let r1 = accessing.designated_named place m c d1.tables d1.notes in
+      let r2 = accessing.pool_given g a.level name.identifier.span pool d1.tables r1.1 in
       let d3 : Draft = record d1 { notes = r2.1 } in
-      let x = types.access_entry a name.identifier.span g c r1.0 r2.0 d3 in
+      let x = accessing.access_entry a name.identifier.span g c r1.0 r2.0 d3 in
       let back_to : (s : Site) → Front s d3 → Front s d1 = λ s f. front_still s d3 d1 (still_noted d3 d3.returning d3.waiting d1.notes) f in
-      still_leads (here a) (RightItems a) d d3 (surely (types.access_type place name g m c pool a d))
-      (still_further d d1 d3 (told_still (types.is_said_tagged (slice_get d.tables.entries name.number)) _ place d) (still_noted d1 d1.returning d1.waiting r2.1))
+      still_leads (here a) (RightItems a) d d3 (surely (accessing.access_type place name g m c pool a d))
+      (still_further d d1 d3 (told_still (accessing.is_said_tagged (slice_get d.tables.entries name.number)) _ place d) (still_noted d1 d1.returning d1.waiting r2.1))
       (access_leads a name.number x d3 refl refl
       (λ s f t e. let sound = front_sound s d1 (back_to s f) in known_designated s.k (around_site s) d1.tables sound r1.0 (designated_good s.k (around_site s) d1.tables sound place m c d1.notes) t e)
       (λ s f p e. let sound = front_sound s d1 (back_to s f) in known_pool s.k (around_site s) d1.tables sound r2.0 (pool_given_good s.k (around_site s) d1.tables sound g a.level name.identifier.span pool r1.1) p e))

@@ -5,7 +5,7 @@ use Rattle.ctl_typing.specs.declared.table.AccessEntry.{AccessEntry}
 use Rattle.ctl_typing.specs.declared.table.Designated.{Designated}
 use Rattle.ctl_typing.specs.declared.table.Designated.TheVariants as designated
 use Rattle.ctl_draft.specs.Freezing.{changed_each}
-use Rattle.ctl_declarations.specs.Types.{completed_designated, completed_access}
+use Rattle.ctl_access_types.specs.AccessTypes.{completed_designated, completed_access}
 use Rattle.ctl_well_typed.specs.Setting.{Frames, Encloses, InView}
 use Rattle.ctl_sound.proofs.Growing.{Later, AllLater, later_self}
 use Rattle.ctl_sound.proofs.Sites.{Site, around_site, AccessKnown, InAccesses}

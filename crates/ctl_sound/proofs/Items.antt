@@ -44,6 +44,7 @@ use Rattle.ctl_typing.specs.Typing.{Sense, sense}
 use Rattle.ctl_draft.specs.Operations.{formal}
 use Rattle.ctl_draft.specs.Marks as marks
 use Rattle.ctl_declarations.specs.Declarations as decl
+use Rattle.ctl_access_types.specs.AccessTypes as accessing
 use Rattle.ctl_declarations.specs.Types as defined
 use Rattle.ctl_well_typed.specs.Setting.{Declared, Frames, Names, Setting, HasRecord, InView}
 use Rattle.ctl_well_typed.specs.Types.{HasDiscriminant}
@@ -273,20 +274,20 @@ module _ (k : Setting) (env : Frames) (tables : Tables) (sound : Sound k env tab
   DesignatedFine designated.Unclear = Unit {0}
   DesignatedFine (designated.Awaited n) = Unit {0}
 
-  designated_type_good : (place : Span) (m : Mark Use) → Gives DesignatedFine (defined.designated_type tables place m)
+  designated_type_good : (place : Span) (m : Mark Use) → Gives DesignatedFine (accessing.designated_type tables place m)
   designated_type_good place m = next Usable DesignatedFine (marks.named_type tables place m >>= marks.no_pool tables m.first.span) (λ t. known (designated.Known t)) (next Usable Usable (marks.named_type tables place m) (marks.no_pool tables m.first.span) (named_type_good place m) (no_pool_good m.first.span)) (λ t v s. v)
 
-  designated_entry_good : (place : Span) (m : Mark Use) (n : ℕ) (e : Option Entry) → Gives DesignatedFine (defined.designated_entry tables place m n e)
+  designated_entry_good : (place : Span) (m : Mark Use) (n : ℕ) (e : Option Entry) → Gives DesignatedFine (accessing.designated_entry tables place m n e)
   designated_entry_good place m n (Some (entry.Incomplete t)) = λ s. tt
   designated_entry_good place m n _ = designated_type_good place m
 
-  designated_denoted_good : (place : Span) (m : Mark Use) (d : Denoted) → Gives DesignatedFine (defined.designated_denoted tables place m d)
+  designated_denoted_good : (place : Span) (m : Mark Use) (d : Denoted) → Gives DesignatedFine (accessing.designated_denoted tables place m d)
   designated_denoted_good place m (denoted.Declared n level) = designated_entry_good place m n (slice_get tables.entries n)
   designated_denoted_good place m (denoted.Library l) = designated_type_good place m
   designated_denoted_good place m (denoted.Operation o) = designated_type_good place m
   designated_denoted_good place m denoted.Unknown = designated_type_good place m
 
-  pub designated_good : (place : Span) (m : Mark Use) (c : Coverage) → Gives DesignatedFine (defined.designated_named place m c tables)
+  pub designated_good : (place : Span) (m : Mark Use) (c : Coverage) → Gives DesignatedFine (accessing.designated_named place m c tables)
   designated_good place m coverage.Specific = designated_denoted_good place m m.first.denoted
   designated_good place m coverage.ClassWide = λ s. tt
 

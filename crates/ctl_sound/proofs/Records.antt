@@ -38,6 +38,7 @@ use Rattle.ctl_declarations.specs.Declarations as spec
 use Rattle.ctl_types.specs.Elaboration.{surely}
 use Rattle.ctl_draft.specs.Freezing.{changed_each, done_by, with_accesses}
 use Rattle.ctl_draft.specs.Operations.{user_operation, operations_of}
+use Rattle.ctl_access_types.specs.AccessTypes as accessing
 use Rattle.ctl_declarations.specs.Types as types
 use Rattle.ctl_declarations.specs.Types.{is_given}
 use Rattle.ctl_well_typed.specs.Setting.{Frames, Encloses, Setting, HasRecord, InView}
@@ -150,10 +151,10 @@ module _ (a : Around) (number : ℕ) (r : RecordEntry) (st : RecordState) (cs : 
   behind = with_entries (entered a.start number (entry.«Type» (ty.Record n)) plain.tables.entries) plain
 
   abbrev completed : Draft → Draft
-  completed e = with_accesses (changed_each (types.completed_access number (ty.Record n)) a.first_access e.tables.states.accesses) e
+  completed e = with_accesses (changed_each (accessing.completed_access number (ty.Record n)) a.first_access e.tables.states.accesses) e
 
   abbrev pub with_record : Draft
-  with_record = types.enter_type a number (ty.Record n) plain
+  with_record = accessing.enter_type a number (ty.Record n) plain
 
   record_is : with_record ≡ completed behind
   record_is = ap completed (enter_is a number (entry.«Type» (ty.Record n)) plain)
@@ -174,10 +175,10 @@ module _ (a : Around) (number : ℕ) (r : RecordEntry) (st : RecordState) (cs : 
     records = behind_one base.tables.records r;
     components = behind_one base.components cs;
     exceptions = behind_same base.exceptions base.exceptions refl;
-    accesses = changed_later (types.completed_access number (ty.Record n)) (completed_later number (ty.Record n)) a.first_access base.tables.states.accesses;
+    accesses = changed_later (accessing.completed_access number (ty.Record n)) (completed_later number (ty.Record n)) a.first_access base.tables.states.accesses;
     slots = omega arith;
     record_homes = λ env. length-append base.tables.records (r ∷ []);
-    access_homes = λ env. let same = each_length (types.completed_access number (ty.Record n)) a.first_access base.tables.states.accesses in omega (arith, same);
+    access_homes = λ env. let same = each_length (accessing.completed_access number (ty.Record n)) a.first_access base.tables.states.accesses in omega (arith, same);
     signatures = λ env. omega arith;
   }
 
@@ -195,7 +196,7 @@ module _ (a : Around) (number : ℕ) (r : RecordEntry) (st : RecordState) (cs : 
         let has : HasRecord s.k env n = record { is = next.type.is; home = env; found = next.type.found; at_home = home; encloses = encloses_self env } in
         let entries = entries_entered s a.start number (entry.«Type» (ty.Record n)) base.tables.entries i.start has (f.entries, f.base) in
         let accesses = complete_known s number (ty.Record n) a.first_access i.first has base.tables.states.accesses f.inner f.known.accesses b.accesses in
-        let counted = each_length (types.completed_access number (ty.Record n)) a.first_access base.tables.states.accesses in
+        let counted = each_length (accessing.completed_access number (ty.Record n)) a.first_access base.tables.states.accesses in
         let k' = record_known s.k f.known next.type next.operations accesses in
         (record { entries = entries.0; base = entries.1; known = k'; own = refl; inner = λ m h first less at. f.inner m h first (omega (arith, counted, less)) at }, right s i f);
   })
@@ -271,7 +272,7 @@ module _ (a : Around) (within : Enclosing) (root : Root) (limited : Limitation) 
       let canonical : Draft = record base { own = []; own_names = []; notes = judged.1.notes } in
       let same : types.without_own judged.1 ≡ canonical = ap (λ z. types.without_own z) judged_only in
       let st = types.inherited_state (types.state_on judged.1.tables within.parent) in
-      subst (λ z. Leads (here a) (RightItems a) base (Some x, types.enter_type a within.number (ty.Record (length z.tables.records)) (asked (types.without_own (types.add_record own_entry st judged.0 z))))) (sym same)
+      subst (λ z. Leads (here a) (RightItems a) base (Some x, accessing.enter_type a within.number (ty.Record (length z.tables.records)) (asked (types.without_own (types.add_record own_entry st judged.0 z))))) (sym same)
       (record_leads a within.number own_entry st judged.0 base judged.1.notes x right (λ s i f home y. record_shown s i f (parent s f) home y))
 
 -- Record types without a parent (3.8) ---------------------------------------------------------------------------
@@ -297,9 +298,9 @@ silent_right a s = rule.one_more_item rule.silent rule.no_more_items
 
 pub record_type_leads : (a : Around) (place : Span) (number : ℕ) (l : Limitation) (cs : List (Components_of Use)) (d : Draft) → Leads (here a) (RightItems a) d (surely (types.record_type place number l cs a d))
 record_type_leads a place number l cs d =
-    let told = types.untagged_kept place number d in
+    let told = accessing.untagged_kept place number d in
     let e = asking told in
-    still_leads (here a) (RightItems a) d e (surely (types.record_type place number l cs a d)) (still_further d told e (told_still (types.is_said_tagged (slice_get d.tables.entries number)) _ place d) (still_noted told told.returning told.waiting e.notes))
+    still_leads (here a) (RightItems a) d e (surely (types.record_type place number l cs a d)) (still_further d told e (told_still (accessing.is_said_tagged (slice_get d.tables.entries number)) _ place d) (still_noted told told.returning told.waiting e.notes))
     (declared_leads a (types.underived place number) root.Untagged l cs e (made.Silent ∷ []) (λ s i f. silent_right a s) (λ s f. underived_known s e root.Untagged f))
 
 -- Extensions (3.9.1) -------------------------------------------------------------------------------------------------

@@ -13,10 +13,10 @@ use crate::masters::{
     more_items,
 };
 use crate::subprograms::{body_put, declaration, opened};
-use ctl_declarations::accesses::incomplete;
 use ctl_declarations::definitions::type_definition;
 use ctl_declarations::exceptions::exceptions;
 use ctl_declarations::formals::enter_formals;
+use ctl_declarations::incomplete::incomplete;
 use ctl_declarations::instances::instance;
 use ctl_declarations::objects::objects;
 use ctl_declarations::pool_clauses::pool_clause;

@@ -1,6 +1,0 @@
-use Rattle.std.specs.Prelude.{Some}
-use Rattle.ctl_engine.proofs.Targets.{target_over}
-use Rattle.ctl_machine.proofs.assign.finalize_target.Given as goal
-
-abbrev pub ghost-finalize_part : goal.ghost-finalize_part
-ghost-finalize_part g a = target_over a.finalization.record_type (Some g.t.1) g.t.0

@@ -1,4 +1,0 @@
-use Rattle.ctl_machine.proofs.finalizing.call_finalize.Given as goal
-
-abbrev pub ghost-call_operation : goal.ghost-call_operation
-ghost-call_operation g a = g.t.1

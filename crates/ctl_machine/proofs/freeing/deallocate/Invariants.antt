@@ -1,4 +1,0 @@
-use Rattle.ctl_machine.proofs.freeing.deallocate.Given as goal
-
-abbrev pub ghost-call_storage : goal.ghost-call_storage
-ghost-call_storage g a = g.t

@@ -1,0 +1,5 @@
+use Rattle.ctl_engine.proofs.Deallocated.{call_for}
+use Rattle.ctl_steps.proofs.freeing.return_storage.Given as goal
+
+abbrev pub ghost-deallocate : goal.ghost-deallocate
+ghost-deallocate g a = call_for a.call a.units a.place g.t
