@@ -1,10 +1,8 @@
 //! What holds of every run of every code.
 
 ghost use Rattle.ctl_code.specs.Laws.{ChoosesByOrder, IsSmall, IsLogged};
-ghost use Rattle.ctl_code.specs.Fits.{KeepsToItsCode};
 
 use crate::code::Code;
-use crate::valid::ValidCode;
 
 /// Says that a step shows at most two events, opens at most one master, takes at most one object number and makes at most one collection.
 pub fn every_step_is_small(code: &Code)
@@ -27,11 +25,4 @@ pub fn every_choice_is_by_order(code: &Code)
     ensures { ChoosesByOrder code.now }
 {
     let _ = code;
-}
-
-/// Says that valid code is never stuck: each instruction finds the operands, the place and the frame that it needs.
-pub fn valid_code_keeps_to_its_code(code: &ValidCode)
-    ensures { KeepsToItsCode code.now }
-{
-    let _ = code.code();
 }

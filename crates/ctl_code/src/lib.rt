@@ -16,5 +16,4 @@ mod pools;
 mod stacks;
 pub mod template;
 mod types;
-pub mod valid;
-mod validate;
+pub mod validate;

@@ -7,7 +7,7 @@ use std::alloc::{AllocError, Global};
 use std::marker::Model;
 
 /// A part of a text that is printed.
-#[derive(Drop, Debug)]
+#[derive(Drop)]
 pub enum TextPart {
     Literal(Text),
     /// the image of an Integer operand (RM 3.5)
@@ -19,7 +19,7 @@ pub enum TextPart {
 /// A text that is printed: its images take as many operands.
 ///
 /// A contract sees it as the list of its parts.
-#[derive(Drop, Debug)]
+#[derive(Drop)]
 pub struct Template {
     parts: Vec<TextPart>,
 }

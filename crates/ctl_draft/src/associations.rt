@@ -13,7 +13,7 @@ use sqlite_items::Items;
 use std::alloc::{AllocError, Global};
 
 /// What is given by position or by name (RM 3.7.1, 12.3).
-#[derive(Clone, Copy, Debug, PartialEq, Eq)]
+#[derive(Clone, Copy)]
 pub enum Associated {
     /// the discriminants of a pool type with this root; other types have none (profile)
     Discriminants(Root),

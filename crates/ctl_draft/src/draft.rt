@@ -21,7 +21,7 @@ pub struct Waiting {
 }
 
 /// Whether the subprogram body around has a return (RM 6.5).
-#[derive(Clone, Copy, Debug, PartialEq, Eq)]
+#[derive(Clone, Copy)]
 pub enum Returning {
     Nowhere,
     Somewhere,
@@ -57,21 +57,21 @@ pub struct Draft {
 }
 
 /// Whether a loop stands around in the same body (RM 5.7).
-#[derive(Clone, Copy, Debug, PartialEq, Eq)]
+#[derive(Clone, Copy)]
 pub enum Looping {
     Outside,
     Inside,
 }
 
 /// Whether a handler stands around in the same body (RM 11.3).
-#[derive(Clone, Copy, Debug, PartialEq, Eq)]
+#[derive(Clone, Copy)]
 pub enum Handling {
     Outside,
     Inside,
 }
 
 /// What a return of the body around gives (RM 6.5).
-#[derive(Clone, Copy, Debug, PartialEq, Eq)]
+#[derive(Clone, Copy, PartialEq, Eq)]
 pub enum Giving {
     Nothing,
     Value(Ty),
@@ -80,7 +80,7 @@ pub enum Giving {
 }
 
 /// What stands around a statement or an item.
-#[derive(Clone, Copy, Debug, PartialEq, Eq)]
+#[derive(Clone, Copy)]
 pub struct Around {
     /// how many masters stand around
     pub level: usize,
@@ -98,7 +98,7 @@ pub struct Around {
 }
 
 /// What a subprogram is to the operations of a type (RM 3.2.3, 8.3.1).
-#[derive(Clone, Copy, Debug, PartialEq, Eq)]
+#[derive(Clone, Copy)]
 pub enum Role {
     Plain,
     /// it overrides this operation of this record type
@@ -108,14 +108,14 @@ pub enum Role {
 }
 
 /// Whether a body of its part stands behind an item (RM 3.11, profile).
-#[derive(Clone, Copy, Debug, PartialEq, Eq)]
+#[derive(Clone, Copy)]
 pub enum Order {
     BeforeBody,
     BehindBodies,
 }
 
 /// What stands around the components of a record type (RM 3.8, 3.9.1).
-#[derive(Clone, Copy, Debug, PartialEq, Eq)]
+#[derive(Clone, Copy)]
 pub struct Enclosing {
     /// where the item of the type begins
     pub place: Span,

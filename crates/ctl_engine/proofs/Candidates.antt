@@ -13,18 +13,18 @@ use Rattle.ctl_meaning.specs.Lists.{contains, keep, opened_lists, pull_item}
 use Rattle.ctl_meaning.specs.Members.{OfSets, is_of_group, opened_members}
 use Rattle.ctl_meaning.specs.Objects.{is_untouched, object_in}
 use Rattle.ctl_meaning.specs.World.{Allocated, Declared, Object, Origin, State}
-use Rattle.ctl_objects.specs.declared.groups.Group.{Group}
-use Rattle.ctl_objects.specs.declared.groups.Start.{Start}
-use Rattle.ctl_objects.specs.declared.groups.Start.TheVariants.{Behind, Collection}
-use Rattle.ctl_objects.specs.declared.groups.Waiting.{Waiting}
-use Rattle.ctl_objects.specs.declared.needs.Need.{Need}
-use Rattle.ctl_objects.specs.Groups.{IsNextGroup, group_by, group_of, is_allocated, is_from, is_open, is_same, is_waiting, one, precedes, test}
-use Rattle.ctl_objects.specs.Members.{IsGreatest, IsLeast, is_between, passes}
-use Rattle.ctl_objects.specs.Needs.{is_finalization, needs_finalization}
+use Rattle.ctl_groups.specs.declared.groups.Group.{Group}
+use Rattle.ctl_groups.specs.declared.groups.Start.{Start}
+use Rattle.ctl_groups.specs.declared.groups.Start.TheVariants.{Behind, Collection}
+use Rattle.ctl_groups.specs.declared.groups.Waiting.{Waiting}
+use Rattle.ctl_groups.specs.declared.needs.Need.{Need}
+use Rattle.ctl_groups.specs.Groups.{IsNextGroup, group_by, group_of, is_allocated, is_from, is_open, is_same, is_waiting, one, precedes, test}
+use Rattle.ctl_groups.specs.Members.{IsGreatest, IsLeast, is_between, passes}
+use Rattle.ctl_groups.specs.Needs.{is_finalization, needs_finalization}
 use Rattle.ctl_storage.specs.Order.{Rise}
 use Rattle.ctl_objects.specs.Stock.{Stock}
-use Rattle.ctl_objects.proofs.Counted.{each_there, fewer_left, greatest_pulled, kept_same, least_pulled, no_fewer, none_passes, passes_so, passing, some_kept, sums}
-use Rattle.ctl_objects.proofs.Grouped.{later, neither, never, not_itself, same_is, same_self}
+use Rattle.ctl_groups.proofs.Counted.{each_there, fewer_left, greatest_pulled, kept_same, least_pulled, no_fewer, none_passes, passes_so, passing, some_kept, sums}
+use Rattle.ctl_groups.proofs.Grouped.{later, neither, never, not_itself, same_is, same_self}
 use Rattle.ctl_storage.proofs.Rising.{number_found, rise_lower}
 use Rattle.ctl_objects.proofs.Waits.{greatest_alike, least_alike}
 use Rattle.ctl_code.specs.declared.code.Code.{Code}

@@ -7,11 +7,11 @@ use Rattle.ctl_tree.specs.declared.request.Order.TheVariants as OrderOf
 use Rattle.ctl_meaning.specs.Lists.{keep, pull_item}
 use Rattle.ctl_meaning.specs.Objects.{object_in}
 use Rattle.ctl_meaning.specs.World.{Object, World}
-use Rattle.ctl_objects.specs.declared.groups.Group.{Group}
-use Rattle.ctl_objects.specs.declared.groups.Start.{Start}
-use Rattle.ctl_objects.specs.declared.needs.Need.{Need}
-use Rattle.ctl_objects.specs.Groups.{group_of, is_from, is_waiting}
-use Rattle.ctl_objects.specs.Members.{IsGreatest, IsLeast, is_between, passes}
+use Rattle.ctl_groups.specs.declared.groups.Group.{Group}
+use Rattle.ctl_groups.specs.declared.groups.Start.{Start}
+use Rattle.ctl_groups.specs.declared.needs.Need.{Need}
+use Rattle.ctl_groups.specs.Groups.{group_of, is_from, is_waiting}
+use Rattle.ctl_groups.specs.Members.{IsGreatest, IsLeast, is_between, passes}
 use Rattle.ctl_objects.specs.Stock.{Stock}
 use Rattle.ctl_code.specs.declared.code.Code.{Code}
 use Rattle.ctl_code.specs.declared.code.Parts.TheVariants as PartsOf

@@ -2,7 +2,7 @@
 
 ghost use Rattle.std.specs.Prelude.{◌≡◌, ◌+◌, ◌^◌, ◌<◌, List, ℕ, OnErr, OnOk, length, vec_len};
 ghost use Rattle.ctl_meaning.specs.Lists.{keep};
-ghost use Rattle.ctl_objects.specs.Groups.{is_waiting};
+ghost use Rattle.ctl_groups.specs.Groups.{is_waiting};
 ghost use Rattle.ctl_storage.specs.Order.{Rise};
 ghost use Rattle.ctl_code.specs.Table as Table;
 ghost use Rattle.ctl_engine.specs.declared.frame.Owned.{Owned};

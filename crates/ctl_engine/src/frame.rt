@@ -15,7 +15,7 @@ pub enum Completion {
 
 /// How the body of an operation has ended, or the finalization or the adjustment of a part: complete, where perhaps an operation in it
 /// failed, or by an exception.
-#[derive(Clone, Copy)]
+#[derive(Clone, Copy, Debug)]
 pub enum Ended {
     Complete,
     OperationFailed,

@@ -25,7 +25,6 @@ use ctl_code::code::{
 };
 use ctl_code::homes::Homes;
 use ctl_code::least::least_homes;
-use ctl_code::valid::ValidCode;
 use ctl_emit::emit::Emitter;
 use ctl_layout::forms::run_default;
 use ctl_layout::right::constant;
@@ -33,6 +32,7 @@ use ctl_program::program::{Checked, Subprogram};
 use ctl_program::types::{AccessType, Component, RecordType, Root, Ty};
 use ctl_tree::fault::{Fault, FaultCode};
 use ctl_tree::text::Text;
+use ctl_valid::valid::{ValidCode, validate};
 use std::alloc::{AllocError, Global};
 
 /// How many storage units a value of an elementary type takes (RM 13.3).
@@ -57,7 +57,7 @@ pub fn generate(alloc: Global, program: &Checked) -> Result<ValidCode, Fault>
     ensures memory { IsRun program.now → WellTyped program.now → IfErr result (λ fault. fault ≡ record { code = Memory; line = 1; column = 1 }) }
     ensures refused { IfErr result (λ fault. (fault ≡ record { code = Memory; line = 1; column = 1 }) ⊎ (fault ≡ record { code = LeftOut; line = 1; column = 1 })) }
 {
-    match assemble(alloc, program)?.validate() {
+    match validate(assemble(alloc, program)?) {
         Some(code) => Ok(code),
         None => Err(left_out()),
     }

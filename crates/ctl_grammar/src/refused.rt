@@ -5,7 +5,7 @@ ghost use Rattle.std.specs.Prelude.{◌≡◌};
 use std::alloc::{AllocError, AllocFailed};
 
 /// What is wrong with a token.
-#[derive(Clone, Copy, Debug, PartialEq, Eq)]
+#[derive(Clone, Copy)]
 pub enum Reason {
     /// The grammar does not allow it where it stands.
     Unexpected,
@@ -18,7 +18,7 @@ pub enum Reason {
 }
 
 /// Why reading failed.
-#[derive(Debug, Drop)]
+#[derive(Drop)]
 pub enum Refused {
     /// The host refused memory.
     Memory,

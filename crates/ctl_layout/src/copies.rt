@@ -16,7 +16,7 @@ pub const FIRST_POSITION: usize = 1;
 
 /// Where the copy of an actual goes back to: a variable, or a component of a part that is found before the call, by the record type that has
 /// the component and its position, from 1 (RM 6.4.1).
-#[derive(Clone, Copy, Debug, PartialEq, Eq)]
+#[derive(Clone, Copy)]
 pub enum Back {
     Variable(Var),
     Part { record: usize, position: usize },

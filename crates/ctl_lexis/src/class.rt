@@ -1,7 +1,7 @@
 //! Classes of bytes.
 
 /// What may begin with a byte.
-#[derive(Clone, Copy, Debug, PartialEq, Eq)]
+#[derive(Clone, Copy)]
 pub enum ByteClass {
     /// a space, a tab or a line end, which separates tokens (RM 2.2)
     Blank,

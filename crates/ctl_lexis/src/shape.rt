@@ -4,7 +4,7 @@ use ctl_tree::fault::FaultCode;
 use ctl_tree::token::Kind;
 
 /// What stands at the front of a text, beside the bytes themselves.
-#[derive(Clone, Copy, Debug)]
+#[derive(Clone, Copy)]
 pub enum Shape {
     /// a blank or a comment
     Gap,

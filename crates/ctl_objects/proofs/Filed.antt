@@ -10,17 +10,17 @@ use Rattle.ctl_meaning.specs.Lists.{keep}
 use Rattle.ctl_meaning.specs.Changes.{new_object, opened_changes}
 use Rattle.ctl_meaning.specs.Objects.{change_in, is_of_set, object_in, opened_objects, with_cells}
 use Rattle.ctl_storage.specs.declared.existing.Step.{Step}
-use Rattle.ctl_objects.specs.declared.groups.Group.{Group}
-use Rattle.ctl_objects.specs.declared.groups.Groups.{Groups}
+use Rattle.ctl_groups.specs.declared.groups.Group.{Group}
+use Rattle.ctl_groups.specs.declared.groups.Groups.{Groups}
 use Rattle.ctl_storage.specs.declared.existing.Allocation.{Allocation}
 use Rattle.ctl_storage.specs.declared.existing.Place.{Place}
-use Rattle.ctl_objects.specs.declared.needs.Need.{Need}
+use Rattle.ctl_groups.specs.declared.needs.Need.{Need}
 use Rattle.ctl_objects.specs.Existing as Existing
 use Rattle.ctl_objects.specs.Existing.{bare, existing}
 use Rattle.ctl_objects.specs.Filed.{AreFiled}
-use Rattle.ctl_objects.specs.Groups.{AreAlike, AreGrouped, AreNumbers, Has, IsSame, Moves, is_in, is_open, test}
+use Rattle.ctl_groups.specs.Groups.{AreAlike, AreGrouped, AreNumbers, Has, IsSame, Moves, is_in, is_open, test}
 use Rattle.ctl_storage.specs.Allocated.{IsKnown, blank, known, place_of}
-use Rattle.ctl_objects.specs.Members.{passes}
+use Rattle.ctl_groups.specs.Members.{passes}
 use Rattle.ctl_storage.specs.Order.{AreBelow, Rise}
 use Rattle.owned_numbers.specs.Owned.{OwnsAs, Owned, owns}
 use Rattle.ctl_objects.specs.Sets.{AreListed}
@@ -31,7 +31,7 @@ use Rattle.ctl_storage.proofs.Conditions.{all_changed, all_kept, all_newest, bel
 use Rattle.ctl_storage.proofs.InStore.{cells_keep, step_keeps}
 use Rattle.ctl_objects.proofs.Origins.{cells_stay, step_stays}
 use Rattle.ctl_objects.proofs.Listed.{keep_all, listed_changed, listed_new, listed_undone, listed_without, none_listed}
-use Rattle.ctl_objects.proofs.Moved.{AreSameBut, alike_found, alike_stepped, grouped_alike, grouped_moved, grouped_same, has_object, own_count}
+use Rattle.ctl_groups.proofs.Moved.{AreSameBut, alike_found, alike_stepped, grouped_alike, grouped_moved, grouped_same, has_object, own_count}
 use Rattle.ctl_storage.proofs.Rising.{KeepsNumbers, change_lacking, change_more, change_none, in_change, in_keep, in_newest, kept_one, none_above, number_found, rise_change, rise_keep, rise_newest}
 
 abbrev one_of : Bool → ℕ

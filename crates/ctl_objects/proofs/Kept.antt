@@ -22,7 +22,7 @@ use Rattle.ctl_objects.specs.Order.{AreUpTo, IsDeclared}
 use Rattle.ctl_storage.specs.Order.{AreBelow}
 use Rattle.ctl_objects.specs.Declarations.{AreKept, AreLaid, AreOf, AreOlder, AreWithin, Lacks, MastersRise, NumbersRise, cell_written, cells_written, first_cell, has_number, object_of, stepped}
 use Rattle.ctl_objects.specs.Existing.{bare}
-use Rattle.ctl_objects.specs.Members.{passes}
+use Rattle.ctl_groups.specs.Members.{passes}
 use Rattle.ctl_objects.proofs.Found.{any_declaration, changed_object, found_object, get_index, lacking, over_all, over_lacks, rise_set, same_item}
 use Rattle.ctl_storage.proofs.Cells.{eq_differs, eq_same}
 use Rattle.ctl_objects.proofs.Laid.{cell_objects, cut_behind, laid_more, length_part, objects_more, objects_taken, parts_taken}

@@ -11,7 +11,7 @@ use Rattle.ctl_storage.specs.Storage.{ArePools, exists}
 use Rattle.ctl_storage.proofs.Beside.{holders_kept, holders_weaker}
 use Rattle.ctl_storage.proofs.Rising.{in_keep, kept_one}
 use Rattle.ctl_storage.proofs.Shown.{pool_kept}
-use Rattle.ctl_objects.specs.Members.{passes}
+use Rattle.ctl_groups.specs.Members.{passes}
 use Rattle.ctl_objects.specs.Order.{AreSplit, IsDeclared, both}
 use Rattle.ctl_objects.specs.Pools.{DropsOnly, ShowsPools}
 use Rattle.ctl_objects.specs.Stock.{Stock, all_of, storage_of}

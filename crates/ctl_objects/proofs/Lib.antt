@@ -9,9 +9,6 @@ pub mod Conditions
 pub mod Apart
 pub mod Filed
 pub mod Waits
-pub mod Grouped
-pub mod Moved
-pub mod Counted
 pub mod Pools
 pub mod Dropped
 pub mod Left

@@ -8,10 +8,10 @@ use Rattle.ctl_meaning.specs.World.{Allocated, Object}
 use Rattle.ctl_meaning.specs.Objects.{is_untouched}
 use Rattle.ctl_storage.specs.declared.existing.Place.{Place}
 use Rattle.ctl_storage.specs.Allocated.{known, place_of}
-use Rattle.ctl_objects.specs.declared.groups.Group.{Group}
-use Rattle.ctl_objects.specs.declared.groups.Groups.{Groups}
-use Rattle.ctl_objects.specs.declared.needs.Need.{Need}
-use Rattle.ctl_objects.specs.Groups.{Moves, count, group_by, is_in, is_open, is_same, one}
+use Rattle.ctl_groups.specs.declared.groups.Group.{Group}
+use Rattle.ctl_groups.specs.declared.groups.Groups.{Groups}
+use Rattle.ctl_groups.specs.declared.needs.Need.{Need}
+use Rattle.ctl_groups.specs.Groups.{Moves, count, group_by, is_in, is_open, is_same, one}
 use Rattle.ctl_objects.proofs.Filed.{fresh}
 
 -- The group of an object -----------------------------------------------------------------------------------

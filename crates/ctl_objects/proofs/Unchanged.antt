@@ -22,7 +22,7 @@ use Rattle.ctl_objects.proofs.Shown.{existing_alike, same_pool}
 use Rattle.std.specs.FinMap.{get}
 use Rattle.pool_store.specs.Entries.{BlockPool}
 use Rattle.ctl_storage.specs.Calls.{IsOpen}
-use Rattle.ctl_objects.specs.declared.needs.Need.{Need}
+use Rattle.ctl_groups.specs.declared.needs.Need.{Need}
 use Rattle.ctl_objects.specs.Order.{IsAllocated, IsDeclared}
 use Rattle.ctl_objects.specs.Pools.{IsOwner, IsUnallocated, IsUndeclared, KeepsShown, ShowsPools}
 use Rattle.ctl_objects.specs.Stock.{Stock, storage_of}

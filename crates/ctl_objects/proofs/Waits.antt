@@ -6,17 +6,17 @@ use Rattle.std.proofs.lemmas.Bool.Decides.{nat_tests}
 use Rattle.ctl_meaning.specs.World.{Declared, Allocated, Object, Origin}
 use Rattle.ctl_meaning.specs.Lists.{keep}
 use Rattle.ctl_meaning.specs.Objects.{is_untouched, object_in}
-use Rattle.ctl_objects.specs.declared.groups.Group.{Group}
-use Rattle.ctl_objects.specs.declared.groups.Start.{Start}
-use Rattle.ctl_objects.specs.declared.groups.Waiting.{Waiting}
-use Rattle.ctl_objects.specs.declared.needs.Need.{Need}
-use Rattle.ctl_objects.specs.Groups.{IsNextBy, IsNextGroup, count, is_allocated, group_by, is_open, is_same, is_waiting, test}
-use Rattle.ctl_objects.specs.Members.{IsGreatest, IsLeast, passes}
+use Rattle.ctl_groups.specs.declared.groups.Group.{Group}
+use Rattle.ctl_groups.specs.declared.groups.Start.{Start}
+use Rattle.ctl_groups.specs.declared.groups.Waiting.{Waiting}
+use Rattle.ctl_groups.specs.declared.needs.Need.{Need}
+use Rattle.ctl_groups.specs.Groups.{IsNextBy, IsNextGroup, count, is_allocated, group_by, is_open, is_same, is_waiting, test}
+use Rattle.ctl_groups.specs.Members.{IsGreatest, IsLeast, passes}
 use Rattle.ctl_objects.specs.Order.{AreSplit, IsDeclared, both}
 use Rattle.ctl_storage.specs.Order.{AreBelow}
 use Rattle.ctl_objects.proofs.Both.{found_both, rise_both}
 use Rattle.ctl_objects.proofs.Filed.{passing_below}
-use Rattle.ctl_objects.proofs.Grouped.{both_true, never}
+use Rattle.ctl_groups.proofs.Grouped.{both_true, never}
 use Rattle.ctl_storage.proofs.Kept.{no_more}
 use Rattle.ctl_storage.proofs.Rising.{in_keep, kept_one, rise_keep, same_objects}
 

@@ -3,8 +3,8 @@ use Rattle.std.specs.Prelude.{◌≡◌, refl, ℕ, List, cond, nat_eq}
 use Rattle.std.specs.Coded.{Coded, code_by, coded×, coded_ℕ, coded_list}
 use Rattle.ctl_storage.specs.Codes.{storage_code}
 use Rattle.ctl_storage.specs.Storage.{Storage}
-use Rattle.ctl_objects.specs.declared.needs.Need.{Need}
-use Rattle.ctl_objects.specs.declared.needs.Need.TheVariants.{Finalization, Nothing}
+use Rattle.ctl_groups.specs.declared.needs.Need.{Need}
+use Rattle.ctl_groups.specs.declared.needs.Need.TheVariants.{Finalization, Nothing}
 use Rattle.ctl_objects.specs.Stock.{Stock, stock_of, storage_of}
 
 abbrev need_number : Need → ℕ

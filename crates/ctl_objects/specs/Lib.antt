@@ -3,9 +3,6 @@ pub mod Declarations
 pub mod Existing
 pub mod Order
 pub mod Sets
-pub mod Members
-pub mod Needs
-pub mod Groups
 pub mod Filed
 pub mod Stock
 pub mod Codes

@@ -6,7 +6,7 @@ use Rattle.ctl_meaning.specs.World.{Object}
 use Rattle.pool_store.specs.Entries.{BlockPool}
 use Rattle.ctl_storage.specs.declared.pools.PoolSize.{PoolSize}
 use Rattle.ctl_storage.specs.Storage.{Storage}
-use Rattle.ctl_objects.specs.declared.needs.Need.{Need}
+use Rattle.ctl_groups.specs.declared.needs.Need.{Need}
 use Rattle.ctl_objects.specs.Order.{both}
 
 pub record Stock : Type 0 where

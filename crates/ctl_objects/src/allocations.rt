@@ -11,10 +11,10 @@ ghost use Rattle.ctl_meaning.specs.Pools.{block_pool_at, hold_block, push_block_
 ghost use Rattle.ctl_meaning.specs.Changes.{new_object};
 ghost use Rattle.ctl_objects.specs.Declarations.{has_number};
 ghost use Rattle.ctl_objects.specs.Existing.{IsKnown};
-ghost use Rattle.ctl_objects.specs.Groups.{IsNextGroup, is_open, is_waiting};
+ghost use Rattle.ctl_groups.specs.Groups.{IsNextGroup, is_open, is_waiting};
 ghost use Rattle.ctl_objects.specs.Pools.{DropsOnly};
 ghost use Rattle.ctl_objects.specs.Stock.{storage_of};
-ghost use Rattle.ctl_objects.specs.Members.{IsGreatest, IsLeast, passes};
+ghost use Rattle.ctl_groups.specs.Members.{IsGreatest, IsLeast, passes};
 ghost use Rattle.ctl_storage.specs.Calls.{AreOutside, IsBlockPoolSize, IsOpen, IsPoolOf, OnPlaced, OnRefused, is_fit_at, is_vacant_at, number_lies_in, placing, pool_of, returned, taken_at, with_returned, with_taken};
 ghost use Rattle.ctl_storage.specs.Order.{AreBelow, Rise};
 ghost use Rattle.ctl_storage.specs.Storage.{ArePools, KeepsPools};
@@ -24,8 +24,7 @@ ghost use Rattle.ctl_storage.specs.Stages.{with_step};
 
 use crate::declarations::Declaration;
 use crate::existing::Existing;
-use crate::groups::{Group, Groups, Start, Waiting};
-use crate::needs::Need;
+use ctl_groups::{Group, Groups, Need, Start, Waiting};
 use ctl_program::types::Ty;
 use ctl_storage::{
     Allocation, BlockReturn, ObjectStorage, Place, Placing, Pool, PoolSize, Spot, Stage, Step,

@@ -17,7 +17,7 @@ ghost use Rattle.ctl_objects.specs.Declarations.{AreOf, AreOlder, AreWithin, Lac
 ghost use Rattle.ctl_storage.specs.Stages.{with_step};
 ghost use Rattle.ctl_objects.specs.Copies.{copied};
 ghost use Rattle.ctl_objects.specs.Existing.{IsKnown};
-ghost use Rattle.ctl_objects.specs.Members.{passes};
+ghost use Rattle.ctl_groups.specs.Members.{passes};
 ghost use Rattle.ctl_objects.specs.Order.{AreUpTo, IsDeclared};
 ghost use Rattle.ctl_objects.specs.Stock.{storage_of};
 ghost use Rattle.ctl_storage.specs.Calls.{IsBlockPoolSize};

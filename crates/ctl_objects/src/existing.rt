@@ -8,14 +8,14 @@ use ctl_storage::{Allocation, Place, Stage};
 
 /// Where an object comes from: it is declared in a master, or allocated for a collection, where it
 /// lies at a place (RM 3.3.1, 4.8, 13.11).
-#[derive(Clone, Copy, Debug, PartialEq, Eq)]
+#[derive(Clone, Copy)]
 pub enum Origin {
     Declared(u64),
     Allocated { collection: u64, place: Place },
 }
 
 /// An object that exists: its own type, how far it has come, and where it comes from.
-#[derive(Clone, Copy, Debug, PartialEq, Eq)]
+#[derive(Clone, Copy)]
 pub struct Existing {
     pub ty: Ty,
     pub stage: Stage,

@@ -6,13 +6,10 @@ mod allocations;
 mod cells;
 mod declarations;
 mod existing;
-mod groups;
-mod needs;
 mod object_list;
 pub mod room;
 
+pub use ctl_groups::{Group, Need, Start, Waiting};
 pub use ctl_storage::{BlockReturn, Life, Place, Placing, Pool, PoolSize, PoolState, Spot, Stage};
 pub use existing::{Existing, Origin};
-pub use groups::{Group, Start, Waiting};
-pub use needs::Need;
 pub use object_list::Objects;

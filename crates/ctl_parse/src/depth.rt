@@ -15,7 +15,7 @@ use ctl_grammar::refused::{Reason, Refused};
 use ctl_tree::token::Kind;
 
 /// What begins an item that may be a body.
-#[derive(Clone, Copy, Debug, PartialEq, Eq)]
+#[derive(Clone, Copy)]
 pub(crate) enum Heading {
     /// `procedure` where an instance may stand too.
     Procedure,

@@ -52,7 +52,7 @@ pub enum Name {
 }
 
 /// A selector, a dereference or a checked view.
-#[derive(Clone, Copy, Debug, PartialEq, Eq)]
+#[derive(Clone, Copy)]
 pub enum Step {
     /// the component of this record at a position, from 1 and with the inherited ones first (RM 4.1.3)
     Component(usize, usize),

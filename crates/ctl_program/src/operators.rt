@@ -1,7 +1,7 @@
 //! Operators, and the other words of an expression that stand for no value.
 
 /// An operator with one operand (RM 4.5.4, 4.5.6).
-#[derive(Clone, Copy, Debug, PartialEq, Eq)]
+#[derive(Clone, Copy)]
 pub enum UnaryOp {
     Plus,
     Minus,
@@ -10,7 +10,7 @@ pub enum UnaryOp {
 }
 
 /// An operator with two operands (RM 4.5.1 to 4.5.5).
-#[derive(Clone, Copy, Debug, PartialEq, Eq)]
+#[derive(Clone, Copy)]
 pub enum BinaryOp {
     Add,
     Subtract,
@@ -30,14 +30,14 @@ pub enum BinaryOp {
 }
 
 /// A short-circuit control form (RM 4.5.1).
-#[derive(Clone, Copy, Debug, PartialEq, Eq)]
+#[derive(Clone, Copy)]
 pub enum Shortcut {
     AndThen,
     OrElse,
 }
 
 /// A function on a Mark_Release_Pool that gives a subpool (RM 13.11.4, 13.11.6).
-#[derive(Clone, Copy, Debug, PartialEq, Eq)]
+#[derive(Clone, Copy)]
 pub enum SubpoolFunction {
     /// `Mark`: a new subpool, the last
     Mark,
@@ -46,7 +46,7 @@ pub enum SubpoolFunction {
 }
 
 /// An operation that may be called of a class-wide object (RM 7.6).
-#[derive(Clone, Copy, Debug, PartialEq, Eq)]
+#[derive(Clone, Copy)]
 pub enum Operation {
     Initialize,
     Adjust,
@@ -54,7 +54,7 @@ pub enum Operation {
 }
 
 /// What the copy of an actual begins with (RM 6.4.1).
-#[derive(Clone, Copy, Debug, PartialEq, Eq)]
+#[derive(Clone, Copy)]
 pub enum CopyStart {
     /// the actual's value: `in out`, and `out` of an access type or handle
     Actual,
@@ -63,7 +63,7 @@ pub enum CopyStart {
 }
 
 /// Which way a `for` loop goes through its range (RM 5.5).
-#[derive(Clone, Copy, Debug, PartialEq, Eq)]
+#[derive(Clone, Copy)]
 pub enum Direction {
     Upward,
     /// `reverse`
@@ -71,7 +71,7 @@ pub enum Direction {
 }
 
 /// What a subprogram is: whether a call of it gives a value (RM 6.1).
-#[derive(Clone, Copy, Debug, PartialEq, Eq)]
+#[derive(Clone, Copy)]
 pub enum SubprogramKind {
     Procedure,
     Function,

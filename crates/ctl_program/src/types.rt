@@ -4,7 +4,7 @@ use crate::expression::Expr;
 use sqlite_items::Items;
 
 /// The type of a value.
-#[derive(Clone, Copy, Debug, PartialEq, Eq)]
+#[derive(Clone, Copy, PartialEq, Eq)]
 pub enum Ty {
     /// Integer (RM 3.5.4)
     Integer,
@@ -22,7 +22,7 @@ pub enum Ty {
 }
 
 /// A use of a declared object, a formal, a loop parameter or a collection.
-#[derive(Clone, Copy, Debug, PartialEq, Eq)]
+#[derive(Clone, Copy)]
 pub struct Var {
     /// how many masters (subprogram bodies and blocks) stand around the declaration, its own one included (RM 3.10.2)
     pub level: usize,
@@ -31,7 +31,7 @@ pub struct Var {
 }
 
 /// What a record type descends from (RM 7.6, 13.11).
-#[derive(Clone, Copy, Debug, PartialEq, Eq)]
+#[derive(Clone, Copy)]
 pub enum Root {
     Untagged,
     /// Controlled or Limited_Controlled
@@ -42,7 +42,7 @@ pub enum Root {
 }
 
 /// The operations that the user wrote for a type, its own or inherited, by their numbers.
-#[derive(Clone, Copy, Debug, PartialEq, Eq)]
+#[derive(Clone, Copy)]
 pub struct Operations {
     pub initialize: Option<usize>,
     pub adjust: Option<usize>,
@@ -72,7 +72,7 @@ pub struct RecordType {
 }
 
 /// An access type (RM 3.10).
-#[derive(Clone, Copy, Debug, PartialEq, Eq)]
+#[derive(Clone, Copy)]
 pub struct AccessType {
     /// where its collection is found
     pub collection: Var,

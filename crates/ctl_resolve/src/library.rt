@@ -7,7 +7,7 @@ use ctl_grammar::spelling::is_same_name;
 use ctl_syntax::denoted::{LibraryName, OperationName};
 
 /// A library unit, or the parent of one.
-#[derive(Clone, Copy, Debug, PartialEq, Eq)]
+#[derive(Clone, Copy)]
 pub enum Unit {
     Ada,
     /// Ada.Text_IO (RM A.10.1)

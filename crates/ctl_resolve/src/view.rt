@@ -9,7 +9,7 @@ use ctl_tree::text::Text;
 use sqlite_items::Items;
 
 /// How far a declaration has come.
-#[derive(Clone, Copy, Debug, PartialEq, Eq)]
+#[derive(Clone, Copy)]
 pub enum Stage {
     /// it has not ended, and gives no name yet (RM 8.3(17))
     Hidden,
@@ -21,7 +21,7 @@ pub enum Stage {
 }
 
 /// What uses know a declaration by.
-#[derive(Clone, Copy, Debug, PartialEq, Eq)]
+#[derive(Clone, Copy)]
 pub enum Role {
     /// its name
     Direct,
@@ -52,7 +52,7 @@ pub struct Filing {
 }
 
 /// What is known of a declaration that was found.
-#[derive(Clone, Copy, Debug, PartialEq, Eq)]
+#[derive(Clone, Copy)]
 pub struct Known {
     /// how many declarations in view stand before it
     pub number: usize,
@@ -61,7 +61,7 @@ pub struct Known {
 }
 
 /// Which declaration is sought among those of one key.
-#[derive(Clone, Copy, Debug, PartialEq, Eq)]
+#[derive(Clone, Copy)]
 pub enum Sought {
     /// the one that a use of the name denotes
     Direct,
@@ -76,14 +76,14 @@ pub enum Sought {
 }
 
 /// Whether a body stands before, in the part that is read.
-#[derive(Clone, Copy, Debug, PartialEq, Eq)]
+#[derive(Clone, Copy)]
 pub enum Progress {
     BeforeBodies,
     BehindBody,
 }
 
 /// The declarative part whose items are read, or another region of declarations (RM 8.1).
-#[derive(Clone, Copy, Debug, PartialEq, Eq)]
+#[derive(Clone, Copy)]
 pub struct Part {
     /// how many declarations around it are in view
     pub start: usize,
@@ -107,7 +107,7 @@ pub struct View {
 }
 
 /// How a name is used.
-#[derive(Clone, Copy, Debug, PartialEq, Eq)]
+#[derive(Clone, Copy)]
 pub enum Usage {
     /// as the designated type of an access type, which may be incomplete (RM 3.10.1)
     Designated,
@@ -115,7 +115,7 @@ pub enum Usage {
 }
 
 /// Where the identifiers of a name lead from a library unit.
-#[derive(Clone, Copy, Debug, PartialEq, Eq)]
+#[derive(Clone, Copy)]
 pub enum Way {
     /// to a unit
     Reaches(Unit),
@@ -124,7 +124,7 @@ pub enum Way {
 }
 
 /// What the beginning of a name means where it stands.
-#[derive(Clone, Copy, Debug, PartialEq, Eq)]
+#[derive(Clone, Copy)]
 pub enum Meaning {
     /// it denotes this, and so many identifiers behind the first are used up
     Means(Denoted, usize),

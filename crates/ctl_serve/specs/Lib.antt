@@ -1,5 +1,3 @@
 pub mod Reading
-pub mod Refusals
 pub mod Served
-pub mod Shown
 pub mod Statuses

@@ -7,12 +7,11 @@ ghost use Rattle.ctl_serve.specs.Reading.{is_unread, reader_of};
 ghost use Rattle.ctl_serve.specs.Served.{BreaksOff, EndsBy, IsCheckStatus, IsDone, IsPossible, IsRefusedText, IsRunStatus, ReadsRefused, Serves, WritesOk, WritesOkUpTo, WritesRun, WritesRunUpTo};
 ghost use Rattle.ctl_serve.specs.Statuses.{exit_code, fault_status, usage_status};
 
-use crate::into::run_into;
 use crate::report::{say, say_run};
 use crate::source::{ReadFault, Reading, read_source};
 use crate::status::{Status, status_of_end, status_of_fault, status_of_usage};
-use crate::summary::RunFault;
 use ctl_job::{Job, UsageFault};
+use ctl_output::{RunFault, run_into};
 use ctl_run::run::check_source;
 use ctl_sink::{PutFault, Sink, put_all};
 use ctl_tree::fault::Fault;

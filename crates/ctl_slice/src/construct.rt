@@ -13,7 +13,7 @@ use ctl_syntax::name::Name;
 use sqlite_items::Boxed;
 
 /// Whether this version runs a construct.
-#[derive(Clone, Copy, Debug, PartialEq, Eq)]
+#[derive(Clone, Copy)]
 pub enum Support {
     Run,
     LeftOut,

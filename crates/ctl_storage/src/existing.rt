@@ -7,7 +7,7 @@ use ctl_program::types::Ty;
 use pool_store::Spot;
 
 /// How far the finalization of an object has come (RM 7.6.1).
-#[derive(Clone, Copy, Debug, PartialEq, Eq)]
+#[derive(Clone, Copy, PartialEq, Eq)]
 pub enum Life {
     Untouched,
     Finalizing,
@@ -15,14 +15,14 @@ pub enum Life {
 }
 
 /// How far an object has come: with its finalization, and whether it has joined its collection.
-#[derive(Clone, Copy, Debug, PartialEq, Eq)]
+#[derive(Clone, Copy, PartialEq, Eq)]
 pub struct Stage {
     pub life: Life,
     pub has_joined: bool,
 }
 
 /// Where an allocated object lies (RM 13.11): in the standard pool, or in a block of a block pool.
-#[derive(Clone, Copy, Debug, PartialEq, Eq)]
+#[derive(Clone, Copy, PartialEq, Eq)]
 pub enum Place {
     Standard,
     InBlock(Spot),
@@ -30,7 +30,7 @@ pub enum Place {
 
 /// An allocated object, but for the values of its cells: its own type, its collection, where it
 /// lies, how many cells it has, and how far it has come.
-#[derive(Clone, Copy, Debug, PartialEq, Eq)]
+#[derive(Clone, Copy, PartialEq, Eq)]
 pub struct Allocation {
     pub ty: Ty,
     pub collection: u64,
@@ -41,7 +41,7 @@ pub struct Allocation {
 
 /// A step of an object: its finalization begins or is complete, or it joins its collection (RM
 /// 7.6.1).
-#[derive(Clone, Copy, Debug, PartialEq, Eq)]
+#[derive(Clone, Copy)]
 pub enum Step {
     Begin,
     End,

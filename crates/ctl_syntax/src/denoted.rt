@@ -5,7 +5,7 @@ use crate::name::Identifier;
 use ctl_tree::span::Span;
 
 /// What Standard or a library unit declares (RM A.1, A.10, 7.6, 13.7, 13.11), and the units that are procedures themselves.
-#[derive(Clone, Copy, Debug, PartialEq, Eq)]
+#[derive(Clone, Copy)]
 pub enum LibraryName {
     Integer,
     Boolean,
@@ -45,7 +45,7 @@ pub enum LibraryName {
 }
 
 /// An operation that a type may override (RM 7.6, 13.11).
-#[derive(Clone, Copy, Debug, PartialEq, Eq)]
+#[derive(Clone, Copy)]
 pub enum OperationName {
     Initialize,
     Adjust,
@@ -55,7 +55,7 @@ pub enum OperationName {
 }
 
 /// What the use of a name denotes.
-#[derive(Clone, Copy, Debug, PartialEq, Eq)]
+#[derive(Clone, Copy)]
 pub enum Denoted {
     /// a declaration of the text: its number among those in view, and its level
     Declared(usize, usize),
@@ -67,7 +67,7 @@ pub enum Denoted {
 }
 
 /// The use of a name, with the place of its first identifier.
-#[derive(Clone, Copy, Debug, PartialEq, Eq)]
+#[derive(Clone, Copy)]
 pub struct Use {
     pub span: Span,
     pub denoted: Denoted,

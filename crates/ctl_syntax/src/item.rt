@@ -16,7 +16,7 @@ pub struct Tree<D, U> {
 }
 
 /// What a clause of the context does with its units.
-#[derive(Clone, Copy, Debug, PartialEq, Eq)]
+#[derive(Clone, Copy)]
 pub enum ContextKind {
     With,
     Use,
@@ -55,7 +55,7 @@ pub struct Handler<S, U> {
 }
 
 /// How a parameter is passed (RM 6.2).
-#[derive(Clone, Copy, Debug, PartialEq, Eq)]
+#[derive(Clone, Copy)]
 pub enum Mode {
     In,
     Out,
@@ -71,7 +71,7 @@ pub struct Formal<D, U> {
 }
 
 /// Whether `overriding` stands before a heading (RM 8.3.1).
-#[derive(Clone, Copy, Debug, PartialEq, Eq)]
+#[derive(Clone, Copy)]
 pub enum Indicator {
     Absent,
     Overriding,
@@ -104,28 +104,28 @@ pub struct Components<U> {
 }
 
 /// Whether a record type says `limited` (RM 7.5).
-#[derive(Clone, Copy, Debug, PartialEq, Eq)]
+#[derive(Clone, Copy, PartialEq, Eq)]
 pub enum Limitation {
     Nonlimited,
     Limited,
 }
 
 /// Whether an incomplete type says `is tagged` (RM 3.10.1).
-#[derive(Clone, Copy, Debug, PartialEq, Eq)]
+#[derive(Clone, Copy)]
 pub enum Taggedness {
     Unsaid,
     Tagged,
 }
 
 /// Whether an access type says `all` (RM 3.10).
-#[derive(Clone, Copy, Debug, PartialEq, Eq)]
+#[derive(Clone, Copy)]
 pub enum Generality {
     PoolSpecific,
     General,
 }
 
 /// Whether an access type designates one type, or each type of a class (RM 3.9, 3.10).
-#[derive(Clone, Copy, Debug, PartialEq, Eq)]
+#[derive(Clone, Copy)]
 pub enum Coverage {
     Specific,
     ClassWide,
@@ -154,14 +154,14 @@ pub struct Objects<D, U> {
 }
 
 /// Whether objects say `aliased` (RM 3.10).
-#[derive(Clone, Copy, Debug, PartialEq, Eq)]
+#[derive(Clone, Copy)]
 pub enum Aliasing {
     Unaliased,
     Aliased,
 }
 
 /// Whether objects say `constant` (RM 3.3.1).
-#[derive(Clone, Copy, Debug, PartialEq, Eq)]
+#[derive(Clone, Copy)]
 pub enum Constancy {
     Variable,
     Constant,
@@ -204,7 +204,7 @@ pub struct Branch<S, U> {
 }
 
 /// Which way a loop goes through its range (RM 5.5).
-#[derive(Clone, Copy, Debug, PartialEq, Eq)]
+#[derive(Clone, Copy)]
 pub enum Direction {
     Upward,
     /// `reverse`

@@ -39,7 +39,7 @@ pub enum Suffix<E> {
 }
 
 /// The attributes of the subset (RM 3.5, 3.10.2).
-#[derive(Clone, Copy, Debug, PartialEq, Eq)]
+#[derive(Clone, Copy)]
 pub enum Attribute {
     Access,
     Image,

@@ -1,7 +1,7 @@
 //! Operators (RM 4.5).
 
 /// What joins relations (RM 4.5.1).
-#[derive(Clone, Copy, Debug, PartialEq, Eq)]
+#[derive(Clone, Copy)]
 pub enum LogicalOperator {
     And,
     Or,
@@ -11,7 +11,7 @@ pub enum LogicalOperator {
 }
 
 /// What compares (RM 4.5.2).
-#[derive(Clone, Copy, Debug, PartialEq, Eq)]
+#[derive(Clone, Copy)]
 pub enum RelationalOperator {
     Equal,
     NotEqual,
@@ -22,7 +22,7 @@ pub enum RelationalOperator {
 }
 
 /// What joins terms of a sum, or factors of a term (RM 4.5.3, 4.5.5).
-#[derive(Clone, Copy, Debug, PartialEq, Eq)]
+#[derive(Clone, Copy)]
 pub enum ArithmeticOperator {
     Plus,
     Minus,
@@ -34,7 +34,7 @@ pub enum ArithmeticOperator {
 }
 
 /// What stands before one operand: a sign of a sum's first term, or a word before a primary (RM 4.5.4, 4.5.6).
-#[derive(Clone, Copy, Debug, PartialEq, Eq)]
+#[derive(Clone, Copy)]
 pub enum UnaryOperator {
     Plus,
     Minus,

@@ -99,7 +99,7 @@ fn of_unary(operator: UnaryOperator, operand: Adopts) -> Adopts
 }
 
 /// Answers which types an expression takes on from its place.
-#[tactic(auto, using(crate::proofs::Senses::sense_chain))]
+#[cycle(adopts)]
 pub fn adopts(x: &Expression<Use>) -> Adopts
     ensures { result ≡ (spec.sense x.now).adopts }
 {
@@ -109,11 +109,7 @@ pub fn adopts(x: &Expression<Use>) -> Adopts
         Expression::Unary(_, operator, operand) => of_unary(*operator, adopts(operand.get())),
         Expression::Parentheses(_, inner) => adopts(inner.get()),
         Expression::Chain(_, first, second, rest) => {
-            let mut so_far = joint(adopts(first.get()), adopts(&second.get().operand));
-            for operand in rest.as_slice() {
-                so_far = joint(so_far, adopts(&operand.operand));
-            }
-            so_far
+            all_adopt(first.get(), second.get(), rest.as_slice())
         }
         Expression::Logical(_, _, _, _, _)
         | Expression::Relation(_, _, _, _)
@@ -121,6 +117,22 @@ pub fn adopts(x: &Expression<Use>) -> Adopts
         | Expression::Name(_, _)
         | Expression::New(_, _, _, _) => Adopts::Nothing,
     }
+}
+
+/// Answers which types a chain takes on: on literals alone, what literals do.
+#[cycle(adopts)]
+fn all_adopt(
+    first: &Expression<Use>,
+    second: &Operand<Expression<Use>>,
+    rest: &[Operand<Expression<Use>>],
+) -> Adopts
+    ensures { result ≡ spec.all_adopt (spec.sense first.now).adopts (senses.operand_sense second.now ∷ map senses.operand_sense rest.now) }
+{
+    let mut so_far = joint(adopts(first), adopts(&second.operand));
+    for operand in rest {
+        so_far = joint(so_far, adopts(&operand.operand));
+    }
+    so_far
 }
 
 /// Tells whether the left one of two operands takes on the type of the right one: that one has a type of its own, and the left one none.

@@ -1,37 +1,34 @@
 //! The judgement of expressions (RM 4.4).
 
-ghost use Rattle.std.specs.Prelude.{◌∷◌, [], Some, map, option_map};
+ghost use Rattle.std.specs.Prelude.{◌∷◌, Some, map, option_map};
 ghost use Rattle.ctl_typing.specs.Judgement as judgement;
 ghost use Rattle.ctl_typing.specs.Judgement.{Judges};
 ghost use Rattle.ctl_typing.specs.Senses as senses;
 ghost use Rattle.ctl_typing.specs.Typing as spec;
 
 use crate::actuals::{record_handed_on, written_found};
-use crate::adopting::{adopts, has_joining, is_led_by_right, parted, place_of, takes_on};
+use crate::adopting::place_of;
 use crate::allocators::{allocator, handle_of, mark_judged, value_asked};
 use crate::attributes::attributed;
 use crate::conversions::{converted_access, converted_number, imaged, subpool_of, viewed};
 use crate::found::{Asked, Found, Typed, discard};
-use crate::joining::{
-    boolean, chain_joined, chain_typed, literals_joined, operand_behind, operand_typed, paired,
-    paired_with, relation_joined, short_circuit, swapped, truths_joined, unary_joined, value_of,
-};
-use crate::judging::{fitted, wrong};
-use crate::literals::{adopted, first_found, null, number};
+use crate::joining::{paired_with, value_of};
+use crate::judging::wrong;
+use crate::literals::{first_found, null, number};
 use crate::lookup::profile_of;
 use crate::names::{dereference, result_found, selector};
 use crate::notes::Notes;
-use crate::operators::{appended, asked_beside, asked_by_one, asked_like, compared};
+use crate::operations::{chain, logical, relation, unary};
+use crate::operators::appended;
 use crate::table::{FormalEntry, Tables};
 use crate::values::name_value;
-use ctl_program::expression::{Actual, Expr, Operand};
-use ctl_program::operators::{BinaryOp, Shortcut, SubpoolFunction};
+use ctl_program::expression::{Actual, Expr};
+use ctl_program::operators::SubpoolFunction;
 use ctl_program::types::Ty;
 use ctl_syntax::denoted::Use;
 use ctl_syntax::expression::Expression;
 use ctl_syntax::item::Mode;
 use ctl_syntax::name::{Mark, Name, Suffix};
-use ctl_syntax::operators::{LogicalOperator, Operand as WrittenOperand, RelationalOperator};
 use ctl_tree::fault::FaultCode;
 use ctl_tree::span::Span;
 use sqlite_items::{Boxed, Items};
@@ -50,10 +47,18 @@ pub fn expression(
 {
     match x {
         Expression::Logical(place, operator, first, second, more) => {
-            let first = truth(alloc, tables, first.get(), notes)?;
-            let two = paired_with(first, truth(alloc, tables, second.get(), notes))?;
-            let value = logical(alloc, tables, more.as_slice(), *operator, two, notes)?;
-            boolean(*place, asked, value, notes)
+            let (first, second) = (first.get(), second.get());
+            logical(
+                alloc,
+                tables,
+                first,
+                second,
+                more.as_slice(),
+                *place,
+                *operator,
+                asked,
+                notes,
+            )
         }
         Expression::Relation(place, operator, left, right) => {
             relation(
@@ -81,26 +86,23 @@ pub fn expression(
             )
         }
         Expression::Unary(place, operator, operand) => {
-            let operand = operand.get();
-            let taken = asked_by_one(*operator, asked, adopts(operand));
-            let typed = expression(alloc, tables, operand, taken, notes)?;
-            unary_joined(alloc, *place, *operator, typed, asked, notes)
+            unary(
+                alloc,
+                tables,
+                operand.get(),
+                *place,
+                *operator,
+                asked,
+                notes,
+            )
         }
         Expression::Number(place, value) => number(*place, *value, asked, notes),
         Expression::String(place, _) => Ok(wrong(FaultCode::Type, *place, notes)),
         Expression::Null(place) => Ok(null(*place, asked, notes)),
-        Expression::Name(_, name) => {
-            let found = found(alloc, tables, name, notes)?;
-            name_value(alloc, tables, name.first.span, asked, found, notes)
-        }
+        Expression::Name(_, name) => named(alloc, tables, name, asked, notes),
         Expression::Parentheses(_, inner) => expression(alloc, tables, inner.get(), asked, notes),
         Expression::New(place, handle, mark, value) => {
-            let handle = handle_or_none(alloc, tables, handle, asked, notes)?;
-            let parts = paired_with(
-                handle,
-                new_object(alloc, tables, mark, value, *place, notes),
-            )?;
-            allocator(alloc, tables, *place, asked, parts, notes)
+            allocation(alloc, tables, handle, mark, value, *place, asked, notes)
         }
     }
 }
@@ -119,359 +121,19 @@ pub fn truth(
     Ok(value_of(typed))
 }
 
-/// Judges the operands of a logical operator behind the second, and joins all of them (RM 4.5.1).
+/// Judges a name as a value (RM 4.1, 4.4).
 #[cycle(expression)]
-fn logical(
+fn named(
     alloc: Global,
     tables: &Tables,
-    more: &[Expression<Use>],
-    operator: LogicalOperator,
-    two: Option<(Expr, Expr)>,
-    notes: &mut Notes,
-) -> Result<Option<Expr>, AllocError>
-    ensures { Judges (senses.logical_behind operator two (map spec.sense more.now) tables.now) notes.old result notes.new }
-{
-    match operator {
-        LogicalOperator::And => whole(alloc, tables, more, BinaryOp::And, two, notes),
-        LogicalOperator::Or => whole(alloc, tables, more, BinaryOp::Or, two, notes),
-        LogicalOperator::Xor => whole(alloc, tables, more, BinaryOp::Xor, two, notes),
-        LogicalOperator::AndThen => short(alloc, tables, more, Shortcut::AndThen, two, notes),
-        LogicalOperator::OrElse => short(alloc, tables, more, Shortcut::OrElse, two, notes),
-    }
-}
-
-/// Judges the operands of `and`, `or` or `xor` behind the second, and joins all of them (RM 4.5.1).
-#[cycle(expression)]
-fn whole(
-    alloc: Global,
-    tables: &Tables,
-    more: &[Expression<Use>],
-    op: BinaryOp,
-    two: Option<(Expr, Expr)>,
-    notes: &mut Notes,
-) -> Result<Option<Expr>, AllocError>
-    ensures { Judges (senses.whole_behind op two (map spec.sense more.now) tables.now) notes.old result notes.new }
-{
-    let all = paired_with(two, truths_behind(alloc, tables, more, op, notes))?;
-    truths_joined(alloc, op, all)
-}
-
-/// Judges the operands of `and`, `or` or `xor` behind the second, each with its operator (RM 4.5.1).
-#[cycle(expression)]
-fn truths_behind(
-    alloc: Global,
-    tables: &Tables,
-    more: &[Expression<Use>],
-    op: BinaryOp,
-    notes: &mut Notes,
-) -> Result<Option<Items<Operand>>, AllocError>
-    ensures { Judges (senses.truths_behind op tables.now (map spec.sense more.now)) notes.old result notes.new }
-{
-    let mut done = Some(Items::new(alloc));
-    for x in more {
-        let value = truth(alloc, tables, x, notes)?;
-        done = appended(done, operand_behind(op, value))?;
-    }
-    Ok(done)
-}
-
-/// Judges the operands of a short-circuit form behind the second, and joins all of them (RM 4.5.1).
-#[cycle(expression)]
-fn short(
-    alloc: Global,
-    tables: &Tables,
-    more: &[Expression<Use>],
-    form: Shortcut,
-    two: Option<(Expr, Expr)>,
-    notes: &mut Notes,
-) -> Result<Option<Expr>, AllocError>
-    ensures { Judges (senses.short_behind form two (map spec.sense more.now) tables.now) notes.old result notes.new }
-{
-    let all = paired_with(two, truths(alloc, tables, more, notes))?;
-    short_circuit(alloc, form, all)
-}
-
-/// Judges the operands of a short-circuit form behind the second (RM 4.5.1).
-#[cycle(expression)]
-fn truths(
-    alloc: Global,
-    tables: &Tables,
-    more: &[Expression<Use>],
-    notes: &mut Notes,
-) -> Result<Option<Items<Expr>>, AllocError>
-    ensures { Judges (spec.truths_of tables.now (map spec.sense more.now)) notes.old result notes.new }
-{
-    let mut done = Some(Items::new(alloc));
-    for x in more {
-        let value = truth(alloc, tables, x, notes)?;
-        done = appended(done, value)?;
-    }
-    Ok(done)
-}
-
-/// Judges a relation: the right operand has the type of the left one; a literal or null on the left takes on that of the right one
-/// (RM 4.5.2).
-#[cycle(expression)]
-fn relation(
-    alloc: Global,
-    tables: &Tables,
-    left: &Expression<Use>,
-    right: &Expression<Use>,
-    place: Span,
-    operator: RelationalOperator,
+    name: &Name<Use, Expression<Use>>,
     asked: Asked,
     notes: &mut Notes,
 ) -> Result<Option<Typed>, AllocError>
-    ensures { Judges (spec.relation_judged place operator (spec.sense left.now) (spec.sense right.now) tables.now asked) notes.old result notes.new }
+    ensures { Judges (spec.name_judged name.now.first (map senses.suffix_sense name.now.suffixes) tables.now asked) notes.old result notes.new }
 {
-    let taken = compared(operator);
-    if is_led_by_right(left, right) {
-        let beside = asked_beside(operator, adopts(left));
-        let right = expression(alloc, tables, right, beside, notes)?;
-        let like = asked_like(taken, &right);
-        let both = paired_with(right, expression(alloc, tables, left, like, notes))?;
-        return relation_joined(alloc, place, operator, swapped(both), asked, notes);
-    }
-    let left = expression(alloc, tables, left, taken, notes)?;
-    let like = asked_like(taken, &left);
-    let both = paired_with(left, expression(alloc, tables, right, like, notes))?;
-    relation_joined(alloc, place, operator, both, asked, notes)
-}
-
-/// Judges a chain; a string is no value outside of Put and Put_Line (RM 4.5.3, profile).
-#[cycle(expression)]
-fn chain(
-    alloc: Global,
-    tables: &Tables,
-    first: &Expression<Use>,
-    second: &WrittenOperand<Expression<Use>>,
-    rest: &[WrittenOperand<Expression<Use>>],
-    place: Span,
-    asked: Asked,
-    notes: &mut Notes,
-) -> Result<Option<Typed>, AllocError>
-    ensures { Judges (spec.chain_judged place (spec.sense first.now) (senses.operand_sense second.now ∷ map senses.operand_sense rest.now) tables.now asked) notes.old result notes.new }
-{
-    if has_joining(second, rest) {
-        return Ok(wrong(FaultCode::Type, place, notes));
-    }
-    let typed = arithmetic(alloc, tables, first, second, rest, asked, notes)?;
-    fitted(place, asked, typed, notes)
-}
-
-/// Judges a chain of numbers: by the first operand that has a type of its own (RM 4.5.3, profile).
-#[cycle(expression)]
-fn arithmetic(
-    alloc: Global,
-    tables: &Tables,
-    first: &Expression<Use>,
-    second: &WrittenOperand<Expression<Use>>,
-    rest: &[WrittenOperand<Expression<Use>>],
-    asked: Asked,
-    notes: &mut Notes,
-) -> Result<Option<Typed>, AllocError>
-    ensures { Judges (senses.arithmetic tables.now asked (spec.sense first.now) (senses.operand_sense second.now ∷ map senses.operand_sense rest.now)) notes.old result notes.new }
-{
-    if !takes_on(adopts(first)) {
-        return by_first(alloc, tables, first, second, rest, notes);
-    }
-    if !takes_on(adopts(&second.operand)) {
-        return by_second(alloc, tables, first, second, rest, notes);
-    }
-    match parted(rest) {
-        Some(at) => {
-            let (before, behind) = (&rest[..at], &rest[at + 1..]);
-            by_further(
-                alloc, tables, first, second, before, &rest[at], behind, notes,
-            )
-        }
-        None => by_place(alloc, tables, first, second, rest, asked, notes),
-    }
-}
-
-/// Judges a chain of which the first operand has a type of its own, which the others have (RM 4.5.3).
-#[cycle(expression)]
-fn by_first(
-    alloc: Global,
-    tables: &Tables,
-    first: &Expression<Use>,
-    second: &WrittenOperand<Expression<Use>>,
-    rest: &[WrittenOperand<Expression<Use>>],
-    notes: &mut Notes,
-) -> Result<Option<Typed>, AllocError>
-    ensures { Judges (spec.by_first tables.now (spec.sense first.now) (senses.operand_sense second.now ∷ map senses.operand_sense rest.now)) notes.old result notes.new }
-{
-    let typed = expression(alloc, tables, first, Asked::Number, notes)?;
-    let like = asked_like(Asked::Number, &typed);
-    let all = paired_with(typed, operands_as(alloc, tables, second, rest, like, notes))?;
-    chain_typed(alloc, all)
-}
-
-/// Judges a chain of which the second operand is the first with a type of its own (RM 4.5.3).
-#[cycle(expression)]
-fn by_second(
-    alloc: Global,
-    tables: &Tables,
-    first: &Expression<Use>,
-    second: &WrittenOperand<Expression<Use>>,
-    rest: &[WrittenOperand<Expression<Use>>],
-    notes: &mut Notes,
-) -> Result<Option<Typed>, AllocError>
-    ensures { (asked : _) → Judges (spec.by_other tables.now asked (spec.sense first.now) [] (Some (senses.operand_sense second.now)) (map senses.operand_sense rest.now)) notes.old result notes.new }
-{
-    let typed = expression(alloc, tables, &second.operand, Asked::Number, notes)?;
-    let like = asked_like(Asked::Number, &typed);
-    let all = paired_with(
-        typed,
-        around_second(alloc, tables, first, rest, like, notes),
-    )?;
-    chain_joined(alloc, second.operator, all)
-}
-
-/// Judges the operands around a second one, of which they take on the type (RM 4.5.3).
-#[cycle(expression)]
-fn around_second(
-    alloc: Global,
-    tables: &Tables,
-    first: &Expression<Use>,
-    rest: &[WrittenOperand<Expression<Use>>],
-    like: Asked,
-    notes: &mut Notes,
-) -> Result<Option<((Expr, Items<Operand>), Items<Operand>)>, AllocError>
-    ensures { Judges (spec.around tables.now (spec.sense first.now) [] (map senses.operand_sense rest.now) like) notes.old result notes.new }
-{
-    let value = expression(alloc, tables, first, like, notes)?;
-    let first = paired(value_of(value), Some(Items::new(alloc)));
-    let none = Some(Items::new(alloc));
-    paired_with(
-        first,
-        operands_behind(alloc, tables, rest, like, none, notes),
-    )
-}
-
-/// Judges a chain of literals alone: they take on the type that the place asks (RM 4.5.3, profile).
-#[cycle(expression)]
-fn by_place(
-    alloc: Global,
-    tables: &Tables,
-    first: &Expression<Use>,
-    second: &WrittenOperand<Expression<Use>>,
-    rest: &[WrittenOperand<Expression<Use>>],
-    asked: Asked,
-    notes: &mut Notes,
-) -> Result<Option<Typed>, AllocError>
-    ensures { Judges (spec.by_other tables.now asked (spec.sense first.now) (senses.operand_sense second.now ∷ map senses.operand_sense rest.now) None []) notes.old result notes.new }
-{
-    let ty = adopted(asked);
-    let whole = first_as(
-        alloc,
-        tables,
-        first,
-        second,
-        rest,
-        Asked::Exactly(ty),
-        notes,
-    )?;
-    literals_joined(alloc, ty, whole)
-}
-
-/// Judges a chain of which an operand behind the second is the first with a type of its own (RM 4.5.3).
-#[cycle(expression)]
-fn by_further(
-    alloc: Global,
-    tables: &Tables,
-    first: &Expression<Use>,
-    second: &WrittenOperand<Expression<Use>>,
-    before: &[WrittenOperand<Expression<Use>>],
-    leading: &WrittenOperand<Expression<Use>>,
-    behind: &[WrittenOperand<Expression<Use>>],
-    notes: &mut Notes,
-) -> Result<Option<Typed>, AllocError>
-    ensures { (asked : _) → Judges (spec.by_other tables.now asked (spec.sense first.now) (senses.operand_sense second.now ∷ map senses.operand_sense before.now) (Some (senses.operand_sense leading.now)) (map senses.operand_sense behind.now)) notes.old result notes.new }
-{
-    let typed = expression(alloc, tables, &leading.operand, Asked::Number, notes)?;
-    let like = asked_like(Asked::Number, &typed);
-    let others = around_further(alloc, tables, first, second, before, behind, like, notes);
-    let all = paired_with(typed, others)?;
-    chain_joined(alloc, leading.operator, all)
-}
-
-/// Judges the operands around a further one, of which they take on the type (RM 4.5.3).
-#[cycle(expression)]
-fn around_further(
-    alloc: Global,
-    tables: &Tables,
-    first: &Expression<Use>,
-    second: &WrittenOperand<Expression<Use>>,
-    before: &[WrittenOperand<Expression<Use>>],
-    behind: &[WrittenOperand<Expression<Use>>],
-    like: Asked,
-    notes: &mut Notes,
-) -> Result<Option<((Expr, Items<Operand>), Items<Operand>)>, AllocError>
-    ensures { Judges (spec.around tables.now (spec.sense first.now) (senses.operand_sense second.now ∷ map senses.operand_sense before.now) (map senses.operand_sense behind.now) like) notes.old result notes.new }
-{
-    let first = first_as(alloc, tables, first, second, before, like, notes)?;
-    let none = Some(Items::new(alloc));
-    paired_with(
-        first,
-        operands_behind(alloc, tables, behind, like, none, notes),
-    )
-}
-
-/// Judges the first operands of a chain, which take on the type of another (RM 4.5.3).
-#[cycle(expression)]
-fn first_as(
-    alloc: Global,
-    tables: &Tables,
-    first: &Expression<Use>,
-    second: &WrittenOperand<Expression<Use>>,
-    rest: &[WrittenOperand<Expression<Use>>],
-    asked: Asked,
-    notes: &mut Notes,
-) -> Result<Option<(Expr, Items<Operand>)>, AllocError>
-    ensures { Judges (spec.first_as tables.now asked (spec.sense first.now) (senses.operand_sense second.now ∷ map senses.operand_sense rest.now)) notes.old result notes.new }
-{
-    let typed = expression(alloc, tables, first, asked, notes)?;
-    let others = operands_as(alloc, tables, second, rest, asked, notes);
-    paired_with(value_of(typed), others)
-}
-
-/// Judges the operands of a chain behind the first (RM 4.5.3, 4.5.5).
-#[cycle(expression)]
-fn operands_as(
-    alloc: Global,
-    tables: &Tables,
-    second: &WrittenOperand<Expression<Use>>,
-    rest: &[WrittenOperand<Expression<Use>>],
-    asked: Asked,
-    notes: &mut Notes,
-) -> Result<Option<Items<Operand>>, AllocError>
-    ensures { Judges (spec.operands_as tables.now asked (senses.operand_sense second.now ∷ map senses.operand_sense rest.now)) notes.old result notes.new }
-{
-    let typed = expression(alloc, tables, &second.operand, asked, notes)?;
-    let one = operand_typed(second.operator, typed);
-    let so_far = appended(Some(Items::new(alloc)), one)?;
-    operands_behind(alloc, tables, rest, asked, so_far, notes)
-}
-
-/// Judges operands behind those so far (RM 4.5.3, 4.5.5).
-#[cycle(expression)]
-fn operands_behind(
-    alloc: Global,
-    tables: &Tables,
-    rest: &[WrittenOperand<Expression<Use>>],
-    asked: Asked,
-    so_far: Option<Items<Operand>>,
-    notes: &mut Notes,
-) -> Result<Option<Items<Operand>>, AllocError>
-    ensures { Judges (judgement.each (spec.operand_as tables.now asked) so_far (map senses.operand_sense rest.now)) notes.old result notes.new }
-{
-    let mut done = so_far;
-    for operand in rest {
-        let typed = expression(alloc, tables, &operand.operand, asked, notes)?;
-        done = appended(done, operand_typed(operand.operator, typed))?;
-    }
-    Ok(done)
+    let found = found(alloc, tables, name, notes)?;
+    name_value(alloc, tables, name.first.span, asked, found, notes)
 }
 
 /// Judges a name, as far as it was read (RM 4.1).
@@ -806,6 +468,26 @@ fn called(
         Some(actuals) => Ok(result_found(alloc, place, profile, actuals, notes)),
         None => Ok(None),
     }
+}
+
+/// Judges an allocator: its handle, the type of the new object, and its value (RM 4.8, 13.11.4).
+#[cycle(expression)]
+fn allocation(
+    alloc: Global,
+    tables: &Tables,
+    handle: &Option<Boxed<Name<Use, Expression<Use>>>>,
+    mark: &Mark<Use>,
+    value: &Option<Boxed<Expression<Use>>>,
+    place: Span,
+    asked: Asked,
+    notes: &mut Notes,
+) -> Result<Option<Typed>, AllocError>
+    ensures { Judges (spec.new_judged place (option_map senses.name_sense handle.now) mark.now (option_map spec.sense value.now) tables.now asked) notes.old result notes.new }
+{
+    let handle = handle_or_none(alloc, tables, handle, asked, notes)?;
+    let object = new_object(alloc, tables, mark, value, place, notes);
+    let parts = paired_with(handle, object)?;
+    allocator(alloc, tables, place, asked, parts, notes)
 }
 
 /// Judges the handle of an allocator, where it has one, by the type that is asked of the allocator (RM 13.11.4).

@@ -8,7 +8,7 @@ use ctl_syntax::item::Aliasing;
 use sqlite_items::Items;
 
 /// What the place of an expression asks of its type.
-#[derive(Clone, Copy, Debug, PartialEq, Eq)]
+#[derive(Clone, Copy)]
 pub enum Asked {
     Anything,
     /// this type
@@ -22,7 +22,7 @@ pub enum Asked {
 }
 
 /// Which types an expression takes on from its place.
-#[derive(Clone, Copy, Debug, PartialEq, Eq)]
+#[derive(Clone, Copy)]
 pub enum Adopts {
     /// none: it has one of its own
     Nothing,

@@ -16,6 +16,7 @@ pub mod literals;
 pub mod lookup;
 pub mod names;
 pub mod notes;
+pub mod operations;
 pub mod operators;
 pub mod table;
 pub mod texts;

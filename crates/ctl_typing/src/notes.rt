@@ -5,7 +5,7 @@ use ctl_tree::fault::Fault;
 use sqlite_items::Items;
 
 /// What an expression does to the declarative part around it.
-#[derive(Clone, Copy, Debug, PartialEq, Eq)]
+#[derive(Clone, Copy)]
 pub enum Deed {
     /// it freezes this type (RM 13.14)
     Freezes(Ty),

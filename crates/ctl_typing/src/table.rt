@@ -17,7 +17,7 @@ pub const BLOCK_POOL: usize = 2;
 pub const MARK_RELEASE_POOL: usize = 3;
 
 /// Whether an object may be assigned to by this name (RM 3.3, 6.2).
-#[derive(Clone, Copy, Debug, PartialEq, Eq)]
+#[derive(Clone, Copy)]
 pub enum Mutability {
     Variable,
     /// a constant, a parameter of mode `in`, a loop parameter
@@ -25,7 +25,7 @@ pub enum Mutability {
 }
 
 /// Which declaration an object has: a pool is a declared object (profile).
-#[derive(Clone, Copy, Debug, PartialEq, Eq)]
+#[derive(Clone, Copy)]
 pub enum Standing {
     Declared,
     Formal,
@@ -33,7 +33,7 @@ pub enum Standing {
 }
 
 /// A declared object, a formal or a loop parameter.
-#[derive(Clone, Copy, Debug, PartialEq, Eq)]
+#[derive(Clone, Copy)]
 pub struct ObjectEntry {
     pub ty: Ty,
     pub var: Var,
@@ -43,7 +43,7 @@ pub struct ObjectEntry {
 }
 
 /// A formal parameter of a subprogram (RM 6.1).
-#[derive(Clone, Copy, Debug, PartialEq, Eq)]
+#[derive(Clone, Copy)]
 pub struct FormalEntry {
     pub mode: Mode,
     pub ty: Ty,
@@ -76,7 +76,7 @@ pub enum Entry {
 }
 
 /// Whether an object begins with a value that the text gives, or with what its type says (RM 3.3.1).
-#[derive(Clone, Copy, Debug, PartialEq, Eq)]
+#[derive(Clone, Copy)]
 pub enum Beginning {
     Default,
     Value,
@@ -112,7 +112,7 @@ pub struct RecordEntry {
 }
 
 /// What changes of a record type after its declaration.
-#[derive(Clone, Copy, Debug, PartialEq, Eq)]
+#[derive(Clone, Copy)]
 pub struct RecordState {
     /// the operations that the user wrote for it, its own or inherited
     pub operations: Operations,
@@ -124,7 +124,7 @@ pub struct RecordState {
 }
 
 /// Whether a type is frozen (RM 13.14).
-#[derive(Clone, Copy, Debug, PartialEq, Eq)]
+#[derive(Clone, Copy)]
 pub enum Freezing {
     Free,
     Frozen,
@@ -133,28 +133,28 @@ pub enum Freezing {
 }
 
 /// Whether the defaults of a record type's components were used for an object of it, and have frozen what they freeze (RM 13.14).
-#[derive(Clone, Copy, Debug, PartialEq, Eq)]
+#[derive(Clone, Copy)]
 pub enum Defaults {
     Unused,
     Used,
 }
 
 /// Whether objects of a type can be declared and allocated (RM 3.9.3).
-#[derive(Clone, Copy, Debug, PartialEq, Eq)]
+#[derive(Clone, Copy)]
 pub enum Concreteness {
     Abstract,
     Concrete,
 }
 
 /// Whether a type has a controlled part (RM 7.6).
-#[derive(Clone, Copy, Debug, PartialEq, Eq)]
+#[derive(Clone, Copy)]
 pub enum Control {
     Uncontrolled,
     Controlled,
 }
 
 /// What an access type designates (RM 3.10, 3.10.1).
-#[derive(Clone, Copy, Debug, PartialEq, Eq)]
+#[derive(Clone, Copy)]
 pub enum Designated {
     Known(Ty),
     /// a type that is wrong itself
@@ -164,7 +164,7 @@ pub enum Designated {
 }
 
 /// An access type.
-#[derive(Clone, Copy, Debug, PartialEq, Eq)]
+#[derive(Clone, Copy)]
 pub struct AccessEntry {
     /// how many masters stand around its declaration
     pub level: usize,

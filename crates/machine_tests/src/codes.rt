@@ -1,150 +1,127 @@
-//! Codes that tests make of lines, with their record types and texts.
+//! Codes that are written as texts, in pieces with a semicolon behind each.
+//!
+//! A piece with a colon is an instruction: before the colon stands what is in the window before it, the newest last, by the letters that
+//! `windows` tells, and behind it the instruction, by a word and the marks that `words` tells. A piece without one says what stands in the tables
+//! beside the instructions, as `tables` tells, or is a comment behind `--`. Each code has a main procedure, behind its first instruction, the
+//! exception Constraint_Error, and three texts before its own: a farewell, an image, and three images.
+//!
+//! Many codes are one with changes, which are pieces as well: an instruction that has a number before its window stands in the place of that
+//! one, from 0, and the others stand behind it. A piece that is none of these leaves the instruction `Missing`, which no code has else.
 
-use crate::lines::{BODY_LEVEL, BODY_SLOTS, Line, MAIN_SLOTS, layout_of_two, note_lines};
-use ctl_code::code::{Code, Entry, Instr, Layout, Operations};
+use crate::marks::{marks_of, number_before, word_of};
+use crate::tables::{add_exception, add_instr, add_table};
+use crate::windows::{MAIN_SLOTS, note};
+use crate::words::instr_of;
+use ctl_code::code::{Code, Entry, Instr};
 use ctl_code::homes::Homes;
 use ctl_code::kinds::KindNotes;
-use ctl_code::template::{Template, TextPart};
-use ctl_code::valid::ValidCode;
 use ctl_program::operators::SubprogramKind;
-use ctl_tree::text::Text;
+use ctl_valid::valid::{ValidCode, validate};
 use std::alloc::{AllocError, Global};
 use std::test::Fail;
 
-/// Prints a line, in a body without operands.
-pub const FAREWELL: Instr = Instr::PutLine { text: 0, first: 1 };
-
-/// The main procedure, behind the first line.
-pub const MAIN: Entry = Entry {
+/// The main procedure, behind the first instruction.
+const MAIN: Entry = Entry {
     kind: SubprogramKind::Procedure,
     level: 0,
     slots: MAIN_SLOTS,
     place: 1,
 };
 
-/// A part of a text: words, or an image.
-#[derive(Clone, Copy)]
-pub enum Part {
-    Words(&'static [u8]),
-    Integer,
-    Boolean,
+/// The texts that each code has.
+const TEXTS: &str = "text w; text i; text i i _ b";
+
+/// The piece that stands in the place of one with this number: one of the changes, or this piece itself.
+fn changed<'a>(changes: &'a str, place: usize, piece: &'a str) -> &'a str {
+    for change in changes.split(';') {
+        if number_before(change) == Some(place) {
+            return change;
+        }
+    }
+    piece
 }
 
-/// Adds a part to a text.
-fn add_part(text: &mut Template, alloc: Global, part: Part) -> Result<(), AllocError> {
-    text.push(match part {
-        Part::Words(words) => TextPart::Literal(Text::from_slice(alloc, words)?),
-        Part::Integer => TextPart::IntegerImage,
-        Part::Boolean => TextPart::BooleanImage,
-    })
+/// Adds the instruction that a word with its marks stands for.
+fn add_word(code: &mut Code, alloc: Global, text: &str) -> Result<(), AllocError> {
+    let marks = marks_of(alloc, text)?;
+    let instr = instr_of(word_of(text), marks.as_slice());
+    drop(marks);
+    add_instr(code, instr.unwrap_or(Instr::Missing))
 }
 
-/// Adds these parts to a text.
-fn add_parts(text: &mut Template, alloc: Global, parts: &[Part]) -> Result<(), AllocError> {
-    for part in parts {
-        add_part(text, alloc, *part)?;
+/// Adds the instruction of a piece, and what stands before it, if the piece is one.
+fn add_line(
+    code: &mut Code,
+    notes: &mut KindNotes,
+    alloc: Global,
+    piece: &str,
+) -> Result<(), AllocError> {
+    match piece.split_once(':') {
+        Some((window, instr)) => {
+            note(notes, window)?;
+            add_word(code, alloc, instr)
+        }
+        None => Ok(()),
+    }
+}
+
+/// Adds the instructions of a text with changes, with these notes of what stands before them.
+fn add_lines(
+    code: &mut Code,
+    notes: &mut KindNotes,
+    alloc: Global,
+    [text, changes]: [&str; 2],
+) -> Result<(), AllocError> {
+    let mut place = 0_usize;
+    for piece in text.split(';').chain(changes.split(';')) {
+        if number_before(piece).is_none() {
+            add_line(code, notes, alloc, changed(changes, place, piece))?;
+        }
+        place = place.saturating_add(1);
     }
     Ok(())
 }
 
-/// Adds a text of these parts.
-pub fn add_text(code: &mut Code, alloc: Global, parts: &[Part]) -> Result<(), AllocError> {
-    let mut text = Template::new(alloc);
-    let added = add_parts(&mut text, alloc, parts);
-    code.texts.push(text)?;
+/// Adds all instructions, and what stands in the window before each.
+fn add_instructions(code: &mut Code, alloc: Global, texts: [&str; 2]) -> Result<(), AllocError> {
+    let mut notes = KindNotes::new(alloc);
+    let added = add_lines(code, &mut notes, alloc, texts);
+    code.room = notes.room();
+    code.kinds = notes.finish();
     added
 }
 
-/// Adds the texts: a farewell, an image, and three images.
-fn add_texts(code: &mut Code, alloc: Global) -> Result<(), AllocError> {
-    add_text(code, alloc, &[Part::Words(b"bye")])?;
-    add_text(code, alloc, &[Part::Integer])?;
-    add_text(
-        code,
-        alloc,
-        &[
-            Part::Integer,
-            Part::Integer,
-            Part::Words(b" "),
-            Part::Boolean,
-        ],
-    )
-}
-
-/// Adds the layouts of so many record types, of which the first has this one.
-fn add_layouts(
-    code: &mut Code,
-    alloc: Global,
-    first: Layout,
-    count: usize,
-) -> Result<(), AllocError> {
-    if count == 0 {
-        drop(first);
+/// Adds what a piece says of the tables, which an instruction, a comment and nothing do not.
+fn add_piece(code: &mut Code, alloc: Global, piece: &str) -> Result<(), AllocError> {
+    let word = word_of(piece);
+    if word == [b' ', b' '] || word == [b'-', b'-'] || piece.contains(':') {
         return Ok(());
     }
-    code.layouts.push(first)?;
-    for _ in 1..count {
-        code.layouts.push(layout_of_two(alloc)?)?;
-    }
-    Ok(())
+    let marks = marks_of(alloc, piece)?;
+    let added = add_table(code, alloc, word, marks.as_slice());
+    drop(marks);
+    added
 }
 
-/// Adds the main procedure, and at each of these places the Finalize of a record type.
-fn add_bodies(code: &mut Code, finalizers: &[usize]) -> Result<(), AllocError> {
-    code.entries.push(MAIN)?;
-    for place in finalizers {
-        code.records.push(Operations {
-            initialize: None,
-            adjust: None,
-            finalize: Some(code.entries.len()),
-            allocate: None,
-            deallocate: None,
-        })?;
-        code.entries.push(Entry {
-            kind: SubprogramKind::Procedure,
-            level: BODY_LEVEL,
-            slots: BODY_SLOTS,
-            place: *place,
-        })?;
-    }
-    Ok(())
-}
-
-/// Notes what stands in the window before each line.
-fn add_kinds(code: &mut Code, alloc: Global, lines: &[Line]) -> Result<(), AllocError> {
-    let mut notes = KindNotes::new(alloc);
-    let noted = note_lines(&mut notes, lines);
-    code.room = notes.room();
-    code.kinds = notes.finish();
-    noted
-}
-
-/// Adds the lines, and what stands in the window before each.
-fn add_lines(code: &mut Code, alloc: Global, lines: &[Line]) -> Result<(), AllocError> {
-    add_kinds(code, alloc, lines)?;
-    for (instr, _) in lines {
-        code.instructions.push(*instr)?;
-    }
-    Ok(())
-}
-
-/// Adds the name of an exception.
-pub fn add_exception(code: &mut Code, alloc: Global, name: &[u8]) -> Result<(), AllocError> {
-    code.exceptions.push(Text::from_slice(alloc, name)?)?;
-    Ok(())
-}
-
-/// Adds the lines, the bodies, the texts and the exception.
-fn add_all(
+/// Adds what the pieces of a text with changes say of the tables, behind the texts that each code has.
+fn add_tables(
     code: &mut Code,
     alloc: Global,
-    lines: &[Line],
-    finalizers: &[usize],
+    [text, changes]: [&str; 2],
 ) -> Result<(), AllocError> {
-    add_lines(code, alloc, lines)?;
-    add_bodies(code, finalizers)?;
-    add_texts(code, alloc)?;
-    add_exception(code, alloc, b"CONSTRAINT_ERROR")
+    let pieces = TEXTS.split(';').chain(text.split(';'));
+    for piece in pieces.chain(changes.split(';')) {
+        add_piece(code, alloc, piece)?;
+    }
+    Ok(())
+}
+
+/// Adds all that a text with changes says, beside what each code has.
+fn add_all(code: &mut Code, alloc: Global, texts: [&str; 2]) -> Result<(), AllocError> {
+    code.entries.push(MAIN)?;
+    add_exception(code, alloc, b"CONSTRAINT_ERROR")?;
+    add_instructions(code, alloc, texts)?;
+    add_tables(code, alloc, texts)
 }
 
 /// Code without anything.
@@ -164,9 +141,10 @@ fn nothing(alloc: Global) -> Code {
     }
 }
 
-/// The code, if what was to be added to it has been; else it is let go.
-pub fn completed(code: Code, added: Result<(), AllocError>) -> Result<Code, AllocError> {
-    match added {
+/// The code of a text with changes.
+fn code_of(alloc: Global, texts: [&str; 2]) -> Result<Code, AllocError> {
+    let mut code = nothing(alloc);
+    match add_all(&mut code, alloc, texts) {
         Ok(()) => Ok(code),
         Err(error) => {
             drop(code);
@@ -175,86 +153,44 @@ pub fn completed(code: Code, added: Result<(), AllocError>) -> Result<Code, Allo
     }
 }
 
-/// The code of these lines: the main procedure stands behind the first of them, and at each of these places the Finalize of a record
-/// type. No record type has a layout.
-fn code_without_layouts(
-    alloc: Global,
-    lines: &[Line],
-    finalizers: &[usize],
-) -> Result<Code, AllocError> {
-    let mut code = nothing(alloc);
-    let added = add_all(&mut code, alloc, lines, finalizers);
-    completed(code, added)
-}
-
-/// Such code, where the first record type has this layout, and the others two components without defaults.
-fn code_with(
-    alloc: Global,
-    lines: &[Line],
-    finalizers: &[usize],
-    layout: Layout,
-) -> Result<Code, AllocError> {
-    let code = code_without_layouts(alloc, lines, finalizers);
-    with_layouts(alloc, code, layout, finalizers.len())
-}
-
-/// The code with so many layouts, of which the first is this one.
-fn with_layouts(
-    alloc: Global,
-    code: Result<Code, AllocError>,
-    layout: Layout,
-    count: usize,
-) -> Result<Code, AllocError> {
-    match code {
-        Ok(mut code) => {
-            let added = add_layouts(&mut code, alloc, layout, count);
-            completed(code, added)
-        }
-        Err(error) => {
-            drop(layout);
-            Err(error)
+/// Whether each piece was read.
+fn is_read(code: &Code) -> bool {
+    for instr in code.instructions.as_slice() {
+        if matches!(instr, Instr::Missing) {
+            return false;
         }
     }
-}
-
-/// Such code, whose record types have two components without defaults.
-pub fn code_of(alloc: Global, lines: &[Line], finalizers: &[usize]) -> Result<Code, AllocError> {
-    code_with(alloc, lines, finalizers, layout_of_two(alloc)?)
+    true
 }
 
 /// Whether the code is well formed; it is let go.
-pub fn is_well_formed(code: Code) -> bool {
-    code.validate().is_some()
-}
-
-/// Whether the code of these lines is well formed, where a body stands at each of these places.
-pub fn is_accepted(alloc: Global, lines: &[Line], bodies: &[usize]) -> Result<bool, AllocError> {
-    Ok(is_well_formed(code_of(alloc, lines, bodies)?))
+fn is_well_formed(code: Code) -> bool {
+    validate(code).is_some()
 }
 
 /// Code that is well formed.
-pub fn validated(code: Code) -> Result<ValidCode, Fail> {
-    match code.validate() {
+fn validated(code: Code) -> Result<ValidCode, Fail> {
+    match validate(code) {
         Some(valid) => Ok(valid),
         None => Err(Fail::new("the code is not well formed")),
     }
 }
 
-/// The code of these lines, which is well formed, where the first record type has this layout.
-pub fn valid_code_with(
-    alloc: Global,
-    lines: &[Line],
-    finalizers: &[usize],
-    layout: Layout,
-) -> Result<ValidCode, Fail> {
-    validated(code_with(alloc, lines, finalizers, layout)?)
+/// The code of a text with changes, which is well formed.
+pub fn valid_code_of(alloc: Global, texts: [&str; 2]) -> Result<ValidCode, Fail> {
+    validated(code_of(alloc, texts)?)
 }
 
-/// The code of these lines, which is well formed.
-pub fn valid_code_of(
-    alloc: Global,
-    lines: &[Line],
-    finalizers: &[usize],
-) -> Result<ValidCode, Fail> {
-    validated(code_of(alloc, lines, finalizers)?)
+/// Whether the code of a text with changes is `accepted` or `refused`, or was `unread`.
+pub fn verdict_of(alloc: Global, texts: [&str; 2]) -> Result<&'static str, AllocError> {
+    let code = code_of(alloc, texts)?;
+    let read = is_read(&code);
+    let accepted = is_well_formed(code);
+    Ok(if !read {
+        "unread"
+    } else if accepted {
+        "accepted"
+    } else {
+        "refused"
+    })
 }

@@ -1,72 +1,63 @@
 //! Components of a declared object take their defaults, a step for each, and a step that is refused memory changes nothing.
 
-use crate::codes::{FAREWELL, valid_code_with};
-use crate::lines::{BODY_LEVEL, CELL_3, Line, UNITS};
-use crate::runs::{counted, outcome_of, traced};
-use ctl_code::code::{Begun, Initial, Instr, Layout, Parts};
+use crate::rows::first_wrong;
+use crate::runs::{counted, outcome_of};
 use ctl_engine::outcome::Outcome;
-use ctl_program::types::{Ty, Var};
 use ctl_tree::ending::End;
 use ctl_tree::request::Order;
 use std::alloc::{AllocError, Global};
 use std::test::Fail;
 
-/// Reads the first component of the object in the block's slot.
-const FETCH_FIRST: Instr = Instr::FetchPart {
-    variable: Var { level: 2, slot: 0 },
-    record: 0,
-    position: 1,
-    ty: Ty::Integer,
-    to: CELL_3,
-};
+/// A block declares an object, and prints its three components; behind it stands a Finalize that prints a line.
+const THREE_COMPONENTS: &str = "
+    : start 0;
+m   : enter 1 8;
+m[  : declare 0 0;
+m[  : fetch 2 0 0 1 3;
+m[i : print 1 3;
+m[  : fetch 2 0 0 2 3;
+m[i : print 1 3;
+m[  : fetch 2 0 0 3 3;
+m[i : print 1 3;
+m[  : leave;
+m   : skip 0;
+m   : leave;
+f   : print 0 1;
+f   : leave;
+procedure 12; record 0 1;
+";
 
-/// Reads the second one.
-const FETCH_SECOND: Instr = Instr::FetchPart {
-    variable: Var { level: 2, slot: 0 },
-    record: 0,
-    position: 2,
-    ty: Ty::Integer,
-    to: CELL_3,
-};
+/// The object is controlled, and each component has a default.
+const CONTROLLED: &str = "controlled c10 c20 c30";
 
-/// Reads the third one.
-const FETCH_THIRD: Instr = Instr::FetchPart {
-    variable: Var { level: 2, slot: 0 },
-    record: 0,
-    position: 3,
-    ty: Ty::Integer,
-    to: CELL_3,
-};
+/// What is counted of a run of so many steps, of a controlled object.
+fn counted_within(alloc: Global, steps: u64) -> Result<String, Fail> {
+    let outcome = outcome_of(alloc, [THREE_COMPONENTS, CONTROLLED], Order::Newest, steps)?;
+    counted(alloc, outcome)
+}
 
-/// Prints the number that was read.
-const PUT: Instr = Instr::PutLine { text: 1, first: 3 };
+#[test]
+fn each_component_costs_a_step(rt: HostRuntime) -> Result<(), Fail> {
+    for (steps, wanted) in [
+        (4, "end limit\npicks [2]\nsteps 4\n"),
+        (7, "live 1 m2\nend limit\npicks [2, 1]\nsteps 7\n"),
+    ] {
+        let counted = counted_within(rt.alloc(), steps)?;
+        assert_eq!(rt; counted.as_str(), wanted);
+    }
+    Ok(())
+}
 
-/// Where the Finalize of the record type stands.
-const FINALIZE: usize = 12;
+/// The machine goes by the layout: where no part of the object is controlled there are only the three lines, no birth, and nothing that the Finalize
+/// prints.
+const PLAIN: &str =
+    "plain c10 c20 c30 => print  10/newline/print  20/newline/print  30/newline/end done/picks [2, 1]";
 
-/// A block declares an object, and prints its three components.
-const THREE_COMPONENTS: &[Line] = &[
-    (Instr::Start(0), ""),
-    (
-        Instr::Enter {
-            slots: 1,
-            length: 8,
-        },
-        "m",
-    ),
-    (Instr::Declare { slot: 0, record: 0 }, "m["),
-    (FETCH_FIRST, "m["),
-    (PUT, "m[i"),
-    (FETCH_SECOND, "m["),
-    (PUT, "m[i"),
-    (FETCH_THIRD, "m["),
-    (PUT, "m[i"),
-    (Instr::Leave, "m["),
-    (Instr::Skip(0), "m"),
-    (Instr::Leave, "m"),
-    (FAREWELL, "f"),
-    (Instr::Leave, "f"),
-];
+#[test]
+fn an_object_without_a_controlled_part_is_not_finalized(rt: HostRuntime) -> Result<(), Fail> {
+    assert_eq!(rt; first_wrong(rt.alloc(), THREE_COMPONENTS, PLAIN)?, "");
+    Ok(())
+}
 
 /// How a run ended whose memory may be refused.
 #[derive(Clone, Copy, Debug, PartialEq, Eq)]
@@ -74,77 +65,6 @@ enum Ended {
     Done,
     Refused,
     Otherwise,
-}
-
-/// The defaults of the components.
-const DEFAULTS: [u64; 3] = [10, 20, 30];
-
-/// Gives a layout its three components, each with a default.
-fn add_components(layout: &mut Layout) -> Result<(), AllocError> {
-    for (offset, value) in DEFAULTS.iter().enumerate() {
-        layout.offsets.push(offset)?;
-        layout.begun.push(Begun {
-            position: offset + 1,
-            offset,
-            initial: Initial::Constant(*value),
-        })?;
-    }
-    Ok(())
-}
-
-/// A layout with such parts and three components, each with a default.
-fn layout_of_three(alloc: Global, parts: Parts) -> Result<Layout, AllocError> {
-    let mut layout = Layout {
-        parts,
-        level: BODY_LEVEL,
-        cells: 3,
-        content: UNITS,
-        units: UNITS,
-        offsets: Vec::new(alloc),
-        begun: Vec::new(alloc),
-        controlled: Vec::new(alloc),
-    };
-    match add_components(&mut layout) {
-        Ok(()) => Ok(layout),
-        Err(error) => {
-            drop(layout);
-            Err(error)
-        }
-    }
-}
-
-/// A run of at most so many steps, where objects have such parts.
-fn outcome_with(alloc: Global, parts: Parts, order: Order, steps: u64) -> Result<Outcome, Fail> {
-    let layout = layout_of_three(alloc, parts)?;
-    let code = valid_code_with(alloc, THREE_COMPONENTS, &[FINALIZE], layout)?;
-    Ok(outcome_of(alloc, code, order, steps)?)
-}
-
-#[test]
-fn each_component_costs_a_step(rt: HostRuntime) -> Result<(), Fail> {
-    let alloc = rt.alloc();
-    for (steps, wanted) in [
-        (4, "end limit\npicks [2]\nsteps 4\n"),
-        (7, "live 1 m2\nend limit\npicks [2, 1]\nsteps 7\n"),
-    ] {
-        let outcome = outcome_with(alloc, Parts::Controlled, Order::Newest, steps)?;
-        let counted = counted(alloc, outcome)?;
-        assert_eq!(rt; counted.as_str(), wanted);
-    }
-    Ok(())
-}
-
-/// The machine goes by the layout: there are only the three lines, no birth, and nothing that the Finalize prints.
-#[test]
-fn an_object_without_a_controlled_part_is_not_finalized(rt: HostRuntime) -> Result<(), Fail> {
-    let alloc = rt.alloc();
-    let outcome = outcome_with(alloc, Parts::Plain, Order::Newest, 1000)?;
-    let traced = traced(alloc, outcome)?;
-    assert_eq!(rt;
-        traced.as_str(),
-        "print  10\nnewline\nprint  20\nnewline\nprint  30\nnewline\nend done\npicks [2, 1]\n"
-    );
-    Ok(())
 }
 
 /// How many steps a run took, which choices, and what it printed.
@@ -159,7 +79,7 @@ fn reached(alloc: Global, outcome: &Outcome) -> Result<String, AllocError> {
 
 /// The same of a run of at most so many steps, and whether it ended by itself.
 fn reached_within(alloc: Global, steps: u64) -> Result<(String, u64, Ended), Fail> {
-    let outcome = outcome_with(alloc, Parts::Controlled, Order::Oldest, steps)?;
+    let outcome = outcome_of(alloc, [THREE_COMPONENTS, CONTROLLED], Order::Oldest, steps)?;
     let ended = match &outcome.end {
         End::Done => Ended::Done,
         End::HostMemory => Ended::Refused,

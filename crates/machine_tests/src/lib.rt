@@ -20,8 +20,16 @@ mod filled;
 #[cfg(test)]
 mod given;
 #[cfg(test)]
-mod lines;
-#[cfg(test)]
 mod machine;
 #[cfg(test)]
+mod marks;
+#[cfg(test)]
+mod rows;
+#[cfg(test)]
 mod runs;
+#[cfg(test)]
+mod tables;
+#[cfg(test)]
+mod windows;
+#[cfg(test)]
+mod words;

@@ -3,11 +3,12 @@
 //! What a run leaves is let go by a call, so that a test has nothing but texts: where a value with many lists goes out of scope by itself,
 //! the drop of each list is proved at each way out of the function.
 
-use ctl_code::valid::ValidCode;
-use ctl_engine::outcome::{Outcome, Progress};
+use crate::codes::valid_code_of;
+use ctl_engine::outcome::Outcome;
 use ctl_machine::machine::Machine;
 use ctl_text::trace_text;
 use ctl_tree::request::Order;
+use ctl_valid::valid::ValidCode;
 use std::alloc::{AllocError, Global};
 use std::test::Fail;
 
@@ -23,16 +24,17 @@ fn outcome_by(
     Ok(machine.finish())
 }
 
-/// A run of this code, which is let go, of at most so many steps.
+/// A run of the code of a text with changes, of at most so many steps.
 pub fn outcome_of(
     alloc: Global,
-    code: ValidCode,
+    texts: [&str; 2],
     order: Order,
     steps: u64,
-) -> Result<Outcome, AllocError> {
+) -> Result<Outcome, Fail> {
+    let code = valid_code_of(alloc, texts)?;
     let outcome = outcome_by(alloc, &code, order, steps);
     drop(code);
-    outcome
+    Ok(outcome?)
 }
 
 /// A run of this code of at most so many steps, and one step behind it: what both answer, and what `counted` says of the run.
@@ -41,19 +43,16 @@ fn run_and_step_by(
     code: &ValidCode,
     order: Order,
     steps: u64,
-) -> Result<([Progress; 2], String), Fail> {
+) -> Result<String, Fail> {
     let mut machine = Machine::new(alloc, code, order)?;
     let progress = [machine.run(steps), machine.step()];
-    Ok((progress, counted(alloc, machine.finish())?))
+    let counted = counted(alloc, machine.finish())?;
+    Ok(format!(in alloc; "{:?}\n{counted}", progress.as_slice())?)
 }
 
-/// The same of code that is let go.
-pub fn run_and_step(
-    alloc: Global,
-    code: ValidCode,
-    order: Order,
-    steps: u64,
-) -> Result<([Progress; 2], String), Fail> {
+/// The same of the code of a text.
+pub fn run_and_step(alloc: Global, text: &str, order: Order, steps: u64) -> Result<String, Fail> {
+    let code = valid_code_of(alloc, [text, ""])?;
     let told = run_and_step_by(alloc, &code, order, steps);
     drop(code);
     told
@@ -67,7 +66,7 @@ fn traced_by(alloc: Global, outcome: &Outcome) -> Result<String, Fail> {
 }
 
 /// The trace of a run, which is let go, and which choices it took.
-pub fn traced(alloc: Global, outcome: Outcome) -> Result<String, Fail> {
+fn traced(alloc: Global, outcome: Outcome) -> Result<String, Fail> {
     let traced = traced_by(alloc, &outcome);
     drop(outcome);
     traced
@@ -78,4 +77,9 @@ pub fn counted(alloc: Global, outcome: Outcome) -> Result<String, Fail> {
     let steps = outcome.steps;
     let traced = traced(alloc, outcome)?;
     Ok(format!(in alloc; "{traced}steps {steps}\n")?)
+}
+
+/// The trace of a run to its end of the code of a text with changes, and which choices it took.
+pub fn trace_of(alloc: Global, texts: [&str; 2]) -> Result<String, Fail> {
+    traced(alloc, outcome_of(alloc, texts, Order::Newest, 1000)?)
 }

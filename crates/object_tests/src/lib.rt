@@ -4,6 +4,6 @@
 #[cfg(test)]
 mod objects;
 #[cfg(test)]
-mod pools;
+mod script;
 #[cfg(test)]
 mod storage;

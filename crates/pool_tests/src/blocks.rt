@@ -1,6 +1,5 @@
 ghost use Rattle.std.specs.Prelude.{◌≡◌, ◌≤◌, length};
 
-use crate::growths::{Grown, refuses_each_growth};
 use block_pool::{BlockPool, PoolFault};
 use linked_list_allocator::LocalHeap;
 use raw_region::Block;
@@ -55,7 +54,7 @@ fn fill(block: &mut Block, values: [u64; 2])
     words[1] = values[1];
 }
 
-/// The first two words of a Block.
+/// Reads the first two words of a Block.
 fn two_words(block: &Block) -> [u64; 2]
     requires { 2 ≤ length block.now.words }
 {
@@ -63,7 +62,7 @@ fn two_words(block: &Block) -> [u64; 2]
     [words[0], words[1]]
 }
 
-/// Three blocks that are out keep what is written to them, whatever else is taken and given, and stand apart.
+/// Says whether three blocks that are out keep what is written to them, whatever else is taken and given, and stand apart.
 fn keeps_words(alloc: Global) -> bool {
     let Ok(mut pool) = BlockPool::new(alloc, 2, 3) else {
         return false;
@@ -90,7 +89,7 @@ fn blocks_keep_their_words(rt: HostRuntime) {
     assert!(rt; keeps_words(rt.alloc()));
 }
 
-/// The number of the fault of such a pool, 0 for none.
+/// Makes such a pool, and tells the number of the fault, 0 for none.
 fn fault_of(alloc: Global, block_words: usize, count: usize) -> u32 {
     match BlockPool::new(alloc, block_words, count) {
         Ok(pool) => {
@@ -101,7 +100,7 @@ fn fault_of(alloc: Global, block_words: usize, count: usize) -> u32 {
     }
 }
 
-/// The faults of pools with too small or too great a block or number of blocks, and of the smallest and the greatest.
+/// Tells the faults of pools with too small or too great a block or number of blocks, and of the smallest and the greatest.
 fn faults(alloc: Global) -> [u32; 7] {
     [
         fault_of(alloc, 0, 1),
@@ -119,7 +118,8 @@ fn sizes(rt: HostRuntime) {
     assert_eq!(rt; faults(rt.alloc()), [50, 50, 50, 50, 0, 0, 0]);
 }
 
-/// A pool over a heap, of which it needs one allocation: whether it was made, and whether it works or memory was refused.
+/// Makes a pool over a heap, of which it needs one allocation: whether it was made, and whether it works or memory was
+/// refused.
 pub fn grow_on(heap: &LocalHeap) -> [bool; 2] {
     match BlockPool::new(heap, 2, 4) {
         Ok(mut pool) => {
@@ -130,9 +130,4 @@ pub fn grow_on(heap: &LocalHeap) -> [bool; 2] {
         }
         Err(fault) => [false, fault == PoolFault::Memory],
     }
-}
-
-#[test]
-fn a_small_heap_refuses(rt: HostRuntime) {
-    assert!(rt; refuses_each_growth(rt.alloc(), Grown::Blocks, 40));
 }

@@ -1,7 +1,5 @@
-use crate::growths::{Grown, refuses_each_growth};
-use crate::script::Call;
+use crate::script::{Call, Tested, wrong_line};
 use fin_lists::{FinLists, Layer, MasterNo, SetNo};
-use linked_list_allocator::LocalHeap;
 use std::alloc::{AllocError, Allocator, Global};
 
 // The calls. A number that is given is returned, and 3000 where memory or a condition lacks.
@@ -37,7 +35,7 @@ fn open_subpool<A: Allocator + Copy>(lists: &mut FinLists<A>) -> u64 {
     number_of(lists.open_subpool())
 }
 
-/// 0 where memory is given.
+/// Tells 0 where memory is given.
 fn code_of(answer: Result<(), AllocError>) -> u64 {
     match answer {
         Ok(()) => 0,
@@ -45,7 +43,7 @@ fn code_of(answer: Result<(), AllocError>) -> u64 {
     }
 }
 
-/// The object of the newest layer, 1000 for collections, and 2000 for none.
+/// Tells the object of the newest layer, 1000 for collections, and 2000 for none.
 fn newest<A: Allocator>(lists: &FinLists<A>, master: u64) -> u64 {
     match lists.newest(MasterNo(master)) {
         Some(Layer::Object(object)) => object,
@@ -68,7 +66,7 @@ fn nth<A: Allocator>(lists: &FinLists<A>, set: u64, k: u64) -> u64 {
     lists.nth(SetNo(set), k)
 }
 
-/// Whether the set stands, or how a call left it.
+/// Tells whether the set stands, or how a call left it.
 fn stands<A: Allocator>(lists: &FinLists<A>, set: u64) -> u64 {
     lists.stands(SetNo(set)) as u64
 }
@@ -93,203 +91,133 @@ fn close_master<A: Allocator>(lists: &mut FinLists<A>, master: u64) -> u64 {
     lists.is_open(MasterNo(master)) as u64
 }
 
-/// Makes one call: Add master object, Begin set (`start_collection`), Collection master joins, Drop master
-/// (`drop_newest`), End master (`close_master`), Master (`open_master`), Put set object (`add_to`), Remove set object, and
-/// Subpool (`open_subpool`).
-fn answer<A: Allocator + Copy>(lists: &mut FinLists<A>, call: Call) -> u64 {
-    let [_, _, _, d, e, _] = call.numbers;
-    match call.capital {
-        b'A' => code_of(lists.add_object(MasterNo(d), e)),
-        b'B' => start(lists, e),
-        b'C' => add_collection(lists, d, e == 1),
-        b'D' => drop_newest(lists, e),
-        b'E' => close_master(lists, e),
-        b'M' => open_master(lists),
-        b'P' => code_of(lists.add_to(SetNo(d), e)),
-        b'R' => remove(lists, d, e),
-        b'S' => open_subpool(lists),
-        _ => told(lists, call),
+impl<A: Allocator + Copy> Tested<A> for FinLists<A> {
+    fn new(alloc: A, _units: u64) -> Option<FinLists<A>> {
+        Some(FinLists::new(alloc))
+    }
+
+    /// Makes one call: Add master object, Begin set (`start_collection`), Collection master joins, Drop master
+    /// (`drop_newest`), End master (`close_master`), Master (`open_master`), Put set object (`add_to`), Remove set object, and
+    /// Subpool (`open_subpool`).
+    fn answer(&mut self, _alloc: A, call: Call) -> u64 {
+        let [_, _, _, d, e, _] = call.numbers;
+        match call.letter {
+            b'A' => code_of(self.add_object(MasterNo(d), e)),
+            b'B' => start(self, e),
+            b'C' => add_collection(self, d, e == 1),
+            b'D' => drop_newest(self, e),
+            b'E' => close_master(self, e),
+            b'M' => open_master(self),
+            b'P' => code_of(self.add_to(SetNo(d), e)),
+            b'R' => remove(self, d, e),
+            b'S' => open_subpool(self),
+            _ => told(self, call),
+        }
+    }
+
+    fn close(self) {
+        drop(self);
     }
 }
 
-/// Asks a question: Is open master, Kth master k (`layer_nth`), Layer master (`layer_count`), Newest master, Quantity set
-/// (`count`), There set (`stands`), Under way set (`started`), and Which set k (`nth`).
+/// Asks a question: is open master, kth master k (`layer_nth`), layer master (`layer_count`), newest master, quantity set
+/// (`count`), there set (`stands`), under way set (`started`), and which set k (`nth`).
 fn told<A: Allocator>(lists: &FinLists<A>, call: Call) -> u64 {
     let [_, _, _, d, e, _] = call.numbers;
-    match call.capital {
-        b'I' => lists.is_open(MasterNo(e)) as u64,
-        b'K' => layer_nth(lists, d, e),
-        b'L' => lists.layer_count(MasterNo(e)),
-        b'N' => newest(lists, e),
-        b'Q' => lists.count(SetNo(e)),
-        b'T' => stands(lists, e),
-        b'U' => lists.started(SetNo(e)) as u64,
-        b'W' => nth(lists, d, e),
+    match call.letter {
+        b'i' => lists.is_open(MasterNo(e)) as u64,
+        b'k' => layer_nth(lists, d, e),
+        b'l' => lists.layer_count(MasterNo(e)),
+        b'n' => newest(lists, e),
+        b'q' => lists.count(SetNo(e)),
+        b't' => stands(lists, e),
+        b'u' => lists.started(SetNo(e)) as u64,
+        b'w' => nth(lists, d, e),
         _ => 4000,
     }
 }
 
-/// Makes the calls of a text: whether each answers what the text says.
-fn are_answered<A: Allocator + Copy>(lists: &mut FinLists<A>, calls: &str) -> bool {
-    let mut call = Call::new();
-    for byte in calls.as_bytes() {
-        if *byte == b';' {
-            if !call.is_answer(answer(lists, call)) {
-                return false;
-            }
-            call = Call::new();
-        } else {
-            call = call.with(*byte);
-        }
-    }
-    call.capital == 0
-}
+/// In the first four cases master 1 has the object 1 and then the collections 1 and 2 of one freezing place, which hold 4 and
+/// 5.
+const LISTS: &str = "\
+# Layers from the newest on.
+Master =1; Add 1 1=0; Collection 1 0=1; Collection 1 1=2; Put 2 5=0; Put 1 4=0;
+newest 1=1000; Drop 1=1; newest 1=1; Drop 1=2000; newest 1=2000;
 
-/// Makes the calls of a text on lists with a master 1, which has the object 1 and then the collections 1 and 2 of one
-/// freezing place, which hold 4 and 5.
-fn is_right_of_two(alloc: Global, calls: &str) -> bool {
-    let mut lists = FinLists::new(alloc);
-    let right = are_answered(&mut lists, TWO) && are_answered(&mut lists, calls);
-    drop(lists);
-    right
-}
+# A layer of two collections.
+Master =1; Add 1 1=0; Collection 1 0=1; Collection 1 1=2; Put 2 5=0; Put 1 4=0;
+kth 1 0=4; kth 1 1=5; kth 1 2=3000; Remove 1 4=1; kth 1 0=5; kth 1 1=3000; kth 1 2=3000;
 
-const TWO: &str = "Master =1; Add 1 1=0; Collection 1 0=1; Collection 1 1=2; Put 2 5=0; Put 1 4=0;";
+# Members stand by number: they come in no order, some of one number in both sets.
+Master =1; Add 1 1=0; Collection 1 0=1; Collection 1 1=2; Put 2 5=0; Put 1 4=0;
+Put 1 7=0; Put 2 8=0; Put 1 3=0; Put 2 4=0; Put 1 9=0; Put 2 10=0; Put 1 1=0; Put 2 7=0; Remove 2 7=1;
+newest 1=1000; layer 1=9; kth 1 0=1; kth 1 1=3; kth 1 2=4; kth 1 3=4; kth 1 4=5; kth 1 5=7; kth 1 6=8; kth 1 7=9; kth 1 8=10;
+newest 2=2000; layer 2=0;
+under way 1=0; quantity 1=5; which 1 0=1; which 1 1=3; which 1 2=4; which 1 3=7; which 1 4=9;
+under way 2=0; quantity 2=4; which 2 0=4; which 2 1=5; which 2 2=8; which 2 3=10;
+under way 3=0; quantity 3=0; under way 4=0; quantity 4=0;
 
-/// Makes the calls of a text on new lists.
-fn is_right(alloc: Global, calls: &str) -> bool {
-    let mut lists = FinLists::new(alloc);
-    let right = are_answered(&mut lists, calls);
-    drop(lists);
-    right
-}
+# An object is a member once: to the first set its own member comes again, and that of the second twice.
+Master =1; Add 1 1=0; Collection 1 0=1; Collection 1 1=2; Put 2 5=0; Put 1 4=0;
+Put 1 4=0; Put 1 5=0; Put 1 5=0; quantity 1=2; quantity 2=1;
 
-const FROM_THE_NEWEST: &str = "Newest 1=1000; Drop 1=1; Newest 1=1; Drop 1=2000; Newest 1=2000;";
+# A master closes: a collection of each of two and a subpool hold 6, and the finalization of each is under way.
+Master =1; Master =2; Collection 1 0=1; Collection 2 0=2; Subpool =3;
+Put 1 6=0; Begin 1=1; Put 2 6=0; Begin 2=1; Put 3 6=0; Begin 3=1; quantity 1=1; quantity 2=1; quantity 3=1;
+is open 2=1; there 2=1; End 2=0; is open 2=0; there 2=0;
+quantity 1=1; quantity 2=0; quantity 3=1; under way 1=1; under way 2=0; under way 3=1;
+Master =3; quantity 1=1; quantity 2=0; quantity 3=1; under way 1=1; under way 2=0; under way 3=1;
+
+# A subpool is empty at first.
+Subpool =1; quantity 1=0;
+";
 
 #[test]
-fn layers_from_the_newest(rt: HostRuntime) {
-    assert!(rt; is_right_of_two(rt.alloc(), FROM_THE_NEWEST));
+fn masters_and_sets(rt: HostRuntime) {
+    assert_eq!(rt; wrong_line::<FinLists<Global>>(rt.alloc(), 0, LISTS), 0);
 }
 
-const LAYER: &str =
-    "Kth 1 0=4; Kth 1 1=5; Kth 1 2=3000; Remove 1 4=1; Kth 1 0=5; Kth 1 1=3000; Kth 1 2=3000;";
-
-#[test]
-fn a_layer_of_two_collections(rt: HostRuntime) {
-    assert!(rt; is_right_of_two(rt.alloc(), LAYER));
-}
-
-/// Members that come in no order, some of one number in both sets: all that is told of the first two masters and the first
-/// four sets.
-const MIXED: &str =
-    "Put 1 7=0; Put 2 8=0; Put 1 3=0; Put 2 4=0; Put 1 9=0; Put 2 10=0; Put 1 1=0; Put 2 7=0; Remove 2 7=1; Newest 1=1000; Layer 1=9; Kth 1 0=1; Kth 1 1=3; Kth 1 2=4; Kth 1 3=4; Kth 1 4=5; Kth 1 5=7; Kth 1 6=8; Kth 1 7=9; Kth 1 8=10; Newest 2=2000; Layer 2=0; Under way 1=0; Quantity 1=5; Which 1 0=1; Which 1 1=3; Which 1 2=4; Which 1 3=7; Which 1 4=9; Under way 2=0; Quantity 2=4; Which 2 0=4; Which 2 1=5; Which 2 2=8; Which 2 3=10; Under way 3=0; Quantity 3=0; Under way 4=0; Quantity 4=0;";
-
-#[test]
-fn members_stand_by_number(rt: HostRuntime) {
-    assert!(rt; is_right_of_two(rt.alloc(), MIXED));
-}
-
-/// To the first set its own member comes again, and the member of the second twice.
-const REPEATED: &str = "Put 1 4=0; Put 1 5=0; Put 1 5=0; Quantity 1=2; Quantity 2=1;";
-
-#[test]
-fn an_object_is_a_member_once(rt: HostRuntime) {
-    assert!(rt; is_right_of_two(rt.alloc(), REPEATED));
-}
-
-/// A collection of each of two masters and a subpool, each with the object 6, and finalization of each has started. The
-/// inner master closes, and another one is opened.
-const CLOSED: &str =
-    "Master =1; Master =2; Collection 1 0=1; Collection 2 0=2; Subpool =3; Put 1 6=0; Begin 1=1; Put 2 6=0; Begin 2=1; Put 3 6=0; Begin 3=1; Quantity 1=1; Quantity 2=1; Quantity 3=1; Is open 2=1; There 2=1; End 2=0; Is open 2=0; There 2=0; Quantity 1=1; Quantity 2=0; Quantity 3=1; Under way 1=1; Under way 2=0; Under way 3=1; Master =3; Quantity 1=1; Quantity 2=0; Quantity 3=1; Under way 1=1; Under way 2=0; Under way 3=1;";
-
-#[test]
-fn a_master_closes(rt: HostRuntime) {
-    assert!(rt; is_right(rt.alloc(), CLOSED));
-}
-
-/// A subpool's set is empty at first.
-#[test]
-fn a_subpool_is_empty(rt: HostRuntime) {
-    assert!(rt; is_right(rt.alloc(), "Subpool =1; Quantity 1=0;"));
-}
-
-/// All that the lists tell of the first two masters and the first four sets.
-fn tell_all<A: Allocator>(alloc: Global, lists: &FinLists<A>) -> Result<Vec<u64>, AllocError> {
-    let mut told = Vec::new(alloc);
-    for number in 1..3 {
-        tell_layer(&mut told, lists, MasterNo(number))?;
-    }
-    for number in 1..5 {
-        tell_set(&mut told, lists, SetNo(number))?;
-    }
-    Ok(told)
-}
-
-fn tell_layer<A: Allocator>(
-    told: &mut Vec<u64>,
-    lists: &FinLists<A>,
-    master: MasterNo,
-) -> Result<(), AllocError> {
-    told.push(newest(lists, master.0))?;
-    for k in 0..lists.layer_count(master) {
-        told.push(lists.layer_nth(master, k))?;
-    }
-    Ok(())
-}
-
-fn tell_set<A: Allocator>(
-    told: &mut Vec<u64>,
-    lists: &FinLists<A>,
-    set: SetNo,
-) -> Result<(), AllocError> {
-    told.push(lists.started(set) as u64)?;
-    for k in 0..lists.count(set) {
-        told.push(lists.nth(set, k))?;
-    }
-    Ok(())
-}
-
-/// One of the calls that may be refused memory: whether it was given.
-fn grow<A: Allocator + Copy>(lists: &mut FinLists<A>, call: u64) -> bool {
-    let answer = match call {
-        0 | 1 => open_master(lists),
-        2 | 5 => add_collection(lists, 1, call == 5),
-        6 => open_subpool(lists),
-        3 | 4 => code_of(lists.add_to(SetNo(1), call)),
-        7 | 8 | 9 => code_of(lists.add_to(SetNo(3), call)),
-        _ => code_of(lists.add_object(MasterNo(2), call)),
-    };
-    answer != 3000
-}
-
-/// The calls in turn, up to the first that is refused memory: what was told before it and after it.
-fn grow_all<A: Allocator + Copy>(
-    alloc: Global,
-    lists: &mut FinLists<A>,
-) -> Result<Option<[Vec<u64>; 2]>, AllocError> {
-    for call in 0..20 {
-        let before = tell_all(alloc, lists)?;
-        if !grow(lists, call) {
-            return Ok(Some([before, tell_all(alloc, lists)?]));
-        }
-    }
-    Ok(None)
-}
-
-/// The calls on lists over a heap: whether all were given memory, and whether what was told before a refusal was told
-/// after it.
-pub fn grow_on(alloc: Global, heap: &LocalHeap) -> [bool; 2] {
-    let mut lists = FinLists::new(heap);
-    let refused = grow_all(alloc, &mut lists);
-    drop(lists);
-    match refused {
-        Ok(Some([before, after])) => [false, before.as_slice() == after.as_slice()],
-        Ok(None) => [true, true],
-        Err(_) => [false, false],
-    }
-}
-
-#[test]
-fn each_growth_is_refused(rt: HostRuntime) {
-    assert!(rt; refuses_each_growth(rt.alloc(), Grown::Lists, 200));
-}
+/// Twenty calls that take memory, and before each all that the lists tell of the first two masters and the first four sets.
+pub const GROWN: &str = "\
+Master =1;
+? newest 1=2000; layer 1=0; newest 2=2000; layer 2=0; under way 1=0; quantity 1=0; under way 2=0; quantity 2=0; under way 3=0; quantity 3=0; under way 4=0; quantity 4=0;
+Master =2;
+? newest 1=2000; layer 1=0; newest 2=2000; layer 2=0; under way 1=0; quantity 1=0; under way 2=0; quantity 2=0; under way 3=0; quantity 3=0; under way 4=0; quantity 4=0;
+Collection 1 0=1;
+? newest 1=2000; layer 1=0; newest 2=2000; layer 2=0; under way 1=0; quantity 1=0; under way 2=0; quantity 2=0; under way 3=0; quantity 3=0; under way 4=0; quantity 4=0;
+Put 1 3=0;
+? newest 1=1000; layer 1=0; newest 2=2000; layer 2=0; under way 1=0; quantity 1=0; under way 2=0; quantity 2=0; under way 3=0; quantity 3=0; under way 4=0; quantity 4=0;
+Put 1 4=0;
+? newest 1=1000; layer 1=1; kth 1 0=3; newest 2=2000; layer 2=0; under way 1=0; quantity 1=1; which 1 0=3; under way 2=0; quantity 2=0; under way 3=0; quantity 3=0; under way 4=0; quantity 4=0;
+Collection 1 1=2;
+? newest 1=1000; layer 1=2; kth 1 0=3; kth 1 1=4; newest 2=2000; layer 2=0; under way 1=0; quantity 1=2; which 1 0=3; which 1 1=4; under way 2=0; quantity 2=0; under way 3=0; quantity 3=0; under way 4=0; quantity 4=0;
+Subpool =3;
+? newest 1=1000; layer 1=2; kth 1 0=3; kth 1 1=4; newest 2=2000; layer 2=0; under way 1=0; quantity 1=2; which 1 0=3; which 1 1=4; under way 2=0; quantity 2=0; under way 3=0; quantity 3=0; under way 4=0; quantity 4=0;
+Put 3 7=0;
+? newest 1=1000; layer 1=2; kth 1 0=3; kth 1 1=4; newest 2=2000; layer 2=0; under way 1=0; quantity 1=2; which 1 0=3; which 1 1=4; under way 2=0; quantity 2=0; under way 3=0; quantity 3=0; under way 4=0; quantity 4=0;
+Put 3 8=0;
+? newest 1=1000; layer 1=2; kth 1 0=3; kth 1 1=4; newest 2=2000; layer 2=0; under way 1=0; quantity 1=2; which 1 0=3; which 1 1=4; under way 2=0; quantity 2=0; under way 3=0; quantity 3=1; which 3 0=7; under way 4=0; quantity 4=0;
+Put 3 9=0;
+? newest 1=1000; layer 1=2; kth 1 0=3; kth 1 1=4; newest 2=2000; layer 2=0; under way 1=0; quantity 1=2; which 1 0=3; which 1 1=4; under way 2=0; quantity 2=0; under way 3=0; quantity 3=2; which 3 0=7; which 3 1=8; under way 4=0; quantity 4=0;
+Add 2 10=0;
+? newest 1=1000; layer 1=2; kth 1 0=3; kth 1 1=4; newest 2=2000; layer 2=0; under way 1=0; quantity 1=2; which 1 0=3; which 1 1=4; under way 2=0; quantity 2=0; under way 3=0; quantity 3=3; which 3 0=7; which 3 1=8; which 3 2=9; under way 4=0; quantity 4=0;
+Add 2 11=0;
+? newest 1=1000; layer 1=2; kth 1 0=3; kth 1 1=4; newest 2=10; layer 2=0; under way 1=0; quantity 1=2; which 1 0=3; which 1 1=4; under way 2=0; quantity 2=0; under way 3=0; quantity 3=3; which 3 0=7; which 3 1=8; which 3 2=9; under way 4=0; quantity 4=0;
+Add 2 12=0;
+? newest 1=1000; layer 1=2; kth 1 0=3; kth 1 1=4; newest 2=11; layer 2=0; under way 1=0; quantity 1=2; which 1 0=3; which 1 1=4; under way 2=0; quantity 2=0; under way 3=0; quantity 3=3; which 3 0=7; which 3 1=8; which 3 2=9; under way 4=0; quantity 4=0;
+Add 2 13=0;
+? newest 1=1000; layer 1=2; kth 1 0=3; kth 1 1=4; newest 2=12; layer 2=0; under way 1=0; quantity 1=2; which 1 0=3; which 1 1=4; under way 2=0; quantity 2=0; under way 3=0; quantity 3=3; which 3 0=7; which 3 1=8; which 3 2=9; under way 4=0; quantity 4=0;
+Add 2 14=0;
+? newest 1=1000; layer 1=2; kth 1 0=3; kth 1 1=4; newest 2=13; layer 2=0; under way 1=0; quantity 1=2; which 1 0=3; which 1 1=4; under way 2=0; quantity 2=0; under way 3=0; quantity 3=3; which 3 0=7; which 3 1=8; which 3 2=9; under way 4=0; quantity 4=0;
+Add 2 15=0;
+? newest 1=1000; layer 1=2; kth 1 0=3; kth 1 1=4; newest 2=14; layer 2=0; under way 1=0; quantity 1=2; which 1 0=3; which 1 1=4; under way 2=0; quantity 2=0; under way 3=0; quantity 3=3; which 3 0=7; which 3 1=8; which 3 2=9; under way 4=0; quantity 4=0;
+Add 2 16=0;
+? newest 1=1000; layer 1=2; kth 1 0=3; kth 1 1=4; newest 2=15; layer 2=0; under way 1=0; quantity 1=2; which 1 0=3; which 1 1=4; under way 2=0; quantity 2=0; under way 3=0; quantity 3=3; which 3 0=7; which 3 1=8; which 3 2=9; under way 4=0; quantity 4=0;
+Add 2 17=0;
+? newest 1=1000; layer 1=2; kth 1 0=3; kth 1 1=4; newest 2=16; layer 2=0; under way 1=0; quantity 1=2; which 1 0=3; which 1 1=4; under way 2=0; quantity 2=0; under way 3=0; quantity 3=3; which 3 0=7; which 3 1=8; which 3 2=9; under way 4=0; quantity 4=0;
+Add 2 18=0;
+? newest 1=1000; layer 1=2; kth 1 0=3; kth 1 1=4; newest 2=17; layer 2=0; under way 1=0; quantity 1=2; which 1 0=3; which 1 1=4; under way 2=0; quantity 2=0; under way 3=0; quantity 3=3; which 3 0=7; which 3 1=8; which 3 2=9; under way 4=0; quantity 4=0;
+Add 2 19=0;
+? newest 1=1000; layer 1=2; kth 1 0=3; kth 1 1=4; newest 2=18; layer 2=0; under way 1=0; quantity 1=2; which 1 0=3; which 1 1=4; under way 2=0; quantity 2=0; under way 3=0; quantity 3=3; which 3 0=7; which 3 1=8; which 3 2=9; under way 4=0; quantity 4=0;
+newest 1=1000; layer 1=2; kth 1 0=3; kth 1 1=4; newest 2=19; layer 2=0; under way 1=0; quantity 1=2; which 1 0=3; which 1 1=4; under way 2=0; quantity 2=0; under way 3=0; quantity 3=3; which 3 0=7; which 3 1=8; which 3 2=9; under way 4=0; quantity 4=0;
+";

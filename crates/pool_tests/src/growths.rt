@@ -1,8 +1,12 @@
 //! Heaps that rise from nothing, by the unit in which a heap gives memory: those that are too small refuse, and all have
 //! their bytes back in the end.
 
-use crate::{areas, blocks, finalization, marks, stores};
+use crate::script::grow;
+use crate::{areas, blocks, finalization, marks, regions, stores};
+use fin_lists::FinLists;
 use linked_list_allocator::LocalHeap;
+use pool_area::MarkArea;
+use pool_store::PoolStore;
 use std::alloc::Global;
 
 /// The unit in bytes in which a heap gives memory: the heaps rise by it from each to the next.
@@ -10,27 +14,33 @@ const HEAP_STEP: usize = 16;
 
 /// What is made over a heap.
 #[derive(Clone, Copy)]
-pub enum Grown {
+enum Grown {
     Area,
     Standard,
     InBlocks,
     InSubpools,
     Blocks,
     Marks,
+    Regions,
     Lists,
 }
 
 /// Makes all that there is over a heap: whether all was made, and whether else all was as it should be.
-fn grow(alloc: Global, heap: &LocalHeap, grown: Grown) -> [bool; 2] {
+fn grow_on(heap: &LocalHeap, grown: Grown) -> [bool; 2] {
     match grown {
-        Grown::Area => areas::grow_on(heap),
-        Grown::Standard => stores::grow_on(heap),
-        Grown::InBlocks => stores::grow_in_blocks(heap),
-        Grown::InSubpools => stores::grow_in_subpools(heap),
+        Grown::Area => grow::<&LocalHeap, MarkArea<&LocalHeap>>(heap, 64, areas::GROWN),
+        Grown::Standard => grow_store(heap, stores::GROWN),
+        Grown::InBlocks => grow_store(heap, stores::GROWN_IN_BLOCKS),
+        Grown::InSubpools => grow_store(heap, stores::GROWN_IN_SUBPOOLS),
         Grown::Blocks => blocks::grow_on(heap),
         Grown::Marks => marks::grow_on(heap),
-        Grown::Lists => finalization::grow_on(alloc, heap),
+        Grown::Regions => regions::grow_on(heap),
+        Grown::Lists => grow::<&LocalHeap, FinLists<&LocalHeap>>(heap, 0, finalization::GROWN),
     }
+}
+
+fn grow_store(heap: &LocalHeap, text: &str) -> [bool; 2] {
+    grow::<&LocalHeap, PoolStore<&LocalHeap>>(heap, 0, text)
 }
 
 /// Makes all over a heap of this size: whether all was made, or none if something was not as it should be.
@@ -38,7 +48,7 @@ fn made_in(alloc: Global, grown: Grown, size: usize) -> Option<bool> {
     let Ok(heap) = LocalHeap::new(alloc, size) else {
         return None;
     };
-    let [all, same] = grow(alloc, &heap, grown);
+    let [all, same] = grow_on(&heap, grown);
     // A heap without room refuses.
     if same && heap.used() == 0 && (!all || size > 0) {
         Some(all)
@@ -48,7 +58,7 @@ fn made_in(alloc: Global, grown: Grown, size: usize) -> Option<bool> {
 }
 
 /// Says whether so many heaps behave: none refuses what a smaller one had room for, and the last has room for all.
-pub fn refuses_each_growth(alloc: Global, grown: Grown, heaps: usize) -> bool {
+fn refuses_each_growth(alloc: Global, grown: Grown, heaps: usize) -> bool {
     let mut made = false;
     for number in 0..heaps {
         match made_in(alloc, grown, HEAP_STEP.saturating_mul(number)) {
@@ -57,4 +67,23 @@ pub fn refuses_each_growth(alloc: Global, grown: Grown, heaps: usize) -> bool {
         }
     }
     made
+}
+
+/// Says whether the heaps behave, for each that is made over them.
+fn all_refused(alloc: Global) -> [bool; 8] {
+    [
+        refuses_each_growth(alloc, Grown::Area, 80),
+        refuses_each_growth(alloc, Grown::Standard, 60),
+        refuses_each_growth(alloc, Grown::InBlocks, 800),
+        refuses_each_growth(alloc, Grown::InSubpools, 640),
+        refuses_each_growth(alloc, Grown::Blocks, 40),
+        refuses_each_growth(alloc, Grown::Marks, 40),
+        refuses_each_growth(alloc, Grown::Lists, 200),
+        refuses_each_growth(alloc, Grown::Regions, 40),
+    ]
+}
+
+#[test]
+fn each_growth_is_refused(rt: HostRuntime) {
+    assert_eq!(rt; all_refused(rt.alloc()), [true; 8]);
 }

@@ -1,4 +1,4 @@
-//! Tests of the pools and of the finalization lists, by their public calls.
+//! Tests of regions, of the pools and of the finalization lists, by their public calls.
 #![tactic(auto)]
 
 #[cfg(test)]
@@ -11,6 +11,8 @@ mod finalization;
 mod growths;
 #[cfg(test)]
 mod marks;
+#[cfg(test)]
+mod regions;
 #[cfg(test)]
 mod script;
 #[cfg(test)]

@@ -1,7 +1,6 @@
 ghost use Rattle.std.specs.Prelude.{◌≡◌, ◌+◌, ◌<◌, ◌≤◌, length, replicate};
 ghost use Rattle.raw_region.specs.Places.{held};
 
-use crate::growths::{Grown, refuses_each_growth};
 use linked_list_allocator::LocalHeap;
 use mark_pool::{MarkNo, MarkPool, PoolFault};
 use std::alloc::{Allocator, Global};
@@ -20,65 +19,44 @@ fn is_given<A: Allocator>(pool: &mut MarkPool<A>) -> bool
     }
 }
 
-/// What a pool of four words tells of itself.
-type Told = ([u64; 3], [usize; 2], [(u64, bool); 2], [MarkNo; 5], bool);
+/// Says whether a pool tells this of itself: the words that are used, those that are out, those of them from the newest mark
+/// on, whether all are back, and the number of the newest mark.
+fn tells<A: Allocator>(pool: &MarkPool<A>, wanted: [u64; 5]) -> bool {
+    let whole = pool.is_whole() as u64;
+    let told = [
+        pool.used(),
+        pool.out(),
+        pool.out_since_top(),
+        whole,
+        pool.top().0,
+    ];
+    told == wanted
+}
 
-/// Takes three words of a pool of four, makes a second mark, takes one word and asks for one more; brings each back and
-/// releases its mark, the newest first. The words used after each change, where the Blocks start, what is out before and
-/// after, the newest mark from the first on, and whether there was one word more.
-fn two_marks(alloc: Global) -> Result<Told, PoolFault> {
-    let mut pool = MarkPool::new(alloc, 4)?;
-    let first = pool.top();
+/// Takes three words of a pool of four, makes a second mark, takes one word and asks for one more; brings that Block back and
+/// releases its mark while the older Block is out, and then brings this one back and releases the first mark, which is renewed.
+fn marks_well(alloc: Global) -> bool {
+    let Ok(mut pool) = MarkPool::new(alloc, 4) else {
+        return false;
+    };
+    let new = tells(&pool, [0, 0, 0, 1, 0]);
     let three = pool.take(3).unwrap();
-    let second = pool.mark().unwrap();
-    let newest = pool.top();
+    let MarkNo(second) = pool.mark().unwrap();
     let one = pool.take(1).unwrap();
     let more = is_given(&mut pool);
-    let used = pool.used();
     let starts = [three.start(), one.start()];
-    let out = (pool.out(), pool.is_whole());
+    let both_out = tells(&pool, [4, 4, 1, 0, second]);
     pool.back(one);
+    let older_out = tells(&pool, [4, 3, 0, 0, second]);
     pool.release();
-    let after_second = pool.used();
-    let first_again = pool.top();
+    let first_again = tells(&pool, [3, 3, 3, 0, 0]);
     pool.back(three);
-    let back = (pool.out(), pool.is_whole());
+    let none_out = tells(&pool, [3, 0, 0, 1, 0]);
     pool.release();
-    let after_first = pool.used();
-    let renewed = pool.top();
+    let renewed = tells(&pool, [0, 0, 0, 1, 2]);
     pool.close();
-    Ok((
-        [used, after_second, after_first],
-        starts,
-        [out, back],
-        [first, second, newest, first_again, renewed],
-        more,
-    ))
-}
-
-/// Whether the marks are two of one pool and a third one that stands for the first.
-fn are_marks([first, second, newest, first_again, renewed]: [MarkNo; 5]) -> bool {
-    newest == second
-        && first_again == first
-        && first != second
-        && first != renewed
-        && second != renewed
-}
-
-fn is_told(told: Told) -> bool {
-    let (used, starts, out, marks, more) = told;
-    used == [4, 3, 0]
-        && starts == [0, 3]
-        && out == [(4, false), (0, true)]
-        && are_marks(marks)
-        && !more
-}
-
-fn marks_well(alloc: Global) -> bool {
-    match two_marks(alloc) {
-        Ok(told) => is_told(told),
-        Err(_) => false,
-    }
+    let told = [new, both_out, older_out, first_again, none_out, renewed];
+    told == [true; 6] && !more && starts == [0, 3] && second == 1
 }
 
 #[test]
@@ -99,35 +77,6 @@ fn is_released<A: Allocator>(pool: &mut MarkPool<A>) -> bool
     false
 }
 
-/// Counts the words that are out, and those of them from the newest mark on.
-fn words_out<A: Allocator>(pool: &MarkPool<A>) -> (u64, u64) {
-    (pool.out(), pool.out_since_top())
-}
-
-/// A mark is released while an older Block is out.
-fn counts_older(alloc: Global) -> bool {
-    let Ok(mut pool) = MarkPool::new(alloc, 4) else {
-        return false;
-    };
-    let three = pool.take(3).unwrap();
-    let _ = pool.mark().unwrap();
-    let one = pool.take(1).unwrap();
-    let both_out = words_out(&pool);
-    pool.back(one);
-    let older_out = words_out(&pool);
-    pool.release();
-    let first_mark = words_out(&pool);
-    pool.back(three);
-    let none_out = words_out(&pool);
-    pool.close();
-    [both_out, older_out, first_mark, none_out] == [(4, 1), (3, 0), (3, 3), (0, 0)]
-}
-
-#[test]
-fn older_blocks_stay_out(rt: HostRuntime) {
-    assert!(rt; counts_older(rt.alloc()));
-}
-
 fn is_made<A: Allocator>(pool: &mut MarkPool<A>) -> bool
     requires { pool.old.issued < 1000 }
     ensures { (pool.new.places ≡ pool.old.places) × (pool.new.used ≡ pool.old.used)
@@ -136,7 +85,7 @@ fn is_made<A: Allocator>(pool: &mut MarkPool<A>) -> bool
     pool.mark().is_some()
 }
 
-/// Ten marks stand, an eleventh does not, and one does again after a release.
+/// Says whether ten marks stand, an eleventh does not, and one does again after a release.
 fn makes_ten(alloc: Global) -> bool {
     let Ok(mut pool) = MarkPool::new(alloc, 4) else {
         return false;
@@ -170,7 +119,7 @@ fn ten_marks_stand(rt: HostRuntime) {
     assert!(rt; makes_ten(rt.alloc()));
 }
 
-/// The number of the fault of such a pool, 0 for none.
+/// Makes such a pool, and tells the number of the fault, 0 for none.
 fn fault_of(alloc: Global, words: usize) -> u32 {
     match MarkPool::new(alloc, words) {
         Ok(pool) => {
@@ -181,7 +130,7 @@ fn fault_of(alloc: Global, words: usize) -> u32 {
     }
 }
 
-/// The faults of a pool without words, of one with too many, and of the smallest and the greatest.
+/// Tells the faults of a pool without words, of one with too many, and of the smallest and the greatest.
 fn faults(alloc: Global) -> [u32; 4] {
     [
         fault_of(alloc, 0),
@@ -208,15 +157,11 @@ fn used_whole<A: Allocator>(pool: MarkPool<A>) -> u64
     used
 }
 
-/// A pool over a heap, of which it needs one allocation: whether it was made, and whether it works or memory was refused.
+/// Makes a pool over a heap, of which it needs one allocation: whether it was made, and whether it works or memory was
+/// refused.
 pub fn grow_on(heap: &LocalHeap) -> [bool; 2] {
     match MarkPool::new(heap, 4) {
         Ok(pool) => [true, used_whole(pool) == 4],
         Err(fault) => [false, fault == PoolFault::Memory],
     }
-}
-
-#[test]
-fn a_small_heap_refuses(rt: HostRuntime) {
-    assert!(rt; refuses_each_growth(rt.alloc(), Grown::Marks, 40));
 }

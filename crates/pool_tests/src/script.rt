@@ -1,53 +1,129 @@
-//! Calls that are written as a text: a word that begins with a capital, which names the call, its numbers, and behind an
-//! equals sign what it answers. A semicolon ends each.
+//! Calls that are written as a text, and what each answers.
+//!
+//! `Put 1 4=0; nth 1 0=4;` are two calls: a word, of which the first letter alone counts and names the call, the numbers of
+//! the call, and behind an equals sign what it answers. A semicolon ends each. What is tested says which letter stands for
+//! which call: a capital for one that changes something, and a small letter for a question.
 
-/// A call as far as it is read: its capital, and its last six numbers, of which the last is its answer.
+use std::alloc::{Allocator, Global};
+
+/// A call as far as it is read: its letter, and its last six numbers, of which the last is its answer.
 #[derive(Clone, Copy)]
 pub struct Call {
-    pub capital: u8,
+    pub letter: u8,
     pub numbers: [u64; 6],
 }
 
 impl Call {
-    pub fn new() -> Call {
+    /// Begins a call, of which nothing is read yet.
+    fn new() -> Call {
         Call {
-            capital: 0,
-            numbers: [0, 0, 0, 0, 0, 0],
+            letter: 0,
+            numbers: [0; 6],
         }
     }
 
-    /// The call with one more byte read.
-    pub fn with(self, byte: u8) -> Call {
-        let capital = self.capital;
-        if byte == b' ' || byte == b'=' {
-            let numbers = moved_up(self.numbers);
-            return Call { capital, numbers };
-        }
-        if byte >= b'0' && byte <= b'9' {
-            let numbers = with_digit(self.numbers, byte.saturating_sub(b'0'));
-            return Call { capital, numbers };
-        }
-        Call {
-            capital: if byte >= b'A' && byte <= b'Z' {
-                byte
-            } else {
-                capital
-            },
-            numbers: self.numbers,
-        }
-    }
-
-    /// Whether the call answers this.
-    pub fn is_answer(self, answer: u64) -> bool {
-        self.numbers[5] == answer
+    /// Reads one more byte of the call.
+    fn with(self, byte: u8) -> Call {
+        let letter = if self.letter == 0 && byte >= b'A' {
+            byte
+        } else {
+            self.letter
+        };
+        let numbers = match byte {
+            b' ' | b'=' => moved_up(self.numbers),
+            b'0'..=b'9' => with_digit(self.numbers, byte.saturating_sub(b'0')),
+            _ => self.numbers,
+        };
+        Call { letter, numbers }
     }
 }
 
-fn moved_up([_, second, third, fourth, fifth, sixth]: [u64; 6]) -> [u64; 6] {
-    [second, third, fourth, fifth, sixth, 0]
+fn moved_up([_, b, c, d, e, f]: [u64; 6]) -> [u64; 6] {
+    [b, c, d, e, f, 0]
 }
 
-fn with_digit([first, second, third, fourth, fifth, sixth]: [u64; 6], digit: u8) -> [u64; 6] {
-    let last = sixth.saturating_mul(10).saturating_add(digit as u64);
-    [first, second, third, fourth, fifth, last]
+fn with_digit([a, b, c, d, e, f]: [u64; 6], digit: u8) -> [u64; 6] {
+    [
+        a,
+        b,
+        c,
+        d,
+        e,
+        f.saturating_mul(10).saturating_add(digit as u64),
+    ]
+}
+
+/// What a text is about.
+pub trait Tested<A: Allocator + Copy>: Sized {
+    /// Makes it new, where there is memory: with so many storage units, where it has a size.
+    fn new(alloc: A, units: u64) -> Option<Self>;
+
+    /// Makes one call, and tells what it answers.
+    fn answer(&mut self, alloc: A, call: Call) -> u64;
+
+    /// Frees all memory.
+    fn close(self);
+}
+
+/// Makes the calls of a line, and says whether each answers what the line says.
+fn are_answered<A: Allocator + Copy, T: Tested<A>>(tested: &mut T, alloc: A, line: &str) -> bool {
+    let mut call = Call::new();
+    for byte in line.as_bytes() {
+        if *byte == b';' {
+            if tested.answer(alloc, call) != call.numbers[5] {
+                return false;
+            }
+            call = Call::new();
+        } else {
+            call = call.with(*byte);
+        }
+    }
+    call.letter == 0
+}
+
+/// Makes the calls of a text, and tells the number of its first line, from 1, with a call that does not answer what the line
+/// says, and 0 where there is none. A line that begins with `#` begins a case, which is made on something new, and says what it
+/// shows.
+pub fn wrong_line<T: Tested<Global>>(alloc: Global, units: u64, text: &str) -> u64 {
+    let mut number = 1u64;
+    let Some(mut tested) = T::new(alloc, units) else {
+        return number;
+    };
+    for line in text.lines() {
+        if let [b'#', ..] = line.as_bytes() {
+            tested.close();
+            let Some(new) = T::new(alloc, units) else {
+                return number;
+            };
+            tested = new;
+        } else if !are_answered(&mut tested, alloc, line) {
+            tested.close();
+            return number;
+        }
+        number = number.saturating_add(1);
+    }
+    tested.close();
+    0
+}
+
+/// Makes the calls of a text over a heap, up to the first line with one that is refused: whether none is, and whether else all
+/// is as it was before. A line that begins with `?` has the calls that show this, where the line before it is refused.
+pub fn grow<A: Allocator + Copy, T: Tested<A>>(heap: A, units: u64, text: &str) -> [bool; 2] {
+    let Some(mut tested) = T::new(heap, units) else {
+        return [false, true];
+    };
+    let mut all = true;
+    for line in text.lines() {
+        let shows = matches!(line.as_bytes(), [b'?', ..]);
+        if !all {
+            let same = shows && are_answered(&mut tested, heap, line);
+            tested.close();
+            return [false, same];
+        }
+        if !shows {
+            all = are_answered(&mut tested, heap, line);
+        }
+    }
+    tested.close();
+    [all, all]
 }

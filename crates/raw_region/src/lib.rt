@@ -6,8 +6,6 @@ mod block;
 mod fault;
 mod holding;
 mod region;
-#[cfg(test)]
-mod tests;
 
 pub use block::Block;
 pub use fault::PoolFault;

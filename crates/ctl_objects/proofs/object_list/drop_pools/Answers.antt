@@ -1,7 +1,7 @@
 use Rattle.std.proofs.Common.{[]}
 use Rattle.ctl_meaning.specs.Objects.{ends_with_master}
 use Rattle.ctl_objects.specs.Declarations.{has_number}
-use Rattle.ctl_objects.specs.Members.{passes}
+use Rattle.ctl_groups.specs.Members.{passes}
 use Rattle.ctl_objects.specs.Stock.{storage_of}
 use Rattle.ctl_objects.proofs.Dropped.{drops_less, drops_none}
 use Rattle.ctl_objects.proofs.object_list.drop_pools.Goals as goal

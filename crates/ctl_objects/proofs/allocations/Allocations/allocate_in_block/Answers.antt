@@ -1,9 +1,9 @@
 use Rattle.std.proofs.Common.{◌∙◌, ◌<◌, ◌^◌, ap, List, None, Some, length, replicate, subst, sym}
 use Rattle.ctl_meaning.specs.World.{Object}
 use Rattle.ctl_storage.specs.declared.existing.Stage.{Stage}
-use Rattle.ctl_objects.specs.declared.needs.Need.{Need}
+use Rattle.ctl_groups.specs.declared.needs.Need.{Need}
 use Rattle.ctl_objects.specs.Filed.{AreFiled}
-use Rattle.ctl_objects.specs.Groups.{Has, Moves}
+use Rattle.ctl_groups.specs.Groups.{Has, Moves}
 use Rattle.ctl_storage.specs.Allocated.{known}
 use Rattle.ctl_storage.specs.Order.{AreBelow}
 use Rattle.ctl_storage.specs.declared.existing.Place.TheVariants.{InBlock}

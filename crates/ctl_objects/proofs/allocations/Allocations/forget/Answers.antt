@@ -1,8 +1,8 @@
 use Rattle.std.proofs.Common.{◌<◌, ◌^◌, List, None, Some, length, subst, sym}
 use Rattle.ctl_meaning.specs.World.{Object}
-use Rattle.ctl_objects.specs.declared.needs.Need.{Need}
+use Rattle.ctl_groups.specs.declared.needs.Need.{Need}
 use Rattle.ctl_objects.specs.Filed.{AreFiled}
-use Rattle.ctl_objects.specs.Groups.{Has, Moves}
+use Rattle.ctl_groups.specs.Groups.{Has, Moves}
 use Rattle.ctl_storage.specs.Allocated.{known}
 use Rattle.ctl_objects.specs.Stock.{Stock, storage_of}
 use Rattle.ctl_storage.specs.Storage.{KeepsPools}

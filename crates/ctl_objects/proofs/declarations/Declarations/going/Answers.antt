@@ -3,7 +3,7 @@ use Rattle.ctl_meaning.specs.World.{Object}
 use Rattle.ctl_meaning.specs.Objects.{ends_with_master}
 use Rattle.ctl_objects.specs.declared.declarations.Declaration.{Declaration}
 use Rattle.ctl_objects.specs.Declarations.{AreOf, AreOlder, AreWithin, has_number}
-use Rattle.ctl_objects.specs.Members.{passes}
+use Rattle.ctl_groups.specs.Members.{passes}
 use Rattle.ctl_objects.specs.Order.{AreUpTo}
 use Rattle.ctl_objects.proofs.Kept.{going_are, within_seen}
 use Rattle.ctl_objects.proofs.declarations.Declarations.going.Goals as goal

@@ -1,5 +1,5 @@
 use Rattle.std.proofs.Common.{subst}
-use Rattle.ctl_objects.specs.Members.{IsLeast}
+use Rattle.ctl_groups.specs.Members.{IsLeast}
 use Rattle.ctl_objects.specs.Stock.{Stock}
 use Rattle.ctl_objects.proofs.Waits.{DoesWait, least_both}
 use Rattle.ctl_objects.proofs.object_list.Objects.first_waiting.Goals as goal

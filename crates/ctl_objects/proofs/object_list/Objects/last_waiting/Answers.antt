@@ -1,5 +1,5 @@
 use Rattle.std.proofs.Common.{subst}
-use Rattle.ctl_objects.specs.Members.{IsGreatest}
+use Rattle.ctl_groups.specs.Members.{IsGreatest}
 use Rattle.ctl_objects.specs.Stock.{Stock}
 use Rattle.ctl_objects.proofs.Waits.{DoesWait, greatest_both}
 use Rattle.ctl_objects.proofs.object_list.Objects.last_waiting.Goals as goal

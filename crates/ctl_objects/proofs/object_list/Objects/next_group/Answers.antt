@@ -1,6 +1,6 @@
 use Rattle.std.proofs.Common.{◌<◌, ◌^◌, length, subst}
 use Rattle.ctl_meaning.specs.Lists.{keep}
-use Rattle.ctl_objects.specs.Groups.{IsNextGroup, is_allocated}
+use Rattle.ctl_groups.specs.Groups.{IsNextGroup, is_allocated}
 use Rattle.ctl_objects.specs.Stock.{Stock}
 use Rattle.ctl_objects.proofs.Waits.{few_allocated, next_both}
 use Rattle.ctl_objects.proofs.object_list.Objects.next_group.Goals as goal

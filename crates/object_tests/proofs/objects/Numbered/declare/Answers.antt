@@ -10,5 +10,5 @@ pub invariant_of-self : goal.invariant_of-self
 unfolding opened_changes
 invariant_of-self c =
     let s = c.self.inside in
-    let x = new_object s.next (Record 7) (replicate c.args.cells 0) (W.Declared s.master) in
-    (subst (λ (l : List Object). AreNumbered (s.next + 1) s.master l) (sym c.in-Ok.ensures.ok) (numbered_new s.next s.master x s.objects.objects refl (omega arith) c.self.invariant.0), c.in-Ok.ensures.pools W.empty_pools c.self.invariant.1)
+    let x = new_object s.next (Record c.args.record_type) (replicate c.args.cells 0) (W.Declared s.master) in
+    subst (λ (l : List Object). AreNumbered (s.next + 1) s.master l) (sym c.in-Ok.ensures.ok) (numbered_new s.next s.master x s.objects.objects refl (omega arith) c.self.invariant)

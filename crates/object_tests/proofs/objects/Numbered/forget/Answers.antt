@@ -1,13 +1,10 @@
 use Rattle.std.proofs.Common.{List, subst, sym}
 use Rattle.std.specs.Prelude.{nat_eq, not}
-use Rattle.ctl_meaning.specs.World as W
 use Rattle.ctl_meaning.specs.World.{Object}
 use Rattle.ctl_objects.proofs.Conditions.{AreNumbered, numbered_kept}
 use Rattle.object_tests.proofs.objects.Numbered.forget.Goals as goal
 
 pub invariant_of-self : goal.invariant_of-self
 invariant_of-self c =
-    let s = c.self.inside in (
-      subst (λ (l : List Object). AreNumbered s.next s.master l) (sym c.forget.ensures.objects) (numbered_kept s.next s.master (λ o. not (nat_eq o.number c.args.number)) s.objects.objects c.self.invariant.0),
-      c.forget.ensures.pools s.next W.empty_pools c.self.invariant.1,
-    )
+    let s = c.self.inside in
+    subst (λ (l : List Object). AreNumbered s.next s.master l) (sym c.forget.ensures.objects) (numbered_kept s.next s.master (λ o. not (nat_eq o.number c.args.number)) s.objects.objects c.self.invariant)

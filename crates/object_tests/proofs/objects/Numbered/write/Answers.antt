@@ -1,5 +1,4 @@
 use Rattle.std.proofs.Common.{[], ◌∷◌, List, subst, sym}
-use Rattle.ctl_meaning.specs.World as W
 use Rattle.ctl_meaning.specs.World.{Object}
 use Rattle.ctl_meaning.specs.Objects.{with_cells}
 use Rattle.ctl_objects.proofs.Conditions.{AreNumbered, numbered_changed}
@@ -9,8 +8,6 @@ use Rattle.object_tests.proofs.objects.Numbered.write.Goals as goal
 
 pub invariant_of-self : goal.invariant_of-self
 invariant_of-self c =
-    let s = c.self.inside in (
-      subst (λ (l : List Object). AreNumbered s.next s.master l) (sym c.write.ensures.objects)
-          (numbered_changed s.next s.master c.args.number (with_cells c.args.offset (c.args.value ∷ [])) s.objects.objects (cells_keep c.args.offset (c.args.value ∷ [])) (cells_stay c.args.offset (c.args.value ∷ [])) c.self.invariant.0),
-      c.write.ensures.pools s.next W.empty_pools c.self.invariant.1,
-    )
+    let s = c.self.inside in
+    let v = c.args.value ∷ [] in
+    subst (λ (l : List Object). AreNumbered s.next s.master l) (sym c.write.ensures.objects) (numbered_changed s.next s.master c.args.number (with_cells c.args.offset v) s.objects.objects (cells_keep c.args.offset v) (cells_stay c.args.offset v) c.self.invariant)

@@ -1,0 +1,3 @@
+pub mod Grouped
+pub mod Moved
+pub mod Counted

@@ -1,0 +1,35 @@
+-- The text that shows a run, and what a sink took of it.
+use Rattle.std.specs.Prelude.{◌≡◌, ℕ, List, Option}
+use Rattle.std.specs.Io.KnownBytes.{Appends}
+use Rattle.ctl_tree.specs.declared.request.Order.{Order}
+use Rattle.ctl_run.specs.Headline.{RunsSource}
+use Rattle.ctl_engine.specs.declared.outcome.Outcome.{Outcome}
+use Rattle.ctl_output.specs.declared.summary.Summary.{Summary}
+use Rattle.ctl_sink.specs.Prefix.{AppendsPart}
+use Rattle.ctl_text.specs.Texts.{output_of, trace_of}
+use Rattle.ctl_tree.specs.declared.request.Show.{Show}
+use Rattle.ctl_tree.specs.declared.request.Show.TheVariants.{Output, Trace}
+
+-- what the run printed, or its trace
+abbrev pub shown_by : Show → Outcome → List ℕ
+shown_by Output outcome = output_of outcome.events.items
+shown_by Trace outcome = trace_of outcome.events.items outcome.end
+
+-- the picks, the end and the steps are those of the run
+pub record Summarizes (outcome : Outcome) (summary : Summary) : Type 0 where
+  pub picks : summary.picks ≡ outcome.picks
+  pub end : summary.end ≡ outcome.end
+  pub steps : summary.steps ≡ outcome.steps
+
+-- the sink took the whole text of what a run of this source shows, and this is the run's summary
+pub record WritesWhole (source : List ℕ) (order : Order) (limit : ℕ) (show : Show) (old new : Option (List ℕ)) (summary : Summary) : Type 0 where
+  pub outcome : Outcome
+  pub runs : RunsSource source order limit outcome
+  pub summarized : Summarizes outcome summary
+  pub whole : Appends old new (shown_by show outcome)
+
+-- the sink took a part of that text, from its beginning
+pub record WritesPart (source : List ℕ) (order : Order) (limit : ℕ) (show : Show) (old new : Option (List ℕ)) : Type 0 where
+  pub outcome : Outcome
+  pub runs : RunsSource source order limit outcome
+  pub part : AppendsPart old new (shown_by show outcome)

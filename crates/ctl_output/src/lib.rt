@@ -1,0 +1,8 @@
+//! Runs whose text goes into a sink.
+#![tactic(auto)]
+
+mod into;
+mod summary;
+
+pub use into::{put_run, run_into};
+pub use summary::{RunFault, Summary};
