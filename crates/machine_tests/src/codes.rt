@@ -31,7 +31,7 @@ const MAIN: Entry = Entry {
 /// The texts that each code has.
 const TEXTS: &str = "text w; text i; text i i _ b";
 
-/// The piece that stands in the place of one with this number: one of the changes, or this piece itself.
+/// Answers the piece that stands in the place of one with this number: one of the changes, or this piece itself.
 fn changed<'a>(changes: &'a str, place: usize, piece: &'a str) -> &'a str {
     for change in changes.split(';') {
         if number_before(change) == Some(place) {
@@ -124,7 +124,7 @@ fn add_all(code: &mut Code, alloc: Global, texts: [&str; 2]) -> Result<(), Alloc
     add_tables(code, alloc, texts)
 }
 
-/// Code without anything.
+/// Makes code without anything.
 fn nothing(alloc: Global) -> Code {
     Code {
         instructions: Vec::new(alloc),
@@ -141,7 +141,7 @@ fn nothing(alloc: Global) -> Code {
     }
 }
 
-/// The code of a text with changes.
+/// Makes the code of a text with changes.
 fn code_of(alloc: Global, texts: [&str; 2]) -> Result<Code, AllocError> {
     let mut code = nothing(alloc);
     match add_all(&mut code, alloc, texts) {
@@ -153,7 +153,7 @@ fn code_of(alloc: Global, texts: [&str; 2]) -> Result<Code, AllocError> {
     }
 }
 
-/// Whether each piece was read.
+/// Says whether each piece was read.
 fn is_read(code: &Code) -> bool {
     for instr in code.instructions.as_slice() {
         if matches!(instr, Instr::Missing) {
@@ -163,7 +163,7 @@ fn is_read(code: &Code) -> bool {
     true
 }
 
-/// Whether the code is well formed; it is let go.
+/// Says whether the code is well formed; it is let go.
 fn is_well_formed(code: Code) -> bool {
     validate(code).is_some()
 }
@@ -176,12 +176,12 @@ fn validated(code: Code) -> Result<ValidCode, Fail> {
     }
 }
 
-/// The code of a text with changes, which is well formed.
+/// Makes the code of a text with changes, which is well formed.
 pub fn valid_code_of(alloc: Global, texts: [&str; 2]) -> Result<ValidCode, Fail> {
     validated(code_of(alloc, texts)?)
 }
 
-/// Whether the code of a text with changes is `accepted` or `refused`, or was `unread`.
+/// Says whether the code of a text with changes is `accepted` or `refused`, or was `unread`.
 pub fn verdict_of(alloc: Global, texts: [&str; 2]) -> Result<&'static str, AllocError> {
     let code = code_of(alloc, texts)?;
     let read = is_read(&code);

@@ -21,7 +21,7 @@ const BLANK: Mark = Mark {
 };
 
 impl Mark {
-    /// The mark with one more byte read.
+    /// Reads one more byte of the mark.
     fn with(self, byte: u8) -> Mark {
         if byte >= b'0' && byte <= b'9' {
             let digit = byte.saturating_sub(b'0') as usize;
@@ -36,7 +36,7 @@ impl Mark {
         }
     }
 
-    /// The cell that it stands for: `v1` is the second slot of the newest master, a body, in cell 1, and `3` the operand in cell 3.
+    /// Answers the cell that it stands for: `v1` is the second slot of the newest master, a body, in cell 1, and `3` the operand in cell 3.
     pub fn cell(self) -> Cell {
         let named = if self.letter == b'v' {
             Named::Variable {
@@ -52,7 +52,7 @@ impl Mark {
         }
     }
 
-    /// The type that it stands for: `b` is Boolean, `r0` the first record type, and any other Integer.
+    /// Answers the type that it stands for: `b` is Boolean, `r0` the first record type, and any other Integer.
     pub fn ty(self) -> Ty {
         match self.letter {
             b'b' => Ty::Boolean,
@@ -62,7 +62,7 @@ impl Mark {
     }
 }
 
-/// The mark that these letters and digits make.
+/// Reads the mark that these letters and digits make.
 fn mark_of(word: &str) -> Mark {
     let mut mark = BLANK;
     for byte in word.as_bytes() {
@@ -71,7 +71,7 @@ fn mark_of(word: &str) -> Mark {
     mark
 }
 
-/// The first word of a text, two blanks where there is none.
+/// Answers the first word of a text, two blanks where there is none.
 pub fn word_of(text: &str) -> Word {
     match text.trim_start().as_bytes() {
         [first, second, ..] => [*first, *second],
@@ -79,7 +79,7 @@ pub fn word_of(text: &str) -> Word {
     }
 }
 
-/// The marks behind the first word of a text.
+/// Reads the marks behind the first word of a text.
 pub fn marks_of(alloc: Global, text: &str) -> Result<Vec<Mark>, AllocError> {
     let mut marks = Vec::new(alloc);
     for word in text.split_whitespace().skip(1) {
@@ -88,7 +88,7 @@ pub fn marks_of(alloc: Global, text: &str) -> Result<Vec<Mark>, AllocError> {
     Ok(marks)
 }
 
-/// The number that a text begins with.
+/// Reads the number that a text begins with.
 pub fn number_before(text: &str) -> Option<usize> {
     let mark = match text.split_whitespace().next() {
         Some(word) => mark_of(word),

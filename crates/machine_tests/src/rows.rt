@@ -6,7 +6,7 @@ use crate::runs::trace_of;
 use std::alloc::Global;
 use std::test::Fail;
 
-/// Whether a trace has these lines.
+/// Says whether a trace has these lines.
 fn has_lines(trace: &str, lines: &str) -> bool {
     let mut wanted = lines.split('/');
     for line in trace.lines() {
@@ -18,13 +18,13 @@ fn has_lines(trace: &str, lines: &str) -> bool {
     wanted.next().is_none()
 }
 
-/// Whether the run of a code has these lines.
+/// Says whether the run of a code has these lines.
 fn is_traced(alloc: Global, texts: [&str; 2], lines: &str) -> Result<bool, Fail> {
     let trace = trace_of(alloc, texts)?;
     Ok(has_lines(trace.as_str(), lines))
 }
 
-/// Whether a code comes to this.
+/// Says whether a code comes to this.
 fn comes_to(alloc: Global, texts: [&str; 2], end: &str) -> Result<bool, Fail> {
     if end == "accepted" || end == "refused" {
         Ok(verdict_of(alloc, texts)? == end)
@@ -33,7 +33,7 @@ fn comes_to(alloc: Global, texts: [&str; 2], end: &str) -> Result<bool, Fail> {
     }
 }
 
-/// Whether a line is right: no row, or one that tells what the code of the text with its changes comes to.
+/// Says whether a line is right: no row, or one that tells what the code of the text with its changes comes to.
 fn is_right(alloc: Global, text: &str, line: &str) -> Result<bool, Fail> {
     match line.split_once("=>") {
         Some((changes, end)) => comes_to(alloc, [text, changes], end.trim_start()),
@@ -41,7 +41,7 @@ fn is_right(alloc: Global, text: &str, line: &str) -> Result<bool, Fail> {
     }
 }
 
-/// The first row that is not right, if any, else nothing.
+/// Answers the first row that is not right, if any, else nothing.
 pub fn first_wrong<'a>(alloc: Global, text: &str, rows: &'a str) -> Result<&'a str, Fail> {
     for line in rows.lines() {
         if !is_right(alloc, text, line)? {

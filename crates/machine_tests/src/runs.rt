@@ -24,7 +24,7 @@ fn outcome_by(
     Ok(machine.finish())
 }
 
-/// A run of the code of a text with changes, of at most so many steps.
+/// Makes a run of the code of a text with changes, of at most so many steps.
 pub fn outcome_of(
     alloc: Global,
     texts: [&str; 2],
@@ -50,7 +50,7 @@ fn run_and_step_by(
     Ok(format!(in alloc; "{:?}\n{counted}", progress.as_slice())?)
 }
 
-/// The same of the code of a text.
+/// Does the same of the code of a text.
 pub fn run_and_step(alloc: Global, text: &str, order: Order, steps: u64) -> Result<String, Fail> {
     let code = valid_code_of(alloc, [text, ""])?;
     let told = run_and_step_by(alloc, &code, order, steps);
@@ -79,7 +79,7 @@ pub fn counted(alloc: Global, outcome: Outcome) -> Result<String, Fail> {
     Ok(format!(in alloc; "{traced}steps {steps}\n")?)
 }
 
-/// The trace of a run to its end of the code of a text with changes, and which choices it took.
+/// Answers the trace of a run to its end of the code of a text with changes, and which choices it took.
 pub fn trace_of(alloc: Global, texts: [&str; 2]) -> Result<String, Fail> {
     traced(alloc, outcome_of(alloc, texts, Order::Newest, 1000)?)
 }

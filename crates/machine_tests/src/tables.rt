@@ -40,7 +40,7 @@ fn add_body(code: &mut Code, kind: SubprogramKind, place: usize) -> Result<(), A
     Ok(())
 }
 
-/// The number of a body, if it is one.
+/// Answers the number of a body, if it is one.
 fn body_of(number: usize) -> Option<usize> {
     if number == 0 { None } else { Some(number) }
 }
@@ -57,7 +57,7 @@ fn add_record(code: &mut Code, initialize: usize, finalize: usize) -> Result<(),
     Ok(())
 }
 
-/// How the component begins that a mark stands for, if it begins with something.
+/// Answers how the component begins that a mark stands for, if it begins with something.
 fn initial_of(mark: Mark) -> Option<Initial> {
     match mark.letter {
         b'c' => Some(Initial::Constant(mark.number as u64)),
@@ -93,7 +93,7 @@ fn add_components(layout: &mut Layout, marks: &[Mark]) -> Result<(), AllocError>
     Ok(())
 }
 
-/// A layout of so many cells, in which no component begins yet.
+/// Makes a layout of so many cells, in which no component begins yet.
 fn bare_layout(alloc: Global, parts: Parts, level: usize, cells: usize) -> Layout {
     Layout {
         parts,
@@ -129,7 +129,7 @@ fn add_access_type(code: &mut Code, level: usize) -> Result<(), AllocError> {
     Ok(())
 }
 
-/// The part of a text that a letter stands for.
+/// Answers the part of a text that a letter stands for.
 fn part_of(alloc: Global, letter: u8) -> Result<TextPart, AllocError> {
     Ok(match letter {
         b'i' => TextPart::IntegerImage,
