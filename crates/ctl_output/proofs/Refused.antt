@@ -2,7 +2,7 @@
 use Rattle.std.proofs.Common.{ℕ, List}
 use Rattle.ctl_lexis.specs.Lexis.{HasFault}
 use Rattle.ctl_front.specs.Text.{BreaksForm, of_lexis, unspelled}
-use Rattle.ctl_run.specs.Verdict.{IsFaultOf, refused}
+use Rattle.ctl_verdict.specs.Verdict.{IsFaultOf, refused}
 use Rattle.ctl_tree.specs.declared.fault.Fault.{Fault}
 
 -- the first fault of a text that spells no tree is its fault

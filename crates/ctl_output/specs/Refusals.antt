@@ -1,7 +1,7 @@
 -- Why the text of a run was not written.
 use Rattle.std.specs.Prelude.{◌≡◌, ◌⊎◌, ℕ, List}
 use Rattle.ctl_lex.specs.Memory.{IsMemory}
-use Rattle.ctl_run.specs.Verdict.{IsFaultOf}
+use Rattle.ctl_verdict.specs.Verdict.{IsFaultOf}
 use Rattle.ctl_output.specs.declared.summary.RunFault.{RunFault}
 use Rattle.ctl_output.specs.declared.summary.RunFault.TheVariants.{Refused, Write}
 use Rattle.ctl_tree.specs.declared.fault.Fault.{Fault}

@@ -5,7 +5,7 @@ ghost use Rattle.std.specs.Io.KnownBytes.{Appends};
 ghost use Rattle.ctl_sink.specs.Prefix.{AppendsPart};
 ghost use Rattle.ctl_lexis.specs.Lexis.{HasFault};
 ghost use Rattle.ctl_front.specs.Text.{BreaksForm};
-ghost use Rattle.ctl_run.specs.Verdict.{IsFaultOf, IsFaultless};
+ghost use Rattle.ctl_verdict.specs.Verdict.{IsFaultOf, IsFaultless};
 ghost use Rattle.ctl_output.specs.Refusals.{IsRefusal, IsRefusalWith, IsRefusedFor, WantsMemory};
 ghost use Rattle.ctl_output.specs.Shown.{shown_by, Summarizes, WritesPart, WritesWhole};
 ghost use Rattle.ctl_tree.specs.declared.fault.Fault.{Fault};

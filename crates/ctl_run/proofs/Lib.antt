@@ -1,4 +1,2 @@
 pub mod Composed
 pub mod Orderly
-pub mod Verdicts
-pub mod WellTyped

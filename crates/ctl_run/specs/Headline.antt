@@ -17,7 +17,7 @@ use Rattle.ctl_layout.specs.Layout.{IsLaidOut}
 use Rattle.ctl_engine.specs.declared.outcome.Outcome.{Outcome}
 use Rattle.ctl_engine.specs.Machine.{after_steps}
 use Rattle.ctl_engine.specs.Shows.{chosen}
-use Rattle.ctl_run.specs.Verdict.{IsVerdict}
+use Rattle.ctl_verdict.specs.Verdict.{IsVerdict}
 
 -- the run ended by itself
 abbrev pub ByItself : End → Type 0

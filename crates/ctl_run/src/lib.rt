@@ -3,5 +3,4 @@
 //! "RM" is ISO/IEC 8652:2012.
 #![tactic(auto)]
 
-pub mod laws;
 pub mod run;

@@ -10,7 +10,7 @@ use Rattle.ctl_serve.specs.declared.status.Status.{Status}
 use Rattle.ctl_serve.specs.declared.status.Status.TheVariants.{Done, Raised, Refused, Stopped, StepLimit, HostMemory, Usage, InputOutput}
 use Rattle.ctl_program.specs.declared.program.Checked.{Checked}
 use Rattle.ctl_run.specs.Headline.{RunsSource}
-use Rattle.ctl_run.specs.Verdict.{IsFaultOf, IsVerdict}
+use Rattle.ctl_verdict.specs.Verdict.{IsFaultOf, IsVerdict}
 use Rattle.ctl_sink.specs.Prefix.{AppendsUpTo}
 use Rattle.ctl_tree.specs.declared.fault.Fault.{Fault}
 use Rattle.ctl_tree.specs.declared.request.Order.{Order}

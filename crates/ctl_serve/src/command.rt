@@ -12,10 +12,10 @@ use crate::source::{ReadFault, Reading, read_source};
 use crate::status::{Status, status_of_end, status_of_fault, status_of_usage};
 use ctl_job::{Job, UsageFault};
 use ctl_output::{RunFault, run_into};
-use ctl_run::run::check_source;
 use ctl_sink::{PutFault, Sink, put_all};
 use ctl_tree::fault::Fault;
 use ctl_tree::request::{Order, Show};
+use ctl_verdict::verdict::check_source;
 use std::alloc::{Allocator, Global};
 use std::io::{Read, Write};
 

@@ -1,10 +1,8 @@
-//! Tests of the crates `ctl_parse`, `ctl_resolve`, `ctl_job`, `ctl_sink`, `ctl_front`, `ctl_run` and `ctl_serve` through their public calls.
+//! Tests of the crates `ctl_parse`, `ctl_resolve`, `ctl_job`, `ctl_sink`, `ctl_front` and `ctl_run` through their public calls.
 #![tactic(auto)]
 
 #[cfg(test)]
 mod forms;
-#[cfg(test)]
-mod jobs;
 #[cfg(test)]
 mod names;
 #[cfg(test)]
@@ -13,8 +11,7 @@ mod resolve;
 mod runs;
 #[cfg(test)]
 mod sinks;
-#[cfg(test)]
-mod texts;
+pub mod texts;
 #[cfg(test)]
 mod tokens;
 #[cfg(test)]

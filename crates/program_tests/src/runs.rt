@@ -2,11 +2,12 @@
 
 use crate::texts::{EMPTY, TWO_OBJECTS, TWO_OBJECTS_TRACE, is_fault};
 use ctl_engine::outcome::Outcome;
-use ctl_run::run::{check_source, run_source};
+use ctl_run::run::run_source;
 use ctl_text::{output_text, trace_text};
 use ctl_tree::ending::End;
 use ctl_tree::fault::{Fault, FaultCode};
 use ctl_tree::request::Order;
+use ctl_verdict::verdict::check_source;
 use std::alloc::{AllocError, Global};
 use std::test::Fail;
 

@@ -10,8 +10,8 @@ use Rattle.ctl_meaning.specs.Choice.{replayed}
 use Rattle.ctl_run.specs.Headline.{Headline}
 use Rattle.ctl_run.proofs.Composed.{composed}
 use Rattle.ctl_run.proofs.Orderly.{shown_orderly}
-use Rattle.ctl_run.proofs.Verdicts.{answer_of, for_memory, not_accepted, refused_for, refused_with_it, runs_of, verdict_of}
-use Rattle.ctl_run.proofs.WellTyped.{well_typed}
+use Rattle.ctl_verdict.proofs.Verdicts.{answer_of, for_memory, not_accepted, refused_for, refused_with_it, runs_of, verdict_of}
+use Rattle.ctl_verdict.proofs.WellTyped.{well_typed}
 use Rattle.ctl_run.proofs.run.run_source.Goals as goal
 
 pub returns-clause-headline : goal.returns-clause-headline

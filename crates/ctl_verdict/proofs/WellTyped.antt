@@ -4,7 +4,7 @@ use Rattle.ctl_program.specs.declared.program.Checked.{Checked}
 use Rattle.ctl_well_typed.specs.Programs.{WellTyped}
 use Rattle.ctl_sound.proofs.Programs.{programs_well_typed}
 use Rattle.ctl_front.specs.Text.{Written, IsAnswer, judged, resolved}
-use Rattle.ctl_run.proofs.Verdicts.{program_is}
+use Rattle.ctl_verdict.proofs.Verdicts.{program_is}
 
 by_tree : (tree : Written) (program : Checked) → judged tree ≡ Ok program → WellTyped program
 unfolding judged

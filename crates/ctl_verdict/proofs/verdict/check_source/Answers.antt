@@ -1,8 +1,8 @@
 use Rattle.std.proofs.Common.{inl, inr, refl, sym, ◌∙◌}
 use Rattle.std.proofs.lemmas.Result.{err_from_is_err_and}
-use Rattle.ctl_run.specs.Verdict.{accepted}
-use Rattle.ctl_run.proofs.Verdicts.{by_construct, by_first, is_program}
-use Rattle.ctl_run.proofs.run.check_source.Goals as goal
+use Rattle.ctl_verdict.specs.Verdict.{accepted}
+use Rattle.ctl_verdict.proofs.Verdicts.{by_construct, by_first, is_program}
+use Rattle.ctl_verdict.proofs.verdict.check_source.Goals as goal
 
 pub returns-in_err-program : goal.returns-in_err-program
 returns-in_err-program c =

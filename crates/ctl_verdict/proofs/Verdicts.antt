@@ -13,7 +13,7 @@ use Rattle.ctl_front.specs.Text.{Written, Spells, BreaksForm, SpellsNamed, resol
 use Rattle.ctl_front.proofs.Judging.{has_answer, has_one_answer}
 use Rattle.ctl_front.proofs.Spelling.{one_tree}
 use Rattle.ctl_layout.specs.Run.{IsRun, is_run}
-use Rattle.ctl_run.specs.Verdict.{place_left_out, IsLeftOut, IsVerdict, refused, left_out, accepted, Settles, IsFaultOf, IsFaultless, HasVerdict, HasOneVerdict}
+use Rattle.ctl_verdict.specs.Verdict.{place_left_out, IsLeftOut, IsVerdict, refused, left_out, accepted, Settles, IsFaultOf, IsFaultless, HasVerdict, HasOneVerdict}
 
 -- ---- a program of a text
 

@@ -1,0 +1,40 @@
+//! What a text comes to: the check of it, and whether its program is run.
+
+ghost use Rattle.std.specs.Prelude.{◌⊎◌};
+ghost use Rattle.ctl_lex.specs.Memory.{IsMemory};
+ghost use Rattle.ctl_front.specs.Text.{BreaksForm};
+ghost use Rattle.ctl_verdict.specs.Verdict.{IsLeftOut, Settles};
+
+use ctl_front::program::{program_of, resolved_of};
+use ctl_layout::runs::is_run;
+use ctl_program::program::Checked;
+use ctl_slice::first_left_out;
+use ctl_tree::fault::{Fault, FaultCode};
+use std::alloc::Global;
+
+/// Answers the program of a source text, or the fault of the text: its first one of lexis, grammar, names or types; or LEFT_OUT, where this
+/// version does not run each construct of it, at the first that the table of `ctl_slice` leaves out. MEMORY comes only where the host
+/// refused memory.
+pub fn check_source(alloc: Global, source: &[u8]) -> Result<Checked, Fault>
+    ensures { Settles source.now result }
+{
+    let program = program_of(alloc, source)?;
+    let runs = is_run(alloc, &program)?;
+    if runs {
+        return Ok(program);
+    }
+    Err(left_out(alloc, source))
+}
+
+/// Answers the fault of a text whose program is not run whole.
+fn left_out(alloc: Global, source: &[u8]) -> Fault
+    ensures { IsLeftOut source.now result ⊎ (BreaksForm source.now result ⊎ IsMemory result) }
+{
+    match resolved_of(alloc, source) {
+        Ok(tree) => Fault::at(
+            FaultCode::LeftOut,
+            first_left_out(&tree).unwrap_or(tree.span),
+        ),
+        Err(fault) => fault,
+    }
+}
