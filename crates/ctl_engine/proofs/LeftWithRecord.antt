@@ -6,12 +6,9 @@ use Rattle.ctl_meaning.specs.Finalization.{Spot}
 use Rattle.ctl_meaning.specs.World.{Layer, World, Slot}
 use Rattle.ctl_meaning.specs.Activations.{activation_at, slots_in}
 use Rattle.ctl_meaning.specs.Changes.{close_master}
-use Rattle.ctl_meaning.specs.Lists.{item_or}
-use Rattle.ctl_meaning.specs.Names.{scalar_of}
 use Rattle.ctl_meaning.specs.Outcome as O
 use Rattle.ctl_meaning.specs.Outcome.{Result, Done, program_error}
 use Rattle.ctl_code.specs.declared.code.Code.{Code}
-use Rattle.ctl_code.specs.declared.code.Way.{Way}
 use Rattle.ctl_code.specs.declared.code.Way.TheVariants as WayOf
 use Rattle.ctl_code.specs.States as T
 use Rattle.ctl_code.specs.States.{Move}
@@ -23,7 +20,7 @@ use Rattle.ctl_engine.specs.declared.engine.Engine.{Engine}
 use Rattle.ctl_engine.specs.declared.frame.After.{After}
 use Rattle.ctl_engine.specs.declared.frame.After.TheVariants as AfterOf
 use Rattle.ctl_engine.specs.declared.frame.Completion.{Completion}
-use Rattle.ctl_engine.specs.declared.frame.Completion.TheVariants.{Normal, Transferred}
+use Rattle.ctl_engine.specs.declared.frame.Completion.TheVariants.{Transferred}
 use Rattle.ctl_engine.specs.declared.frame.Formal.{Formal}
 use Rattle.ctl_engine.specs.declared.frame.Frame.{Frame}
 use Rattle.ctl_engine.specs.declared.frame.Frame.TheVariants as FrameOf
@@ -34,7 +31,7 @@ use Rattle.ctl_engine.specs.Departing.{Departed, Departs, frame_of, with_top}
 use Rattle.ctl_engine.specs.Masters.{Head, heads_of, layers_from}
 use Rattle.ctl_engine.specs.Moves.{Closes, Makes}
 use Rattle.ctl_engine.specs.Owned.{remaining, set_numbers}
-use Rattle.ctl_engine.specs.Returning.{cell_behind, cell_by, parts_for, record_behind, record_by, spots_behind, waits_further, with_record}
+use Rattle.ctl_engine.specs.Returning.{cell_behind, cell_by, cell_given, record_behind, record_by, record_given, result_cells, returned_cells, spots_behind, waits_further, with_record}
 use Rattle.ctl_engine.specs.Shows.{IsResult, Wait, leaving_waits, kept, mode_behind, result_in, with_spots, written_at, Kept}
 use Rattle.ctl_engine.specs.Spots.{last_value, standing, value_spot, with_returned}
 use Rattle.ctl_engine.specs.Under.{aside}
@@ -72,63 +69,26 @@ some_waits c r spots parts is there waits =
 
 -- and is what the machine reads
 pub result_given : (c : Completion) (r : Result Done) (spots parts : List Spot) → IsResult c r → (c ≡ Transferred WayOf.ReturnRecord → spots ≡ with_returned r parts) → result_in spots c ≡ r
-result_given Normal r spots parts is there = sym is
-result_given (Transferred WayOf.Exit) r spots parts is there = result_in_is spots (Transferred WayOf.Exit) tt ∙ sym (result_is (Transferred WayOf.Exit) r tt is)
-result_given (Transferred WayOf.Return) r spots parts is there = result_in_is spots (Transferred WayOf.Return) tt ∙ sym (result_is (Transferred WayOf.Return) r tt is)
-result_given (Transferred (WayOf.ReturnValue n)) r spots parts is there = result_in_is spots (Transferred (WayOf.ReturnValue n)) tt ∙ sym (result_is (Transferred (WayOf.ReturnValue n)) r tt is)
-result_given (Transferred (WayOf.Raise x)) r spots parts is there = result_in_is spots (Transferred (WayOf.Raise x)) tt ∙ sym (result_is (Transferred (WayOf.Raise x)) r tt is)
 result_given (Transferred WayOf.ReturnRecord) r spots parts is there = result_here (Transferred WayOf.ReturnRecord) r spots parts is (there refl)
+result_given c r spots parts is there = result_in_is spots c tt ∙ sym (result_is c r tt is)
 
-pub plain_parts_for : (way : Way) (below : List Spot) (s : Spot) (v : List ℕ) → (way ≡ WayOf.ReturnRecord → ⊥) → below ++ s ∷ [] ≡ parts_for way below s v
-plain_parts_for WayOf.ReturnRecord below s v other = absurd (other refl)
-plain_parts_for WayOf.Exit below s v other = refl
-plain_parts_for WayOf.Return below s v other = refl
-plain_parts_for (WayOf.ReturnValue n) below s v other = refl
-plain_parts_for (WayOf.Raise x) below s v other = refl
+-- the same cells are returned
+cells_are : (c : Completion) (spots : List Spot) → returned_cells c (last_value spots) ≡ result_cells (result_in spots c)
+cells_are (Transferred WayOf.ReturnRecord) spots = refl
+cells_are c spots = refl
 
 -- what stands behind the master, by that
 pub record_is : (after : After) (c : Completion) (spots : List Spot) → record_by after c (last_value spots) ≡ record_behind after (result_in spots c)
-record_is (AfterOf.Block place) c spots = refl
-record_is (AfterOf.Procedure place copies) c spots = refl
-record_is (AfterOf.Function place) c spots = refl
-record_is AfterOf.Body c spots = refl
-record_is (AfterOf.Record place cells) Normal spots = refl
-record_is (AfterOf.Record place cells) (Transferred WayOf.Exit) spots = refl
-record_is (AfterOf.Record place cells) (Transferred WayOf.Return) spots = refl
-record_is (AfterOf.Record place cells) (Transferred (WayOf.ReturnValue n)) spots = refl
-record_is (AfterOf.Record place cells) (Transferred WayOf.ReturnRecord) spots = refl
-record_is (AfterOf.Record place cells) (Transferred (WayOf.Raise x)) spots = refl
+record_is after c spots = ap (λ (v : Option (List ℕ)). record_given after v) (cells_are c spots)
 
 pub cell_is : (after : After) (c : Completion) (spots : List Spot) → cell_by after c (last_value spots) ≡ cell_behind after (result_in spots c)
-unfolding scalar_of item_or
-cell_is (AfterOf.Block place) c spots = refl
-cell_is (AfterOf.Procedure place copies) c spots = refl
-cell_is AfterOf.Body c spots = refl
-cell_is (AfterOf.Function place) Normal spots = refl
-cell_is (AfterOf.Function place) (Transferred WayOf.Exit) spots = refl
-cell_is (AfterOf.Function place) (Transferred WayOf.Return) spots = refl
-cell_is (AfterOf.Function place) (Transferred (WayOf.ReturnValue n)) spots = refl
-cell_is (AfterOf.Function place) (Transferred WayOf.ReturnRecord) spots = refl
-cell_is (AfterOf.Function place) (Transferred (WayOf.Raise x)) spots = refl
-cell_is (AfterOf.Record place cells) Normal spots = refl
-cell_is (AfterOf.Record place cells) (Transferred WayOf.Exit) spots = refl
-cell_is (AfterOf.Record place cells) (Transferred WayOf.Return) spots = refl
-cell_is (AfterOf.Record place cells) (Transferred (WayOf.ReturnValue n)) spots = refl
-cell_is (AfterOf.Record place cells) (Transferred WayOf.ReturnRecord) spots = refl
-cell_is (AfterOf.Record place cells) (Transferred (WayOf.Raise x)) spots = refl
+cell_is after c spots = ap (λ (v : Option (List ℕ)). cell_given after v) (cells_are c spots)
 
 -- The parts that are left ----------------------------------------------------------------------------------------
 
 pub cut_returned : (r : Result Done) (parts : List Spot) → take (length parts) (with_returned r parts) ≡ parts
-cut_returned (O.Goes a) parts = all parts
-  where
-    all : (l : List Spot) → take (length l) l ≡ l
-    all l = ap (λ (z : List Spot). take (length l) z) (sym (append-nil l)) ∙ take_front l []
 cut_returned (O.Leaves (O.ByReturn (x ∷ z ∷ v))) parts = take_front parts (value_spot (x ∷ z ∷ v) ∷ [])
-cut_returned (O.Leaves (O.ByReturn [])) parts = ap (λ (z : List Spot). take (length parts) z) (sym (append-nil parts)) ∙ take_front parts []
-cut_returned (O.Leaves (O.ByReturn (x ∷ []))) parts = ap (λ (z : List Spot). take (length parts) z) (sym (append-nil parts)) ∙ take_front parts []
-cut_returned (O.Leaves O.ByExit) parts = ap (λ (z : List Spot). take (length parts) z) (sym (append-nil parts)) ∙ take_front parts []
-cut_returned (O.Leaves (O.ByRaise e)) parts = ap (λ (z : List Spot). take (length parts) z) (sym (append-nil parts)) ∙ take_front parts []
+cut_returned r parts = ap (λ (l : List Spot). take (length parts) l) (sym (append-nil parts)) ∙ take_front parts []
 
 -- with the value that is given
 pub parts_given : (after : After) (c : Completion) (r : Result Done) (spots parts : List Spot) (count : ℕ) → IsResult c r → (c ≡ Transferred WayOf.ReturnRecord → spots ≡ with_returned r parts) → take count spots ≡ parts
@@ -137,12 +97,8 @@ parts_given (AfterOf.Procedure place copies) c r spots parts count is there cut 
 parts_given (AfterOf.Function place) c r spots parts count is there cut = cut
 parts_given AfterOf.Body c r spots parts count is there cut = cut
 parts_given (AfterOf.Record place cells) c r spots parts count is there cut = ap (λ (l : List Spot). with_record (record_behind (AfterOf.Record place cells) r) l) cut
-parts_given (AfterOf.Block place) Normal r spots parts count is there cut = cut ∙ sym (plain_spots Normal r parts tt is)
-parts_given (AfterOf.Block place) (Transferred WayOf.Exit) r spots parts count is there cut = cut ∙ sym (plain_spots (Transferred WayOf.Exit) r parts tt is)
-parts_given (AfterOf.Block place) (Transferred WayOf.Return) r spots parts count is there cut = cut ∙ sym (plain_spots (Transferred WayOf.Return) r parts tt is)
-parts_given (AfterOf.Block place) (Transferred (WayOf.ReturnValue n)) r spots parts count is there cut = cut ∙ sym (plain_spots (Transferred (WayOf.ReturnValue n)) r parts tt is)
-parts_given (AfterOf.Block place) (Transferred (WayOf.Raise x)) r spots parts count is there cut = cut ∙ sym (plain_spots (Transferred (WayOf.Raise x)) r parts tt is)
 parts_given (AfterOf.Block place) (Transferred WayOf.ReturnRecord) r spots parts count is there cut = there refl
+parts_given (AfterOf.Block place) c r spots parts count is there cut = cut ∙ sym (plain_spots c r parts tt is)
 
 -- the cell is there that its value is put into
 pub given_within : (code : Code) (e : Kept) (after : After) (after' : T.After) (slots : List Slot) (k : List T.Frame) (w : World) (m : Master) (r : Result Done) (x : ℕ) → ComesBehind code e after after' slots k w m → cell_behind after r ≡ Some x → m.base < length e.cells

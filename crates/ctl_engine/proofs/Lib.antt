@@ -15,7 +15,6 @@ pub mod Closed
 pub mod Left
 pub mod Plain
 pub mod Computed
-pub mod Ends
 pub mod Started
 pub mod Prints
 pub mod Leading

@@ -10,7 +10,7 @@ use Rattle.ctl_meaning.specs.Finalization.{Spot}
 use Rattle.ctl_meaning.specs.Names.{scalar_of}
 use Rattle.ctl_meaning.specs.Objects as Objects
 use Rattle.ctl_meaning.specs.Outcome as O
-use Rattle.ctl_meaning.specs.Outcome.{ByRaise, Result, Done, completes_loop, program_error}
+use Rattle.ctl_meaning.specs.Outcome.{ByRaise, Result, Done, program_error}
 use Rattle.ctl_code.specs.declared.kinds.Kind.{Kind}
 use Rattle.ctl_code.specs.declared.kinds.Kind.TheVariants.{Operand}
 use Rattle.ctl_code.specs.declared.code.Code.{Code}
@@ -25,7 +25,7 @@ use Rattle.ctl_engine.specs.declared.engine.Engine.{Engine}
 use Rattle.ctl_engine.specs.declared.frame.After.{After}
 use Rattle.ctl_engine.specs.declared.frame.After.TheVariants as AfterOf
 use Rattle.ctl_engine.specs.declared.frame.Completion.{Completion}
-use Rattle.ctl_engine.specs.declared.frame.Completion.TheVariants.{Normal, Transferred}
+use Rattle.ctl_engine.specs.declared.frame.Completion.TheVariants.{Transferred}
 use Rattle.ctl_engine.specs.declared.frame.Master.{Master}
 use Rattle.ctl_engine.specs.declared.frame.Mode.{Mode}
 use Rattle.ctl_engine.specs.declared.frame.Mode.TheVariants as ModeOf
@@ -127,26 +127,18 @@ record_within code e place cells cells' p slots k w m b =
 record_plainly : (code : Code) (e : Kept) (place cells cells' : ℕ) (p : T.Point) (c : Completion) (slots : List Slot) (k : List T.Frame) (w : World) (m : Master) → IsPlainly c → ComesBehind code e (AfterOf.Record place cells) (T.AfterFunction (Some cells') p) slots k w m
     → ShowsMove code (with_given (AfterOf.Record place cells) (result_of c) m (standing k p.operands) e) (mode_behind (AfterOf.Record place cells) c) (behind (T.AfterFunction (Some cells') p) (result_of c) slots k w)
 unfolding program_error
-record_plainly code e place cells cells' p Normal slots k w m plain b = record_raises code e place cells cells' p program_error slots k w m b
-record_plainly code e place cells cells' p (Transferred WayOf.Exit) slots k w m plain b = record_raises code e place cells cells' p program_error slots k w m b
 record_plainly code e place cells cells' p (Transferred WayOf.Return) slots k w m plain b = record_goes code e place cells cells' p [] slots k w m b
 record_plainly code e place cells cells' p (Transferred (WayOf.ReturnValue n)) slots k w m plain b = record_goes code e place cells cells' p (n ∷ []) slots k w m b
 record_plainly code e place cells cells' p (Transferred WayOf.ReturnRecord) slots k w m plain b = absurd plain
 record_plainly code e place cells cells' p (Transferred (WayOf.Raise x)) slots k w m plain b = record_raises code e place cells cells' p x slots k w m b
+record_plainly code e place cells cells' p c slots k w m plain b = record_raises code e place cells cells' p program_error slots k w m b
 
 -- any other leaves a cell, and no record
 plain_cell : (after : After) (c : Completion) → IsPlainly c → GivesNoRecord after → value_behind after c ≡ cell_behind after (result_of c)
 unfolding scalar_of item_or
 plain_cell (AfterOf.Record place cells) c plain none = absurd none
-plain_cell (AfterOf.Function place) Normal plain none = refl
-plain_cell (AfterOf.Function place) (Transferred WayOf.Exit) plain none = refl
-plain_cell (AfterOf.Function place) (Transferred WayOf.Return) plain none = refl
-plain_cell (AfterOf.Function place) (Transferred (WayOf.ReturnValue n)) plain none = refl
 plain_cell (AfterOf.Function place) (Transferred WayOf.ReturnRecord) plain none = absurd plain
-plain_cell (AfterOf.Function place) (Transferred (WayOf.Raise x)) plain none = refl
-plain_cell (AfterOf.Block place) c plain none = refl
-plain_cell (AfterOf.Procedure place copies) c plain none = refl
-plain_cell AfterOf.Body c plain none = refl
+plain_cell after c plain none = refl
 
 plain_parts : (after : After) (c : Completion) (parts : List Spot) → IsPlainly c → GivesNoRecord after → parts ≡ spots_behind after (result_of c) parts
 plain_parts (AfterOf.Record place cells) c parts plain none = absurd none
@@ -219,15 +211,11 @@ shows_given code e after after' c r slots k w m is b = by c is
     plain d p h = subst (λ (x : Result Done). ShowsMove code (with_given after x m (standing k (aside after')) e) (mode_behind after d) (behind after' x slots k w)) (sym (result_is d r p h)) (given_plainly code e after after' d slots k w m p b)
 
     by : (d : Completion) → IsResult d r → ShowsMove code (with_given after r m (standing k (aside after')) e) (mode_behind after d) (behind after' r slots k w)
-    by Normal h = plain Normal tt h
-    by (Transferred WayOf.Exit) h = plain (Transferred WayOf.Exit) tt h
-    by (Transferred WayOf.Return) h = plain (Transferred WayOf.Return) tt h
-    by (Transferred (WayOf.ReturnValue n)) h = plain (Transferred (WayOf.ReturnValue n)) tt h
-    by (Transferred (WayOf.Raise x)) h = plain (Transferred (WayOf.Raise x)) tt h
     by (Transferred WayOf.ReturnRecord) h =
         let v = h.2 in
         let whole : r ≡ of_value (v.0 ∷ v.1 ∷ v.2) = h.1 ∙ ap (λ (y : O.Way). O.Leaves y) v.3 in
         subst (λ (x : Result Done). ShowsMove code (with_given after x m (standing k (aside after')) e) (mode_behind after (Transferred WayOf.ReturnRecord)) (behind after' x slots k w)) (sym whole) (waits_behind code e after after' v.0 v.1 v.2 slots k w m b)
+    by d h = plain d tt h
 
 -- a master that owned nothing any more has been left
 pub given_makes : (code : Code) (old new : Engine) (e : Kept) (after : After) (after' : T.After) (c : Completion) (r : Result Done) (slots : List Slot) (k : List T.Frame) (w : World) (m : Master) → IsResult c r → ComesBehind code e after after' slots k w m

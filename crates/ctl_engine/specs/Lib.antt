@@ -4,7 +4,6 @@ pub mod Masters
 pub mod Under
 pub mod Shows
 pub mod Moves
-pub mod Machine
 pub mod Prints
 pub mod Links
 pub mod Departing

@@ -47,7 +47,7 @@ fn returned_by(way: Way) -> Option<u64>
     match way {
         Way::Return => Some(0),
         Way::ReturnValue(value) => Some(value),
-        Way::Exit | Way::Raise(_) | Way::ReturnRecord => None,
+        _ => None,
     }
 }
 

@@ -1,18 +1,29 @@
 //! Where the end of a master leads, and where control comes behind it.
 
 ghost use Rattle.std.specs.Prelude.{◌≡◌, ◌≢◌, ◌-◌, IfNone, IfSome, Some, length, slice_get};
+ghost use Rattle.ctl_meaning.specs.Outcome as Outcome;
+ghost use Rattle.ctl_code.specs.Table as Table;
 ghost use Rattle.ctl_engine.specs.declared.frame.Frame.TheVariants as FrameOf;
 ghost use Rattle.ctl_engine.specs.declared.frame.After.{After};
 ghost use Rattle.ctl_engine.specs.declared.frame.Handling.{Handling};
 
 use crate::engine::Engine;
 use crate::frame::{After, Frame};
+use ctl_code::code::Way;
 
 /// The place where control comes behind a master that is left, and the first cell of the window that is the newest one then.
 #[derive(Clone, Copy)]
 pub struct Continuation {
     pub place: usize,
     pub window: usize,
+}
+
+/// Tells whether a transfer of control this way completes the loop that is left, as an exit statement does (RM 5.7).
+#[inline(always)]
+pub fn completes_loop(way: Way) -> bool
+    ensures { result ≡ Outcome.completes_loop (Table.way_of way) }
+{
+    matches!(way, Way::Exit)
 }
 
 impl Engine {

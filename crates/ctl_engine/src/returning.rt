@@ -267,6 +267,7 @@ impl Engine {
     }
 
     /// Answers the cell of the value of a function behind a master, whose statements were completed so, if one stands there (RM 6.5).
+    #[tactic(auto, unfolding(ctl_meaning::specs::Names::scalar_of, ctl_meaning::specs::Lists::item_or))]
     pub fn cell_behind(&self, after: After, completion: Completion) -> Option<u64>
         requires { completion ≡ CompletionOf.Transferred WayOf.ReturnRecord → 0 < length self.now.spots.items }
         ensures { result ≡ Returning.cell_by after completion (last_value self.now.spots.items) }

@@ -1,1 +1,4 @@
+pub mod BrokenOff
+pub mod Going
+pub mod Printed
 pub mod Refused

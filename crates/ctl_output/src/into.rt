@@ -5,12 +5,15 @@ ghost use Rattle.std.specs.Io.KnownBytes.{Appends};
 ghost use Rattle.ctl_sink.specs.Prefix.{AppendsPart};
 ghost use Rattle.ctl_lexis.specs.Lexis.{HasFault};
 ghost use Rattle.ctl_front.specs.Text.{BreaksForm};
+ghost use Rattle.ctl_run.specs.Headline.{account_of};
 ghost use Rattle.ctl_verdict.specs.Verdict.{IsFaultOf, IsFaultless};
 ghost use Rattle.ctl_output.specs.Refusals.{IsRefusal, IsRefusalWith, IsRefusedFor, WantsMemory};
 ghost use Rattle.ctl_output.specs.Shown.{shown_by, Summarizes, WritesPart, WritesWhole};
 ghost use Rattle.ctl_tree.specs.declared.fault.Fault.{Fault};
+ghost use Rattle.ctl_tree.specs.declared.request.Show.TheVariants.{Trace};
 ghost use Rattle.ctl_output.specs.declared.summary.RunFault.TheVariants.{Write};
 
+use crate::printing::run_printing;
 use crate::summary::{RunFault, Summary};
 use ctl_engine::outcome::Outcome;
 use ctl_run::run::run_source;
@@ -26,7 +29,7 @@ pub fn text_of<A: Allocator>(
     outcome: &Outcome,
     show: Show,
 ) -> Result<Vec<u8, A>, AllocError>
-    ensures { IfOk result (λ text. text.items ≡ shown_by show outcome.now) }
+    ensures { IfOk result (λ text. text.items ≡ shown_by show (account_of outcome.now)) }
 {
     match show {
         Show::Output => output_text_in(alloc, &outcome.events),
@@ -47,8 +50,8 @@ pub fn put_run<S: Sink, A: Allocator>(
     sink: &mut S,
 ) -> Result<(), RunFault>
     requires { S.has_failed sink.old ≡ false }
-    ensures ok { OnOk result (Appends (S.taken sink.old) (S.taken sink.new) (shown_by show outcome.now)) }
-    ensures write { IsErrOf result Write → AppendsPart (S.taken sink.old) (S.taken sink.new) (shown_by show outcome.now) }
+    ensures ok { OnOk result (Appends (S.taken sink.old) (S.taken sink.new) (shown_by show (account_of outcome.now))) }
+    ensures write { IsErrOf result Write → AppendsPart (S.taken sink.old) (S.taken sink.new) (shown_by show (account_of outcome.now)) }
     ensures refused { IfErr result (λ fault. IsRefusal fault → sink.new ≡ sink.old) }
     ensures memory { IfErr result WantsMemory }
     ensures failed { (S.has_failed sink.new ≡ true) ↔ IsErrOf result Write }
@@ -70,9 +73,9 @@ fn show_run<S: Sink, A: Allocator>(
     sink: &mut S,
 ) -> Result<Summary, RunFault>
     requires { S.has_failed sink.old ≡ false }
-    ensures whole { OnOk result (Appends (S.taken sink.old) (S.taken sink.new) (shown_by show outcome)) }
-    ensures summary { IfOk result (Summarizes outcome) }
-    ensures write { IsErrOf result Write → AppendsPart (S.taken sink.old) (S.taken sink.new) (shown_by show outcome) }
+    ensures whole { OnOk result (Appends (S.taken sink.old) (S.taken sink.new) (shown_by show (account_of outcome))) }
+    ensures summary { IfOk result (Summarizes (account_of outcome)) }
+    ensures write { IsErrOf result Write → AppendsPart (S.taken sink.old) (S.taken sink.new) (shown_by show (account_of outcome)) }
     ensures refused { IfErr result (λ fault. IsRefusal fault → sink.new ≡ sink.old) }
     ensures memory { IfErr result WantsMemory }
     ensures failed { (S.has_failed sink.new ≡ true) ↔ IsErrOf result Write }
@@ -81,8 +84,31 @@ fn show_run<S: Sink, A: Allocator>(
     Ok(Summary::from(outcome))
 }
 
-/// Runs a source text to its end, by at most `steps` machine steps, and then puts the text that shows the run into a
-/// sink that has not failed. Returns the summary of the run. A short `put` is continued.
+/// Runs a source text by at most `steps` machine steps, and then puts its trace into a sink that has not failed, as `run_into` does.
+fn run_tracing<S: Sink>(
+    alloc: Global,
+    source: &[u8],
+    order: Order,
+    steps: u64,
+    sink: &mut S,
+) -> Result<Summary, RunFault>
+    requires { S.has_failed sink.old ≡ false }
+    ensures ok { IfOk result (WritesWhole source.now order steps Trace (S.taken sink.old) (S.taken sink.new)) }
+    ensures write { IsErrOf result Write → WritesPart source.now order steps Trace (S.taken sink.old) (S.taken sink.new) }
+    ensures refused { IfErr result (λ fault. IsRefusal fault → sink.new ≡ sink.old) }
+    ensures failed { (S.has_failed sink.new ≡ true) ↔ IsErrOf result Write }
+    ensures because { IfErr result (IsRefusedFor source.now) }
+    ensures faulty { (fault : Fault) → IsFaultOf source.now fault → MatchResult result (λ _. ⊥) (IsRefusalWith fault) }
+    ensures faultless { IsFaultless source.now → IfErr result WantsMemory }
+{
+    match run_source(alloc, source, order, steps) {
+        Ok(outcome) => show_run(alloc, outcome, Show::Trace, sink),
+        Err(fault) => Err(RunFault::from(fault)),
+    }
+}
+
+/// Runs a source text by at most `steps` machine steps, and puts the text that shows the run into a sink that has not failed: what it prints
+/// as it goes, within some steps, and its trace at its end. Returns the summary of the run. A short `put` is continued.
 ///
 /// # Errors
 ///
@@ -116,8 +142,8 @@ pub fn run_into<S: Sink>(
     // A text that has none is refused only because memory ran out.
     ensures faultless { IsFaultless source.now → IfErr result WantsMemory }
 {
-    match run_source(alloc, source, order, steps) {
-        Ok(outcome) => show_run(alloc, outcome, show, sink),
-        Err(fault) => Err(RunFault::from(fault)),
+    match show {
+        Show::Output => run_printing(alloc, source, order, steps, sink),
+        Show::Trace => run_tracing(alloc, source, order, steps, sink),
     }
 }

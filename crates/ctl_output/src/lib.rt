@@ -2,6 +2,7 @@
 #![tactic(auto)]
 
 mod into;
+mod printing;
 mod summary;
 
 pub use into::{put_run, run_into};

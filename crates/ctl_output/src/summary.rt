@@ -16,9 +16,10 @@ pub struct Summary {
 }
 
 impl From<Outcome> for Summary {
+    ghost use Rattle.ctl_run.specs.Headline.{account_of};
     ghost use Rattle.ctl_output.specs.Shown.{Summarizes};
 
-    ghost from_gives = { Summarizes };
+    ghost from_gives = { λ outcome summary. Summarizes (account_of outcome) summary };
 
     fn from(outcome: Outcome) -> Summary {
         Summary {

@@ -14,10 +14,9 @@ use Rattle.ctl_code.specs.Steps.{step, machine, end_at, end_of}
 use Rattle.ctl_code.specs.Laws.{IsPrefix}
 use Rattle.ctl_gen.specs.Correct.{Behaves, HasReached}
 use Rattle.ctl_layout.specs.Layout.{IsLaidOut}
-use Rattle.ctl_engine.specs.declared.outcome.Outcome.{Outcome}
-use Rattle.ctl_engine.specs.Machine.{Running, Reports, Ends, after_steps}
 use Rattle.ctl_engine.specs.Shows.{chosen}
-use Rattle.ctl_run.specs.Headline.{ByItself, Reaches, Headline}
+use Rattle.ctl_machine.specs.Machine.{Running, Ends, after_steps}
+use Rattle.ctl_run.specs.Headline.{Account, ByItself, Headline, Reaches}
 
 -- A machine that has ended ----------------------------------------------------------------------------
 
@@ -57,7 +56,7 @@ ended StepLimit m n own h = absurd own
 ended HostMemory m n own h = absurd own
 
 -- the table has come to the end of an outcome, and so has the run
-reaches : (code : Code) (s : State) (o : Outcome) (meant : Meaning.Outcome) → o.events.items ≡ s.log.trace → HasReached code s meant → ((e : End) → end_of code s ≡ Some e → o.end ≡ e) → Reaches o s.log.taken meant
+reaches : (code : Code) (s : State) (o : Account) (meant : Meaning.Outcome) → o.events ≡ s.log.trace → HasReached code s meant → ((e : End) → end_of code s ≡ Some e → o.end ≡ e) → Reaches o s.log.taken meant
 reaches code s o meant events reached same = record {
   end = λ e h. (same e (reached.end e h).0, events ∙ (reached.end e h).1, (reached.end e h).2);
   trace = subst (λ es. IsPrefix meant.trace es) (sym events) reached.trace;
@@ -67,7 +66,15 @@ reaches code s o meant events reached same = record {
 only : (x : Option End) (e f : End) → x ≡ Some e → x ≡ Some f → e ≡ f
 only x e f h i = search (h, i)
 
-module _ (program : Checked) (m : Running) (limit : ℕ) (o : Outcome) (laid_out : IsLaidOut program m.code) (behaves : Behaves program m.code) (reports : Reports m o) (within : m.steps ≤ limit) (counted : m.has_ended ≡ false → m.steps ≡ limit) where
+-- An account of all that a machine has shown ---------------------------------------------------------------
+
+pub record Tells (m : Running) (o : Account) : Type 0 where
+  pub steps : o.steps ≡ m.steps
+  pub events : o.events ≡ (after_steps m.code m.order m.steps).log.trace
+  pub picks : o.picks ≡ chosen (after_steps m.code m.order m.steps).log.taken
+  pub end : Ends o.end m m.steps
+
+module _ (program : Checked) (m : Running) (limit : ℕ) (o : Account) (laid_out : IsLaidOut program m.code) (behaves : Behaves program m.code) (reports : Tells m o) (within : m.steps ≤ limit) (counted : m.has_ended ≡ false → m.steps ≡ limit) where
   abbrev ask : Ask
   ask = answer m.order
 
@@ -75,8 +82,8 @@ module _ (program : Checked) (m : Running) (limit : ℕ) (o : Outcome) (laid_out
   abbrev final : State
   final = after_steps m.code m.order o.steps
 
-  events : o.events.items ≡ final.log.trace
-  events = subst (λ n. o.events.items ≡ (after_steps m.code m.order n).log.trace) (sym reports.steps) reports.events
+  events : o.events ≡ final.log.trace
+  events = subst (λ n. o.events ≡ (after_steps m.code m.order n).log.trace) (sym reports.steps) reports.events
 
   end : Ends o.end m o.steps
   end = subst (λ n. Ends o.end m n) (sym reports.steps) reports.end
@@ -106,7 +113,7 @@ module _ (program : Checked) (m : Running) (limit : ℕ) (o : Outcome) (laid_out
       let run = behaves.after ask o.steps in
       record {
         taken = final.log.taken;
-        reported = subst (λ n. o.picks.items ≡ chosen (after_steps m.code m.order n).log.taken) (sym reports.steps) reports.picks;
+        reported = subst (λ n. o.picks ≡ chosen (after_steps m.code m.order n).log.taken) (sym reports.steps) reports.picks;
         so_far = subst (λ es. IsPrefix es (outcome program (replayed final.log.taken) o.steps).trace) (sym events) run.so_far;
         whole = λ itself. let w = run.whole o.end (ended o.end m o.steps itself end) in (w.0, w.1 ∙ sym events);
         no_pick_left = run.no_pick_left;

@@ -3,13 +3,12 @@ use Rattle.std.specs.Prelude.{◌≡◌, ◌≤◌, ◌<◌, ◌⊎◌, ℕ, Boo
 use Rattle.std.specs.Io.KnownBytes.{Appends, Consumes, IsAtEnd, Keeps}
 use Rattle.ctl_job.specs.declared.job.Job.{Job}
 use Rattle.ctl_job.specs.declared.job.Job.TheVariants.{Check, Run}
-use Rattle.ctl_engine.specs.declared.outcome.Outcome.{Outcome}
 use Rattle.ctl_output.specs.Shown.{shown_by}
 use Rattle.ctl_serve.specs.Statuses.{end_status, exit_code, fault_status}
 use Rattle.ctl_serve.specs.declared.status.Status.{Status}
 use Rattle.ctl_serve.specs.declared.status.Status.TheVariants.{Done, Raised, Refused, Stopped, StepLimit, HostMemory, Usage, InputOutput}
 use Rattle.ctl_program.specs.declared.program.Checked.{Checked}
-use Rattle.ctl_run.specs.Headline.{RunsSource}
+use Rattle.ctl_run.specs.Headline.{Account, RunsSource}
 use Rattle.ctl_verdict.specs.Verdict.{IsFaultOf, IsVerdict}
 use Rattle.ctl_sink.specs.Prefix.{AppendsUpTo}
 use Rattle.ctl_tree.specs.declared.fault.Fault.{Fault}
@@ -57,10 +56,10 @@ pub record WritesOk (source : List ℕ) (old new : Option (List ℕ)) : Type 0 w
 
 -- the whole text was written that shows a run of this source, under this order and limit of steps, and the status tells how it ended
 pub record WritesRun (source : List ℕ) (order : Order) (steps : ℕ) (show : Show) (old new : Option (List ℕ)) (status : Status) : Type 0 where
-  pub outcome : Outcome
-  pub runs : RunsSource source order steps outcome
-  pub ended : end_status outcome.end ≡ status
-  pub whole : Appends old new (shown_by show outcome)
+  pub account : Account
+  pub runs : RunsSource source order steps account
+  pub ended : end_status account.end ≡ status
+  pub whole : Appends old new (shown_by show account)
 
 -- what is written for a job that was done, under the order and the limit of steps of the job
 abbrev pub WritesFor : Job → List ℕ → Option (List ℕ) → Option (List ℕ) → Status → Type 0
@@ -86,9 +85,9 @@ pub record WritesOkUpTo (source : List ℕ) (old new : Option (List ℕ)) : Type
 
 -- the text was to be written that shows a run of this source, under this order and limit of steps: its beginning was, or all of it
 pub record WritesRunUpTo (source : List ℕ) (order : Order) (steps : ℕ) (show : Show) (old new : Option (List ℕ)) : Type 0 where
-  pub outcome : Outcome
-  pub runs : RunsSource source order steps outcome
-  pub part : AppendsUpTo old new (shown_by show outcome)
+  pub account : Account
+  pub runs : RunsSource source order steps account
+  pub part : AppendsUpTo old new (shown_by show account)
 
 -- what is written for a job where the sink failed
 abbrev pub WritesUpTo : Job → List ℕ → Option (List ℕ) → Option (List ℕ) → Type 0

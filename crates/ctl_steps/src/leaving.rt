@@ -24,6 +24,7 @@ use ctl_engine::engine::Engine;
 use ctl_engine::finalizing::{Finalization, doubled};
 use ctl_engine::frame::{After, Completion, Ended, Formal, Frame, Mode, Role};
 use ctl_engine::layers::{PROGRAM_ERROR, forget_owned, says_failed};
+use ctl_engine::leaving::completes_loop;
 use ctl_engine::parts::parts_of;
 use ctl_engine::returning::concerns_record;
 use ctl_engine::spots::Spot;
@@ -40,8 +41,13 @@ pub fn mode_behind(after: After, completion: Completion) -> Mode
 {
     match (after, completion) {
         (After::Block(place), Completion::Normal) => Mode::At(place + 1),
-        (After::Block(place), Completion::Transferred(Way::Exit)) => Mode::At(place),
-        (After::Block(_), Completion::Transferred(way)) => Mode::Transfers(way),
+        (After::Block(place), Completion::Transferred(way)) => {
+            if completes_loop(way) {
+                Mode::At(place)
+            } else {
+                Mode::Transfers(way)
+            }
+        }
         (After::Body, Completion::Transferred(Way::Raise(exception))) => {
             Mode::Giving(Ended::Raised(exception))
         }

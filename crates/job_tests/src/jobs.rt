@@ -237,36 +237,69 @@ fn a_file_that_is_not_opened_has_status_74(rt: HostRuntime) {
     assert!(rt; status == 74 && is_said(&err, "adactl: read failed\n"));
 }
 
+/// A limit of steps that no test comes to.
+const MANY_STEPS: u64 = 1_000_000_000;
+
 /// Runs a text into a writer, and answers what is known of the run and whether the sink failed.
 fn run_limited(
     alloc: Global,
     source: &str,
+    show: Show,
     out: &mut Limited,
 ) -> (Result<Summary, RunFault>, bool) {
     let mut sink = Through::new(out);
     let source = source.as_bytes();
-    let result = run_into(alloc, source, Order::Newest, 1000, Show::Trace, &mut sink);
+    let result = run_into(alloc, source, Order::Newest, MANY_STEPS, show, &mut sink);
     let failed = sink.failed();
     (result, failed)
 }
 
-/// Says whether a writer that takes so many bytes at a time has the whole trace of a run.
-fn takes_all(alloc: Global, at_once: usize) -> bool {
+/// Says whether a writer that takes so many bytes at a time has this whole text, which shows a run.
+fn takes_all(alloc: Global, at_once: usize, show: Show, text: &str) -> bool {
     let mut out = Limited::new(alloc, at_once, 10_000);
-    let (result, failed) = run_limited(alloc, TWO_OBJECTS, &mut out);
-    result.is_ok() && !failed && out.bytes.as_slice() == TWO_OBJECTS_TRACE.as_bytes()
+    let (result, failed) = run_limited(alloc, TWO_OBJECTS, show, &mut out);
+    result.is_ok() && !failed && out.bytes.as_slice() == text.as_bytes()
 }
 
 #[test]
 fn a_writer_may_take_one_byte_at_a_time(rt: HostRuntime) {
-    assert!(rt; takes_all(rt.alloc(), 1));
+    assert!(rt; takes_all(rt.alloc(), 1, Show::Trace, TWO_OBJECTS_TRACE));
+    assert!(rt; takes_all(rt.alloc(), 1, Show::Output, TWO_OBJECTS_OUTPUT));
+}
+
+/// A program that prints lines without end.
+const ENDLESS: &str = "with Ada.Text_IO; use Ada.Text_IO;
+procedure Main is begin loop Put_Line (\"x\"); end loop; end Main;";
+
+/// Says whether these bytes are lines of one `x`, the last of which may want its end.
+fn are_lines(bytes: &[u8]) -> bool {
+    for at in 0..bytes.len() {
+        let wanted = if at % 2 == 0 { b'x' } else { b'\n' };
+        if bytes[at] != wanted {
+            return false;
+        }
+    }
+    true
+}
+
+/// Says whether a program that prints without end is broken off where a writer has no more room, and has filled it till then.
+fn is_broken_off(alloc: Global, room: usize) -> bool {
+    let mut out = Limited::new(alloc, 3, room);
+    let (result, failed) = run_limited(alloc, ENDLESS, Show::Output, &mut out);
+    let taken = out.bytes.as_slice();
+    matches!(&result, Err(RunFault::Write)) && failed && taken.len() == room && are_lines(taken)
+}
+
+#[test]
+fn what_is_printed_is_put_as_the_run_goes(rt: HostRuntime) {
+    assert!(rt; is_broken_off(rt.alloc(), 2_001));
 }
 
 /// Says whether a writer with this room, less than a trace has, fails with as much of the trace as there is room for.
 fn takes_prefix(alloc: Global, room: usize, answers_error: bool) -> bool {
     let mut out = Limited::new(alloc, 3, room);
     out.answers_error = answers_error;
-    let (result, failed) = run_limited(alloc, EMPTY, &mut out);
+    let (result, failed) = run_limited(alloc, EMPTY, Show::Trace, &mut out);
     let taken = out.bytes.as_slice();
     matches!(&result, Err(RunFault::Write))
         && failed
@@ -285,7 +318,7 @@ fn a_writer_that_fails_took_a_prefix(rt: HostRuntime) {
 /// Says whether a text is refused, and nothing of it is written.
 fn writes_nothing(alloc: Global, source: &str) -> bool {
     let mut out = Limited::new(alloc, 3, 0);
-    let (result, failed) = run_limited(alloc, source, &mut out);
+    let (result, failed) = run_limited(alloc, source, Show::Trace, &mut out);
     matches!(&result, Err(RunFault::Refused(_))) && !failed && out.bytes.is_empty()
 }
 

@@ -3,7 +3,7 @@ use Rattle.ctl_meaning.specs.Finalization.{Spot}
 use Rattle.ctl_code.specs.declared.code.Way.{Way}
 use Rattle.ctl_engine.specs.Returning.{parts_for}
 use Rattle.ctl_engine.specs.Spots.{value_spot}
-use Rattle.ctl_engine.proofs.LeftWithRecord.{plain_parts_for}
+use Rattle.ctl_engine.proofs.Ways.{plain_parts_for}
 use Rattle.ctl_engine.proofs.Words.{same_front}
 use Rattle.ctl_engine.proofs.returning.put_waiting.Goals as goal
 

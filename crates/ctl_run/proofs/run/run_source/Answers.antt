@@ -1,25 +1,18 @@
-use Rattle.std.proofs.Common.{◌≡◌, ◌≤◌, Ok, refl, inr, ap, sym, subst, ◌∙◌, arith, false}
+use Rattle.std.proofs.Common.{◌≡◌, ◌≤◌, ◌++◌, inr, ap, sym, subst, ◌∙◌, arith, false}
 use Rattle.std.proofs.lemmas.Result.{err_from_is_err_and}
 use Rattle.ctl_tree.specs.declared.request.Order.{Order}
 use Rattle.ctl_code.specs.declared.code.Code.{Code}
-use Rattle.ctl_gen.specs.Correct.{Behaves}
-use Rattle.ctl_layout.specs.Layout.{IsLaidOut}
-use Rattle.ctl_gen.proofs.FormedWhole.{linked_of}
-use Rattle.ctl_engine.specs.Machine.{Running}
-use Rattle.ctl_meaning.specs.Choice.{replayed}
-use Rattle.ctl_run.specs.Headline.{Headline}
-use Rattle.ctl_run.proofs.Composed.{composed}
-use Rattle.ctl_run.proofs.Orderly.{shown_orderly}
-use Rattle.ctl_verdict.proofs.Verdicts.{answer_of, for_memory, not_accepted, refused_for, refused_with_it, runs_of, verdict_of}
-use Rattle.ctl_verdict.proofs.WellTyped.{well_typed}
+use Rattle.ctl_machine.specs.Machine.{Running, after_steps, shown_between}
+use Rattle.ctl_machine.proofs.Shown.{shown_from_start}
+use Rattle.ctl_run.specs.Headline.{RunsSource, account_of}
+use Rattle.ctl_verdict.specs.Compiled.{IsCodeOf}
+use Rattle.ctl_run.proofs.Composed.{Tells}
+use Rattle.ctl_run.proofs.Sources.{in_source}
 use Rattle.ctl_run.proofs.run.run_source.Goals as goal
 
 pub returns-clause-headline : goal.returns-clause-headline
 returns-clause-headline c =
-    let program = c.in_ok-program.program in
-    let verdict = verdict_of c.args.source.now program c.in_ok-program.ensures in
-    let typed = well_typed c.args.source.now program (answer_of c.args.source.now (Ok program) program verdict refl) in
-    let runs = runs_of c.args.source.now (Ok program) program verdict refl in
+    let source = c.args.source.now in
     let m = c.run.new.self in
     let new = c.in_ok-machine.ensures in
     let code = c.run.ensures.code ∙ ap (λ (x : Running). x.code) new in
@@ -27,53 +20,37 @@ returns-clause-headline c =
     let start = ap (λ (x : Running). x.steps) new in
     let within : m.steps ≤ c.args.steps = omega (arith, c.run.ensures.bound, start) in
     let counted : m.has_ended ≡ false → m.steps ≡ c.args.steps = λ running. let h = c.run.ensures.counted running in omega (arith, h, start, c.ranges.steps.fits) in
-    let laid_out : IsLaidOut program m.code = subst (λ (x : Code). IsLaidOut program x) (sym code) c.in_ok-code.ensures.layout in
-    let behaves : Behaves program m.code = subst (λ (x : Code). Behaves program x) (sym code) (c.in_ok-code.ensures.behaves runs (linked_of program typed)) in
-    let h : Headline program c.args.order c.args.steps c.finish.result = subst (λ (x : Order). Headline program x c.args.steps c.finish.result) order (composed program m c.args.steps c.finish.result laid_out behaves c.finish.ensures within counted) in
-    record {
-      program = program;
-      accepted = verdict;
-      headline = h;
-      orderly = shown_orderly program typed (replayed h.taken) c.finish.result.steps c.finish.result.events.items h.so_far;
-    }
+    let before = ap (λ (x : Running). x.waiting ++ shown_between x.code x.order x.steps m.steps) new in
+    let same : shown_between c.in_ok-code.code c.args.order 0 m.steps ≡ (after_steps m.code m.order m.steps).log.trace =
+    shown_from_start c.in_ok-code.code c.args.order m.steps ∙ (ap (λ (x : Code). (after_steps x c.args.order m.steps).log.trace) (sym code) ∙ ap (λ (x : Order). (after_steps m.code x m.steps).log.trace) (sym order)) in
+    let reports = c.finish.ensures in
+    let told : Tells m (account_of c.finish.result) = record {
+      steps = reports.steps;
+      events = reports.events ∙ (c.run.ensures.shows ∙ (before ∙ same));
+      picks = reports.picks;
+      end = reports.end;
+    } in
+    let of : IsCodeOf source m.code = subst (λ (x : Code). IsCodeOf source x) (sym code) c.in_ok-code.ensures.compiled in
+    subst (λ (x : Order). RunsSource source x c.args.steps (account_of c.finish.result)) order (in_source source m c.args.steps (account_of c.finish.result) of told within counted)
 
--- the check refuses the text for its fault, or for want of memory
-
-pub returns-in_err-program-clause-refused : goal.returns-in_err-program-clause-refused
-returns-in_err-program-clause-refused c =
-    let p = err_from_is_err_and c.from_residual.result c.from_residual.ensures.1 in
-    rw (p.1, p.2) (refused_for c.args.source.now c.in_err-program.field-0.0 c.in_err-program.ensures)
-
-pub returns-in_err-program-clause-faulty : goal.returns-in_err-program-clause-faulty
-returns-in_err-program-clause-faulty c = λ fault has.
-    let p = err_from_is_err_and c.from_residual.result c.from_residual.ensures.1 in
-    rw (p.1, p.2) (refused_with_it c.args.source.now fault c.in_err-program.field-0.0 has c.in_err-program.ensures)
-
-pub returns-in_err-program-clause-faultless : goal.returns-in_err-program-clause-faultless
-returns-in_err-program-clause-faultless c = λ text.
-    let p = err_from_is_err_and c.from_residual.result c.from_residual.ensures.1 in
-    rw (p.1, p.2) (for_memory c.args.source.now c.in_err-program.field-0.0 text c.in_err-program.ensures)
-
--- behind it only memory is wanting: the code of a well-typed program that is run is valid
+-- no code was made of the text
 
 pub returns-in_err-code-clause-refused : goal.returns-in_err-code-clause-refused
 returns-in_err-code-clause-refused c =
-    let program = c.in_ok-program.program in
-    let verdict = verdict_of c.args.source.now program c.in_ok-program.ensures in
-    let typed = well_typed c.args.source.now program (answer_of c.args.source.now (Ok program) program verdict refl) in
-    let p = err_from_is_err_and c.from_residual-in_err-code.result c.from_residual-in_err-code.ensures.1 in
-    rw (p.1, p.2) (inr (c.in_err-code.ensures.memory (runs_of c.args.source.now (Ok program) program verdict refl) typed))
+    let p = err_from_is_err_and c.from_residual.result c.from_residual.ensures.1 in
+    rw (p.1, p.2) c.in_err-code.ensures.refused
+
+pub returns-in_err-code-clause-faulty : goal.returns-in_err-code-clause-faulty
+returns-in_err-code-clause-faulty c = λ fault has.
+    let p = err_from_is_err_and c.from_residual.result c.from_residual.ensures.1 in
+    rw (p.1, p.2) (c.in_err-code.ensures.faulty fault has)
 
 pub returns-in_err-code-clause-faultless : goal.returns-in_err-code-clause-faultless
 returns-in_err-code-clause-faultless c = λ text.
-    let program = c.in_ok-program.program in
-    let verdict = verdict_of c.args.source.now program c.in_ok-program.ensures in
-    let typed = well_typed c.args.source.now program (answer_of c.args.source.now (Ok program) program verdict refl) in
-    let p = err_from_is_err_and c.from_residual-in_err-code.result c.from_residual-in_err-code.ensures.1 in
-    rw (p.1, p.2) (c.in_err-code.ensures.memory (runs_of c.args.source.now (Ok program) program verdict refl) typed)
+    let p = err_from_is_err_and c.from_residual.result c.from_residual.ensures.1 in
+    rw (p.1, p.2) (c.in_err-code.ensures.faultless text)
 
-pub returns-in_err-code-clause-faulty : goal.returns-in_err-code-clause-faulty
-returns-in_err-code-clause-faulty c = λ fault has. absurd (not_accepted c.args.source.now fault c.in_ok-program.program has c.in_ok-program.ensures)
+-- no machine was made of it, for want of memory
 
 pub returns-in_err-machine-clause-refused : goal.returns-in_err-machine-clause-refused
 returns-in_err-machine-clause-refused c =
@@ -86,7 +63,7 @@ returns-in_err-machine-clause-faultless c = λ text.
     rw p.1 p.2
 
 pub returns-in_err-machine-clause-faulty : goal.returns-in_err-machine-clause-faulty
-returns-in_err-machine-clause-faulty c = λ fault has. absurd (not_accepted c.args.source.now fault c.in_ok-program.program has c.in_ok-program.ensures)
+returns-in_err-machine-clause-faulty c = λ fault has. absurd (c.in_ok-code.ensures.faulty fault has)
 
 pub returns-clause-faulty : goal.returns-clause-faulty
-returns-clause-faulty c = λ fault has. absurd (not_accepted c.args.source.now fault c.in_ok-program.program has c.in_ok-program.ensures)
+returns-clause-faulty c = λ fault has. absurd (c.in_ok-code.ensures.faulty fault has)

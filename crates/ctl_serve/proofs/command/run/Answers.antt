@@ -9,7 +9,7 @@ pub returns-else-is_err-clause-written : goal.returns-else-is_err-clause-written
 returns-else-is_err-clause-written g c = λ ends.
     let written = c.in-Ok.ensures.ok in
     record {
-      outcome = written.outcome;
+      account = written.account;
       runs = written.runs;
       ended = sym (c.status_of_end.ensures ∙ ap end_status written.summarized.end);
       whole = Appends-kept _ _ _ _ written.whole c.flush.ensures.taken;
@@ -19,7 +19,7 @@ pub returns-else-is_err-clause-memory : goal.returns-else-is_err-clause-memory
 returns-else-is_err-clause-memory g c = λ is.
     let written = c.in-Ok.ensures.ok in
     inr (record {
-      outcome = written.outcome;
+      account = written.account;
       runs = written.runs;
       ended = sym (c.status_of_end.ensures ∙ ap end_status written.summarized.end) ∙ is;
       whole = Appends-kept _ _ _ _ written.whole c.flush.ensures.taken;
@@ -30,7 +30,7 @@ pub returns-then-is_err-clause-broken : goal.returns-then-is_err-clause-broken
 returns-then-is_err-clause-broken g c = λ is.
     let written = c.in-Ok.ensures.ok in
     record {
-      outcome = written.outcome;
+      account = written.account;
       runs = written.runs;
       part = whole_up_to _ _ _ _ written.whole c.flush.ensures.taken;
     }
@@ -40,7 +40,7 @@ pub returns-in-Err-Write-clause-broken : goal.returns-in-Err-Write-clause-broken
 returns-in-Err-Write-clause-broken g c = λ is.
     let written = c.run_into.ensures.write (search rules) in
     record {
-      outcome = written.outcome;
+      account = written.account;
       runs = written.runs;
       part = part_up_to _ _ _ written.part;
     }
