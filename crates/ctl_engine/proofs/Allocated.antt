@@ -25,23 +25,23 @@ use Rattle.ctl_code.specs.Valid.{IsValid, Leads}
 use Rattle.ctl_code.specs.Windows.{height}
 use Rattle.ctl_code.specs.Fits.{Waits}
 use Rattle.ctl_engine.specs.declared.engine.Engine.{Engine}
-use Rattle.ctl_engine.specs.declared.frame.Ended.{Ended}
-use Rattle.ctl_engine.specs.declared.frame.Ended.TheVariants as EndedOf
-use Rattle.ctl_engine.specs.declared.frame.Frame.{Frame}
-use Rattle.ctl_engine.specs.declared.frame.Frame.TheVariants as FrameOf
-use Rattle.ctl_engine.specs.declared.frame.Master.{Master}
-use Rattle.ctl_engine.specs.declared.frame.Mode.{Mode}
-use Rattle.ctl_engine.specs.declared.frame.Mode.TheVariants as ModeOf
-use Rattle.ctl_engine.specs.declared.frame.Owned.{Owned}
+use Rattle.ctl_frames.specs.declared.frame.Ended.{Ended}
+use Rattle.ctl_frames.specs.declared.frame.Ended.TheVariants as EndedOf
+use Rattle.ctl_frames.specs.declared.frame.Frame.{Frame}
+use Rattle.ctl_frames.specs.declared.frame.Frame.TheVariants as FrameOf
+use Rattle.ctl_frames.specs.declared.frame.Master.{Master}
+use Rattle.ctl_frames.specs.declared.frame.Mode.{Mode}
+use Rattle.ctl_frames.specs.declared.frame.Mode.TheVariants as ModeOf
+use Rattle.ctl_frames.specs.declared.frame.Owned.{Owned}
 use Rattle.ctl_engine.specs.Allocating.{MayJoin, OwnsNone}
-use Rattle.ctl_engine.specs.Filling.{AllLeaveSame}
+use Rattle.ctl_frames.specs.Filling.{AllLeaveSame}
 use Rattle.ctl_engine.specs.Finishing.{with_objects}
-use Rattle.ctl_engine.specs.Masters.{Head, heads_of, first_display, first_window}
+use Rattle.ctl_frames.specs.Masters.{Head, heads_of, first_display, first_window}
 use Rattle.ctl_engine.specs.Moves.{BeforeResuming, Inside, Makes}
 use Rattle.ctl_engine.specs.Shows.{Wait, allocating_copy_waits, allocating_waits, Kept, Holds, Sized, SizedBelow, ShowsMode, kept, tried_of, with_cells, stock_of}
 use Rattle.ctl_engine.specs.Copying.{IsMember, point_at}
-use Rattle.ctl_engine.specs.Spots.{KeepsSpots, spots_in}
-use Rattle.ctl_engine.specs.Under.{laid}
+use Rattle.ctl_frames.specs.Spots.{KeepsSpots, spots_in}
+use Rattle.ctl_frames.specs.Under.{laid}
 use Rattle.ctl_engine.proofs.Behind.{same_stack}
 use Rattle.ctl_engine.proofs.Foreign.{forgotten, owns_without}
 use Rattle.ctl_engine.proofs.Blocks.{stack_is}
@@ -49,7 +49,7 @@ use Rattle.ctl_engine.proofs.Following.{makes_later}
 use Rattle.ctl_engine.proofs.Owned.{KeepsIdentity, holds_changed}
 use Rattle.ctl_engine.proofs.Plain.{comes_makes, leaves_makes, no_operands}
 use Rattle.ctl_engine.proofs.Stages.{Copies, Creates, Stage, allocator_in, allocator_marks, cells_in, noted_before, noted_behind, saved_behind, sized_in, spots_waiting, stands_in, waiting_in}
-use Rattle.ctl_engine.proofs.StillLeft.{left_below}
+use Rattle.ctl_frames.proofs.StillLeft.{left_below}
 use Rattle.ctl_engine.proofs.Values.{operand_stands}
 use Rattle.ctl_objects.specs.Pools.{KeepsShown}
 use Rattle.ctl_objects.specs.Stock.{Stock}

@@ -17,15 +17,15 @@ use Rattle.ctl_code.specs.Table.{out_of, quiet, with_parameter}
 use Rattle.ctl_code.specs.Valid.{Bounded, Leads}
 use Rattle.ctl_code.specs.Windows.{height, variable_at}
 use Rattle.ctl_engine.specs.declared.engine.Engine.{Engine}
-use Rattle.ctl_engine.specs.declared.frame.Mode.TheVariants as ModeOf
-use Rattle.ctl_engine.specs.Masters.{Head, HaveRoom, heads_of, first_display, first_window}
-use Rattle.ctl_engine.specs.Under.{under, tall, laid}
+use Rattle.ctl_frames.specs.declared.frame.Mode.TheVariants as ModeOf
+use Rattle.ctl_frames.specs.Masters.{Head, HaveRoom, heads_of, first_display, first_window}
+use Rattle.ctl_frames.specs.Under.{under, tall, laid}
 use Rattle.ctl_engine.specs.Shows.{Sized, Kept, Holds, with_cells, kept}
 use Rattle.ctl_engine.specs.Moves.{Inside, Makes, GoesOn}
 use Rattle.ctl_engine.specs.Turns.{counted}
-use Rattle.ctl_engine.proofs.Lists.{get_left, set_right, length_set}
+use Rattle.ctl_frames.proofs.Lists.{get_left, set_right, length_set}
 use Rattle.ctl_engine.proofs.Slots.{tall_is}
-use Rattle.ctl_engine.proofs.Words.{length_cells}
+use Rattle.ctl_frames.proofs.Words.{length_cells}
 use Rattle.ctl_engine.specs.Variables.{IsVariable}
 use Rattle.ctl_engine.proofs.Places.{place_is, variable_is}
 use Rattle.ctl_engine.proofs.Values.{window_in, variable_read, value_put}

@@ -5,9 +5,9 @@ use Rattle.std.proofs.lemmas.List.{length-append, append-nil, append_assoc, leng
 use Rattle.ctl_meaning.specs.World.{unset}
 use Rattle.ctl_meaning.specs.Lists.{opened_lists}
 use Rattle.ctl_meaning.specs.Names.{opened_names}
-use Rattle.ctl_engine.specs.Under.{cell_in}
+use Rattle.ctl_frames.specs.Under.{cell_in}
 use Rattle.ctl_engine.specs.Moves.{cleared}
-use Rattle.ctl_engine.proofs.Lists.{length_set}
+use Rattle.ctl_frames.proofs.Lists.{length_set}
 use Rattle.ctl_engine.proofs.Values.{set_last}
 
 item_last : (n x : ℕ) → replicate n x ++ x ∷ [] ≡ replicate (suc n) x

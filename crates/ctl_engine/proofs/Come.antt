@@ -5,13 +5,13 @@ use Rattle.std.proofs.lemmas.Bool.Decides.{nat_tests}
 use Rattle.std.proofs.lemmas.Option.{slice_get_within}
 use Rattle.ctl_meaning.specs.World.{Collection}
 use Rattle.ctl_meaning.specs.Lists.{opened_lists}
-use Rattle.ctl_engine.specs.declared.frame.Owned.{Owned}
-use Rattle.ctl_engine.specs.declared.frame.Role.{Role}
-use Rattle.ctl_engine.specs.declared.frame.Role.TheVariants as RoleOf
-use Rattle.ctl_engine.specs.Owned.{HasCome, HaveCome, IsSet, IsSetAs, collection_of, set_in, set_over, sets_over, sets_owned, started_in}
+use Rattle.ctl_frames.specs.declared.frame.Owned.{Owned}
+use Rattle.ctl_frames.specs.declared.frame.Role.{Role}
+use Rattle.ctl_frames.specs.declared.frame.Role.TheVariants as RoleOf
+use Rattle.ctl_frames.specs.Owned.{HasCome, HaveCome, IsSet, IsSetAs, collection_of, set_in, set_over, sets_over, sets_owned, started_in}
 use Rattle.ctl_engine.proofs.Declared.{drop_get, same_item}
 use Rattle.ctl_engine.proofs.Gathered.{come_before}
-use Rattle.ctl_engine.proofs.Lists.{eq_same, eq_differs, same_at}
+use Rattle.ctl_frames.proofs.Lists.{eq_same, eq_differs, same_at}
 
 -- In order -----------------------------------------------------------------------------------------------
 

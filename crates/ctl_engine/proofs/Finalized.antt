@@ -7,10 +7,10 @@ use Rattle.ctl_meaning.specs.Changes.{home_of, opened_changes}
 use Rattle.ctl_code.specs.declared.code.Code.{Code}
 use Rattle.ctl_code.specs.States as T
 use Rattle.ctl_code.specs.States.{Word}
-use Rattle.ctl_engine.specs.declared.frame.Master.{Master}
-use Rattle.ctl_engine.specs.Masters.{heads_of, first_display, AreMasters}
+use Rattle.ctl_frames.specs.declared.frame.Master.{Master}
+use Rattle.ctl_frames.specs.Masters.{heads_of, first_display, AreMasters}
 use Rattle.ctl_engine.specs.Shows.{Kept, Holds}
-use Rattle.ctl_engine.proofs.Lists.{eq_same}
+use Rattle.ctl_frames.proofs.Lists.{eq_same}
 use Rattle.ctl_engine.proofs.Closed.{newest_of}
 
 home_in : (j : ℕ) (a : Activation) (acts : List Activation) (w : World) → w.activations ≡ a ∷ acts → a.master ≡ j → home_of (Declared j) w ≡ first_display (heads_of w.activations)

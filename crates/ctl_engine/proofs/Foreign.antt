@@ -9,10 +9,10 @@ use Rattle.ctl_meaning.specs.Objects.{object_in, opened_objects}
 use Rattle.ctl_objects.specs.Order as Order
 use Rattle.ctl_storage.proofs.Conditions.{all_kept, all_weaker}
 use Rattle.ctl_storage.proofs.Rising.{rise_keep}
-use Rattle.ctl_engine.specs.declared.frame.Owned.{Owned}
+use Rattle.ctl_frames.specs.declared.frame.Owned.{Owned}
 use Rattle.ctl_engine.specs.Allocating.{HaveNot, OwnsNone}
-use Rattle.ctl_engine.specs.Owned.{AreOwned, Identity, objects_owned, identity_of, identity_owned, is_declared}
-use Rattle.ctl_engine.proofs.Lists.{eq_differs}
+use Rattle.ctl_frames.specs.Owned.{AreOwned, Identity, objects_owned, identity_of, identity_owned, is_declared}
+use Rattle.ctl_frames.proofs.Lists.{eq_differs}
 use Rattle.ctl_engine.proofs.Owned.{found_among, found_below}
 
 eq_true : (a b : ℕ) → nat_eq a b ≡ true → a ≡ b

@@ -6,13 +6,13 @@ use Rattle.ctl_meaning.specs.World.{Collection, Object}
 use Rattle.ctl_meaning.specs.Objects.{ends_with_master}
 use Rattle.ctl_objects.specs.Order.{AreUpTo, IsUpTo}
 use Rattle.ctl_storage.proofs.Conditions.{all_kept}
-use Rattle.ctl_engine.specs.declared.frame.Owned.{Owned}
-use Rattle.ctl_engine.specs.declared.frame.Role.{Role}
-use Rattle.ctl_engine.specs.declared.frame.Role.TheVariants as RoleOf
-use Rattle.ctl_engine.specs.Owned.{remaining, set_numbers, set_over, sets_owned}
+use Rattle.ctl_frames.specs.declared.frame.Owned.{Owned}
+use Rattle.ctl_frames.specs.declared.frame.Role.{Role}
+use Rattle.ctl_frames.specs.declared.frame.Role.TheVariants as RoleOf
+use Rattle.ctl_frames.specs.Owned.{remaining, set_numbers, set_over, sets_owned}
 use Rattle.ctl_engine.proofs.Created.{drop_more}
 use Rattle.ctl_engine.proofs.Gathered.{sets_more}
-use Rattle.ctl_engine.proofs.Lists.{length_taken}
+use Rattle.ctl_frames.proofs.Lists.{length_taken}
 use Rattle.ctl_engine.proofs.Owned.{one_more_closed}
 use Rattle.ctl_engine.proofs.Walked.{take_last}
 

@@ -3,12 +3,12 @@ use Rattle.std.proofs.Common.{◌≡◌, ◌∙◌, ℕ, zero, suc, ◌≤◌, �
 use Rattle.std.specs.Prelude.{nat_eq, not}
 use Rattle.ctl_meaning.specs.World.{Collection}
 use Rattle.ctl_meaning.specs.Lists.{keep, opened_lists}
-use Rattle.ctl_engine.specs.declared.frame.Owned.{Owned}
-use Rattle.ctl_engine.specs.declared.frame.Role.{Role}
-use Rattle.ctl_engine.specs.declared.frame.Role.TheVariants as RoleOf
-use Rattle.ctl_engine.specs.Masters.{AreOf}
-use Rattle.ctl_engine.specs.Owned.{HasCome, HaveCome, set_over, sets_over, sets_owned}
-use Rattle.ctl_engine.proofs.Lists.{eq_same, eq_differs}
+use Rattle.ctl_frames.specs.declared.frame.Owned.{Owned}
+use Rattle.ctl_frames.specs.declared.frame.Role.{Role}
+use Rattle.ctl_frames.specs.declared.frame.Role.TheVariants as RoleOf
+use Rattle.ctl_frames.specs.Masters.{AreOf}
+use Rattle.ctl_frames.specs.Owned.{HasCome, HaveCome, set_over, sets_over, sets_owned}
+use Rattle.ctl_frames.proofs.Lists.{eq_same, eq_differs}
 use Rattle.ctl_engine.proofs.Owned.{AreOlder}
 
 -- Something comes ----------------------------------------------------------------------------------------

@@ -9,13 +9,13 @@ use Rattle.ctl_code.specs.declared.code.Code.{Code}
 use Rattle.ctl_code.specs.States as T
 use Rattle.ctl_code.specs.States.{Word, InMaster, AfterBlock, AfterProcedure, AfterFunction, AfterBody}
 use Rattle.ctl_code.specs.Fits.{OwnsOne, Stands}
-use Rattle.ctl_engine.specs.declared.frame.After.{After}
-use Rattle.ctl_engine.specs.declared.frame.Frame.{Frame}
-use Rattle.ctl_engine.specs.declared.frame.Handling.{Handling}
-use Rattle.ctl_engine.specs.declared.frame.Frame.TheVariants as FrameOf
-use Rattle.ctl_engine.specs.declared.frame.Master.{Master}
-use Rattle.ctl_engine.specs.declared.frame.Owned.{Owned}
-use Rattle.ctl_engine.specs.Masters.{Head, heads_of, first_display, display_from, AreMasters, newest_master}
+use Rattle.ctl_frames.specs.declared.frame.After.{After}
+use Rattle.ctl_frames.specs.declared.frame.Frame.{Frame}
+use Rattle.ctl_frames.specs.declared.frame.Handling.{Handling}
+use Rattle.ctl_frames.specs.declared.frame.Frame.TheVariants as FrameOf
+use Rattle.ctl_frames.specs.declared.frame.Master.{Master}
+use Rattle.ctl_frames.specs.declared.frame.Owned.{Owned}
+use Rattle.ctl_frames.specs.Masters.{Head, heads_of, first_display, display_from, AreMasters, newest_master}
 use Rattle.ctl_engine.specs.Shows.{Wait, Kept, Holds}
 use Rattle.ctl_engine.proofs.Left.{top_of}
 

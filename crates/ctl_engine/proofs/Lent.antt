@@ -4,23 +4,23 @@ use Rattle.std.specs.Prelude.{slice_set}
 use Rattle.std.proofs.lemmas.List.{reverse-append}
 use Rattle.ctl_meaning.specs.World as W
 use Rattle.ctl_meaning.specs.World.{Activation}
-use Rattle.ctl_engine.specs.declared.frame.Formal.{Formal}
-use Rattle.ctl_engine.specs.declared.frame.Master.{Master}
-use Rattle.ctl_engine.specs.declared.frame.Owned.{Owned}
-use Rattle.ctl_engine.specs.Holders.{AreHeld}
+use Rattle.ctl_frames.specs.declared.frame.Formal.{Formal}
+use Rattle.ctl_frames.specs.declared.frame.Master.{Master}
+use Rattle.ctl_frames.specs.declared.frame.Owned.{Owned}
+use Rattle.ctl_frames.specs.Holders.{AreHeld}
 use Rattle.ctl_meaning.specs.World.{World}
 use Rattle.ctl_code.specs.declared.code.Code.{Code}
 use Rattle.ctl_code.specs.States as T
 use Rattle.ctl_code.specs.States.{Word, cells_of}
-use Rattle.ctl_engine.specs.declared.frame.Frame.{Frame}
-use Rattle.ctl_engine.specs.declared.frame.Frame.TheVariants as FrameOf
-use Rattle.ctl_engine.specs.Filling.{AllLeaveSame}
-use Rattle.ctl_engine.specs.Spots.{spots_in}
-use Rattle.ctl_engine.specs.Under.{tall, under}
+use Rattle.ctl_frames.specs.declared.frame.Frame.{Frame}
+use Rattle.ctl_frames.specs.declared.frame.Frame.TheVariants as FrameOf
+use Rattle.ctl_frames.specs.Filling.{AllLeaveSame}
+use Rattle.ctl_frames.specs.Spots.{spots_in}
+use Rattle.ctl_frames.specs.Under.{tall, under}
 use Rattle.ctl_engine.specs.Shows.{Holds, IsEvaluating, Kept, Wait, evaluating_waits, lent}
 use Rattle.ctl_engine.specs.Lending.{lending}
 use Rattle.ctl_engine.proofs.Tops.{top_replaced_at}
-use Rattle.ctl_engine.specs.Masters.{AreBelow, AreMasters, HaveRoom, Head, heads_of, IsHead, IsOwner, newest_master}
+use Rattle.ctl_frames.specs.Masters.{AreBelow, AreMasters, HaveRoom, Head, heads_of, IsHead, IsOwner, newest_master}
 
 lent_head : (m : Master) (w s : ℕ) (h : Head) (hs : List Head) → IsHead m h hs → IsHead (lent m w s) h hs
 lent_head m w s h hs x = record { head = x.head; link = x.link; display = x.display; depth = x.depth; shallow = x.shallow; slots = x.slots }

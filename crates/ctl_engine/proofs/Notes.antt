@@ -1,7 +1,7 @@
 -- What is noted of copies: as a part is noted, and as what is noted of a copy is dropped.
 use Rattle.std.proofs.Common.{◌≡◌, ℕ, zero, suc, List, [], ◌∷◌, ◌++◌, length, refl, ap, take}
 use Rattle.ctl_meaning.specs.Finalization.{Spot}
-use Rattle.ctl_engine.specs.Noted.{paths_of}
+use Rattle.ctl_frames.specs.Noted.{paths_of}
 
 pub paths_more : (spots : List Spot) (s : Spot) → paths_of (spots ++ s ∷ []) ≡ paths_of spots ++ s.path ∷ []
 paths_more [] s = refl

@@ -4,10 +4,10 @@ use Rattle.std.specs.Prelude.{nat_lt, slice_get}
 use Rattle.std.proofs.lemmas.Bool.Decides.{nat_tests}
 use Rattle.std.proofs.lemmas.List.{reverse-append, reverse-reverse}
 use Rattle.std.proofs.lemmas.Option.{slice_get_within}
-use Rattle.ctl_engine.specs.declared.frame.Master.{Master}
-use Rattle.ctl_engine.specs.Masters.{AreBelow}
-use Rattle.ctl_engine.proofs.Links.{get_split}
-use Rattle.ctl_engine.proofs.Lists.{same_at}
+use Rattle.ctl_frames.specs.declared.frame.Master.{Master}
+use Rattle.ctl_frames.specs.Masters.{AreBelow}
+use Rattle.ctl_frames.proofs.Links.{get_split}
+use Rattle.ctl_frames.proofs.Lists.{same_at}
 use Rattle.ctl_engine.proofs.Reached.{among_reversed}
 use Rattle.ctl_engine.proofs.Slots.{is_older}
 

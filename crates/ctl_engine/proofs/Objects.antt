@@ -16,15 +16,15 @@ use Rattle.ctl_code.specs.States.{Word}
 use Rattle.ctl_code.specs.Fits.{OwnsOne, Stands}
 use Rattle.ctl_code.specs.Table as Table
 use Rattle.ctl_code.specs.Table.{size_of}
-use Rattle.ctl_engine.specs.declared.frame.After.{After}
-use Rattle.ctl_engine.specs.declared.frame.Frame.{Frame}
-use Rattle.ctl_engine.specs.declared.frame.Handling.{Handling}
-use Rattle.ctl_engine.specs.declared.frame.Frame.TheVariants as FrameOf
-use Rattle.ctl_engine.specs.declared.frame.Master.{Master}
-use Rattle.ctl_engine.specs.declared.frame.Owned.{Owned}
-use Rattle.ctl_engine.specs.Masters.{Head, heads_of, first_display, display_from, AreMasters, newest_master, AreBelow, IsAmong}
-use Rattle.ctl_engine.specs.Holders.{AreHeld, content_of}
-use Rattle.ctl_engine.specs.Under.{cell_in, laid}
+use Rattle.ctl_frames.specs.declared.frame.After.{After}
+use Rattle.ctl_frames.specs.declared.frame.Frame.{Frame}
+use Rattle.ctl_frames.specs.declared.frame.Handling.{Handling}
+use Rattle.ctl_frames.specs.declared.frame.Frame.TheVariants as FrameOf
+use Rattle.ctl_frames.specs.declared.frame.Master.{Master}
+use Rattle.ctl_frames.specs.declared.frame.Owned.{Owned}
+use Rattle.ctl_frames.specs.Masters.{Head, heads_of, first_display, display_from, AreMasters, newest_master, AreBelow, IsAmong}
+use Rattle.ctl_frames.specs.Holders.{AreHeld, content_of}
+use Rattle.ctl_frames.specs.Under.{cell_in, laid}
 use Rattle.ctl_engine.specs.Shows.{Wait, master_waits, Kept, Holds, with_cells}
 use Rattle.ctl_engine.specs.Declaring.{slot_cleared}
 use Rattle.ctl_engine.proofs.Created.{created, newborn, with_newborn, drop_more, take_more}
@@ -32,7 +32,7 @@ use Rattle.ctl_engine.proofs.Held.{no_number, created_held}
 use Rattle.ctl_engine.proofs.Values.{slot_written}
 use Rattle.ctl_engine.proofs.Slots.{HaveNo, own_written, fewer}
 use Rattle.ctl_engine.proofs.Closed.{newest_of}
-use Rattle.ctl_engine.proofs.Lists.{eq_same, eq_differs, length_set}
+use Rattle.ctl_frames.proofs.Lists.{eq_same, eq_differs, length_set}
 
 -- The newest master ------------------------------------------------------------------------------------
 

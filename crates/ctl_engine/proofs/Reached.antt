@@ -13,14 +13,14 @@ use Rattle.ctl_code.specs.States as T
 use Rattle.ctl_code.specs.States.{Word}
 use Rattle.ctl_code.specs.Table.{out_of, cell_at}
 use Rattle.ctl_engine.specs.declared.engine.Engine.{Engine}
-use Rattle.ctl_engine.specs.declared.frame.Master.{Master}
-use Rattle.ctl_engine.specs.declared.frame.Owned.{Owned}
-use Rattle.ctl_engine.specs.Masters.{Head, heads_of, AreBelow, AreMasters, newest_master, IsAmong, display_from}
-use Rattle.ctl_engine.specs.Links.{AreLinked, IsAtPlace}
+use Rattle.ctl_frames.specs.declared.frame.Master.{Master}
+use Rattle.ctl_frames.specs.declared.frame.Owned.{Owned}
+use Rattle.ctl_frames.specs.Masters.{Head, heads_of, AreBelow, AreMasters, newest_master, IsAmong, display_from}
+use Rattle.ctl_frames.specs.Links.{AreLinked, IsAtPlace}
 use Rattle.ctl_engine.specs.Shows.{Kept, Holds, kept}
 use Rattle.ctl_engine.specs.Variables.{HasSlotAt, IsVariable, IsNoVariable}
-use Rattle.ctl_engine.proofs.Lists.{eq_differs, same_at}
-use Rattle.ctl_engine.proofs.Links.{got, get_split, none_around, are_linked}
+use Rattle.ctl_frames.proofs.Lists.{eq_differs, same_at}
+use Rattle.ctl_frames.proofs.Links.{got, get_split, none_around, are_linked}
 use Rattle.ctl_engine.proofs.Places.{out_none, out_more}
 use Rattle.ctl_engine.proofs.Slots.{HaveNo, slot_of_other, slot_of_own, is_older}
 

@@ -11,26 +11,26 @@ use Rattle.ctl_code.specs.States.{cells_of, Word, State}
 use Rattle.ctl_code.specs.Valid.{Leads}
 use Rattle.ctl_code.specs.Fits.{LeadsOn, OwnsOne, Stands, Waits}
 use Rattle.ctl_engine.specs.declared.engine.Engine.{Engine}
-use Rattle.ctl_engine.specs.declared.frame.Declared.{Declared}
-use Rattle.ctl_engine.specs.declared.frame.Declared.TheVariants as DeclaredOf
-use Rattle.ctl_engine.specs.declared.frame.Frame.{Frame}
-use Rattle.ctl_engine.specs.declared.frame.Frame.TheVariants as FrameOf
-use Rattle.ctl_engine.specs.declared.frame.Master.{Master}
-use Rattle.ctl_engine.specs.declared.frame.Owned.{Owned}
+use Rattle.ctl_frames.specs.declared.frame.Declared.{Declared}
+use Rattle.ctl_frames.specs.declared.frame.Declared.TheVariants as DeclaredOf
+use Rattle.ctl_frames.specs.declared.frame.Frame.{Frame}
+use Rattle.ctl_frames.specs.declared.frame.Frame.TheVariants as FrameOf
+use Rattle.ctl_frames.specs.declared.frame.Master.{Master}
+use Rattle.ctl_frames.specs.declared.frame.Owned.{Owned}
 use Rattle.ctl_engine.specs.Allocating.{IsAllocated, OwnsNone}
-use Rattle.ctl_engine.specs.Masters.{Head, heads_of, first_display}
-use Rattle.ctl_engine.specs.Filling.{AllLeaveSame, LeavesSame}
+use Rattle.ctl_frames.specs.Masters.{Head, heads_of, first_display}
+use Rattle.ctl_frames.specs.Filling.{AllLeaveSame, LeavesSame}
 use Rattle.ctl_engine.specs.Moves.{BeforeResuming}
-use Rattle.ctl_engine.specs.Noted.{noted_in, paths_of}
+use Rattle.ctl_frames.specs.Noted.{noted_in, paths_of}
 use Rattle.ctl_engine.specs.Saved.{AreSaved}
-use Rattle.ctl_engine.specs.Under.{laid, under}
+use Rattle.ctl_frames.specs.Under.{laid, under}
 use Rattle.ctl_engine.specs.Shows.{Wait, allocating_copy_waits, allocating_waits, creating_waits, copying_waits, IsCreated, Sized, SizedBelow, Kept, Holds, kept, maker_of}
 use Rattle.ctl_engine.proofs.Behind.{same_stack}
 use Rattle.ctl_engine.proofs.Innermost.{IsInnermost, innermost}
-use Rattle.ctl_engine.proofs.Newest.{first_or}
+use Rattle.ctl_frames.proofs.Newest.{first_or}
 use Rattle.ctl_engine.proofs.Notes.{paths_front}
-use Rattle.ctl_engine.proofs.StillLeft.{left_below}
-use Rattle.ctl_engine.specs.Spots.{spots_in, standing}
+use Rattle.ctl_frames.proofs.StillLeft.{left_below}
+use Rattle.ctl_frames.specs.Spots.{spots_in, standing}
 
 -- how far it has come: its parts are created, or it has taken a value, and these paths of its parts are noted from one on
 pub data Stage : Type 0 where

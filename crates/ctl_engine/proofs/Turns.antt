@@ -15,8 +15,8 @@ use Rattle.ctl_code.specs.States.{Word, Scalar, Move, State, At}
 use Rattle.ctl_code.specs.Table.{Here, by_instr, by_for, by_next, bounds_after, in_turn, quiet, with_parameter}
 use Rattle.ctl_code.specs.Valid.{Leads}
 use Rattle.ctl_engine.specs.declared.engine.Engine.{Engine}
-use Rattle.ctl_engine.specs.declared.frame.Mode.TheVariants as ModeOf
-use Rattle.ctl_engine.specs.Masters.{heads_of, first_display, first_window}
+use Rattle.ctl_frames.specs.declared.frame.Mode.TheVariants as ModeOf
+use Rattle.ctl_frames.specs.Masters.{heads_of, first_display, first_window}
 use Rattle.ctl_engine.specs.Shows.{Kept, kept}
 use Rattle.ctl_engine.specs.Moves.{Before, Makes, GoesOn, here_of}
 use Rattle.ctl_engine.specs.Turns.{counted, start, following, first_value, next_value}

@@ -4,12 +4,12 @@ use Rattle.std.specs.Prelude.{slice_get, slice_index_or, nat_eq, if◌then◌els
 use Rattle.std.proofs.lemmas.Option.{slice_get_within}
 use Rattle.ctl_meaning.specs.World as W
 use Rattle.ctl_meaning.specs.World.{Content}
-use Rattle.ctl_engine.specs.declared.frame.Formal.{Formal}
-use Rattle.ctl_engine.specs.declared.frame.Owned.{Owned}
+use Rattle.ctl_frames.specs.declared.frame.Formal.{Formal}
+use Rattle.ctl_frames.specs.declared.frame.Owned.{Owned}
 use Rattle.ctl_code.specs.States.{Cells, Located}
 use Rattle.ctl_code.specs.Table.{word_of}
-use Rattle.ctl_engine.specs.Holders.{binding, content_of, content_of_formal, holder_in, formal_in, word_of_formal}
-use Rattle.ctl_engine.proofs.Lists.{length_taken, eq_same, eq_differs, get_index}
+use Rattle.ctl_frames.specs.Holders.{binding, content_of, content_of_formal, holder_in, formal_in, word_of_formal}
+use Rattle.ctl_frames.proofs.Lists.{length_taken, eq_same, eq_differs, get_index}
 use Rattle.ctl_engine.proofs.Held.{holder_more, bound_more}
 use Rattle.ctl_engine.proofs.Created.{drop_more}
 

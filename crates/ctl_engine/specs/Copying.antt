@@ -14,16 +14,16 @@ use Rattle.ctl_code.specs.Table.{is_refused}
 use Rattle.ctl_code.specs.Valid.{IsScalar, Leads}
 use Rattle.ctl_engine.specs.Allocating.{OwnsNone}
 use Rattle.ctl_engine.specs.Declaring.{NewObject}
-use Rattle.ctl_engine.specs.Filling.{AllLeaveSame}
-use Rattle.ctl_engine.specs.Masters.{first_display, heads_of}
+use Rattle.ctl_frames.specs.Filling.{AllLeaveSame}
+use Rattle.ctl_frames.specs.Masters.{first_display, heads_of}
 use Rattle.ctl_engine.specs.Moves.{Inside}
-use Rattle.ctl_engine.specs.Noted.{noted_in}
+use Rattle.ctl_frames.specs.Noted.{noted_in}
 use Rattle.ctl_engine.specs.Shows.{Holds, Kept, SizedBelow, Wait, kept}
-use Rattle.ctl_engine.specs.Spots.{standing, value_spot}
+use Rattle.ctl_frames.specs.Spots.{standing, value_spot}
 use Rattle.ctl_engine.specs.declared.engine.Engine.{Engine}
-use Rattle.ctl_engine.specs.declared.frame.Frame.{Frame}
-use Rattle.ctl_engine.specs.declared.frame.Mode.{Mode}
-use Rattle.ctl_engine.specs.declared.frame.Mode.TheVariants as ModeOf
+use Rattle.ctl_frames.specs.declared.frame.Frame.{Frame}
+use Rattle.ctl_frames.specs.declared.frame.Mode.{Mode}
+use Rattle.ctl_frames.specs.declared.frame.Mode.TheVariants as ModeOf
 
 -- Collections that take objects ------------------------------------------------------------------
 

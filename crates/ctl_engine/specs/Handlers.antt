@@ -1,10 +1,10 @@
 -- What becomes of the exceptions of the newest master (11.2 to 11.4).
 use Rattle.std.specs.Prelude.{◌≡◌, ℕ, List, ◌∷◌, Option, None}
 use Rattle.ctl_engine.specs.declared.engine.Engine.{Engine}
-use Rattle.ctl_engine.specs.declared.frame.Frame.{Frame}
-use Rattle.ctl_engine.specs.declared.frame.Frame.TheVariants as FrameOf
-use Rattle.ctl_engine.specs.declared.frame.Handling.{Handling}
-use Rattle.ctl_engine.specs.declared.frame.Mode.{Mode}
+use Rattle.ctl_frames.specs.declared.frame.Frame.{Frame}
+use Rattle.ctl_frames.specs.declared.frame.Frame.TheVariants as FrameOf
+use Rattle.ctl_frames.specs.declared.frame.Handling.{Handling}
+use Rattle.ctl_frames.specs.declared.frame.Mode.{Mode}
 use Rattle.ctl_engine.specs.Shows.{kept}
 
 -- the exception that the innermost handler around handles, as the newest frame has it

@@ -6,13 +6,13 @@ use Rattle.ctl_meaning.specs.Names.{scalar_of}
 use Rattle.ctl_code.specs.declared.code.Way.{Way}
 use Rattle.ctl_code.specs.declared.code.Way.TheVariants as WayOf
 use Rattle.ctl_engine.specs.declared.engine.Engine.{Engine}
-use Rattle.ctl_engine.specs.declared.frame.Ended.{Ended}
-use Rattle.ctl_engine.specs.declared.frame.Ended.TheVariants as EndedOf
-use Rattle.ctl_engine.specs.declared.frame.Frame.TheVariants as FrameOf
-use Rattle.ctl_engine.specs.declared.frame.Master.{Master}
-use Rattle.ctl_engine.specs.declared.frame.Mode.TheVariants as ModeOf
+use Rattle.ctl_frames.specs.declared.frame.Ended.{Ended}
+use Rattle.ctl_frames.specs.declared.frame.Ended.TheVariants as EndedOf
+use Rattle.ctl_frames.specs.declared.frame.Frame.TheVariants as FrameOf
+use Rattle.ctl_frames.specs.declared.frame.Master.{Master}
+use Rattle.ctl_frames.specs.declared.frame.Mode.TheVariants as ModeOf
 use Rattle.ctl_engine.specs.Shows.{Kept, kept, lent}
-use Rattle.ctl_engine.specs.Spots.{last_value}
+use Rattle.ctl_frames.specs.Spots.{last_value}
 
 -- the newest master lends its record, for the default of this component of an object
 abbrev pub lending : ℕ → ℕ → ℕ → ℕ → Master → List Master → Kept → Kept

@@ -2,9 +2,9 @@
 use Rattle.std.specs.Prelude.{◌≡◌, ℕ, ◌+◌, ◌<◌, ◌≤◌, List, Some, ◌⊎◌, reverse, slice_get, slice_set}
 use Rattle.ctl_code.specs.Table.{out_of}
 use Rattle.ctl_engine.specs.declared.engine.Engine.{Engine}
-use Rattle.ctl_engine.specs.declared.frame.Master.{Master}
-use Rattle.ctl_engine.specs.declared.frame.Mode.TheVariants as ModeOf
-use Rattle.ctl_engine.specs.Masters.{IsAmong}
+use Rattle.ctl_frames.specs.declared.frame.Master.{Master}
+use Rattle.ctl_frames.specs.declared.frame.Mode.TheVariants as ModeOf
+use Rattle.ctl_frames.specs.Masters.{IsAmong}
 use Rattle.ctl_engine.specs.Moves.{GoesOn}
 
 -- the cell of a slot of the master so many further out in a display

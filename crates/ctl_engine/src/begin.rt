@@ -8,8 +8,8 @@ ghost use Rattle.ctl_code.specs.Valid.{IsValid};
 ghost use Rattle.ctl_engine.specs.Moves.{GoesOn, Makes, Starts, here_of};
 
 use crate::engine::Engine;
-use crate::frame::{After, Master};
 use ctl_code::code::Code;
+use ctl_frames::frame::{After, Master};
 use std::alloc::AllocError;
 
 impl Engine {

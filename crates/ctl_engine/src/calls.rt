@@ -2,21 +2,21 @@
 
 ghost use Rattle.std.specs.Prelude.{◌≡◌, ◌+◌, ◌^◌, ◌<◌, ◌≤◌, [], ◌∷◌, ◌++◌, List, ℕ, IsTrue, OnErr, OnOk, drop, length, reverse, take, vec_capacity, vec_len};
 ghost use Rattle.ctl_code.specs.Table as Table;
-ghost use Rattle.ctl_engine.specs.declared.frame.Frame.TheVariants as FrameOf;
+ghost use Rattle.ctl_frames.specs.declared.frame.Frame.TheVariants as FrameOf;
 ghost use Rattle.ctl_code.specs.Valid.{IsValid};
-ghost use Rattle.ctl_engine.specs.Links.{AreLinked, end_behind, first_end};
+ghost use Rattle.ctl_frames.specs.Links.{AreLinked, end_behind, first_end};
 ghost use Rattle.ctl_engine.specs.Assigning.{Called, Calls, HasRoom, IsCaller, is_assigning};
-ghost use Rattle.ctl_engine.specs.Masters.{AreBelow, Head, display_from, first_display};
-ghost use Rattle.ctl_engine.specs.Holders.{first_formal};
+ghost use Rattle.ctl_frames.specs.Masters.{AreBelow, Head, display_from, first_display};
+ghost use Rattle.ctl_frames.specs.Holders.{first_formal};
 ghost use Rattle.ctl_engine.specs.Moves.{GoesOn, Makes, OpensBody, cleared};
 
 use crate::engine::Engine;
-use crate::frame::{After, Completion, Formal, Frame, Master};
 use crate::holders::master_at;
-use crate::room::reserve;
-use crate::spots::Spot;
 use ctl_code::code::{Code, Entry};
+use ctl_frames::frame::{After, Completion, Formal, Frame, Master};
+use ctl_frames::spots::Spot;
 use ctl_tree::event::Event;
+use room::reserve;
 use std::alloc::AllocError;
 
 /// Makes so many cells, if there are fewer; the new ones are 0.

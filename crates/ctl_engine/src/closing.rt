@@ -1,12 +1,12 @@
 //! Block pools that close: the objects in them are gone (RM 13.11).
 
 ghost use Rattle.std.specs.Prelude.{◌≡◌, ◌<◌, length};
-ghost use Rattle.ctl_engine.specs.declared.frame.Owned.{Owned};
+ghost use Rattle.ctl_frames.specs.declared.frame.Owned.{Owned};
 ghost use Rattle.ctl_engine.specs.Closing.{ClosesIfPool, ClosesNew};
 ghost use Rattle.ctl_engine.specs.Initializing.{IsNewest};
 
 use crate::engine::Engine;
-use crate::frame::Declared;
+use ctl_frames::frame::Declared;
 
 impl Engine {
     /// Closes the pool that the object of this number is, if it is one: the objects in it are gone (RM 13.11).

@@ -1,8 +1,6 @@
-//! What finalizations are made of: which component comes next, the copies of parts that are made before, room, and frames that go
-//! (RM 7.6.1).
+//! What finalizations and assignments are made of: the copies of parts that are made before, room, and frames that go (RM 7.6, 7.6.1).
 
-ghost use Rattle.std.specs.Prelude.{◌≡◌, ◌+◌, ◌-◌, ◌^◌, ◌<◌, ◌≤◌, ◌++◌, List, ℕ, IfOk, IsFalse, IsTrue, OnErr, OnOk, Some, length, slice_get, vec_capacity, vec_len, if◌then◌else◌};
-ghost use Rattle.ctl_code.specs.declared.code.Begun.{Begun};
+ghost use Rattle.std.specs.Prelude.{◌≡◌, ◌+◌, ◌-◌, ◌^◌, ◌<◌, ◌≤◌, ◌++◌, List, ℕ, IfOk, OnErr, OnOk, Some, length, slice_get, vec_capacity, vec_len, if◌then◌else◌};
 ghost use Rattle.ctl_meaning.specs.Changes as Changes;
 ghost use Rattle.ctl_meaning.specs.Finalization as S;
 ghost use Rattle.ctl_meaning.specs.Outcome.{Fine};
@@ -12,19 +10,17 @@ ghost use Rattle.ctl_code.specs.States as T;
 ghost use Rattle.ctl_code.specs.States.{Word};
 ghost use Rattle.ctl_code.specs.Table as Table;
 ghost use Rattle.ctl_engine.specs.Assigning.{HasRoom};
-ghost use Rattle.ctl_engine.specs.Filling.{AreApart, IsChosenApart, pick_among};
 ghost use Rattle.ctl_engine.specs.Finishing.{AreDoubles, DropsFrame, with_objects};
 ghost use Rattle.ctl_engine.specs.Moves.{GoesOn};
 ghost use Rattle.ctl_engine.specs.Shows as Shows;
 ghost use Rattle.ctl_engine.specs.Shows.{Holds, kept};
 
 use crate::engine::Engine;
-use crate::frame::{Apart, Ended, Frame};
-use crate::room::reserve;
-use crate::spots::Spot;
 use ctl_code::code::{Begun, Code};
+use ctl_frames::frame::{Ended, Frame};
+use ctl_frames::spots::Spot;
 use ctl_tree::event::{Cause, Part};
-use ctl_tree::request::Order;
+use room::reserve;
 use std::alloc::{AllocError, Global};
 
 /// The finalization of a part: its cause, the record type of the part, and the cell where the window of a body begins that is called
@@ -43,90 +39,6 @@ pub struct Doubles {
     pub spot: Spot,
     pub formal: Spot,
     pub part: Part,
-}
-
-/// The component that is chosen: its place among those of its record type with a controlled part, the number of the candidate that it was,
-/// and what is left then.
-#[derive(Clone, Copy)]
-pub struct ChosenApart {
-    pub at: usize,
-    pub pick: usize,
-    pub rest: Apart,
-}
-
-impl Apart {
-    /// Counts the components that are left.
-    pub fn count(self) -> usize
-        requires rising { (self.low.first ≤ self.low.last) × (self.high.first ≤ self.high.last) }
-        requires few { (self.low.last - self.low.first) + (self.high.last - self.high.first) < 2 ^ 64 }
-        ensures { result ≡ (self.low.last - self.low.first) + (self.high.last - self.high.first) }
-    {
-        (self.low.last - self.low.first) + (self.high.last - self.high.first)
-    }
-
-    /// Tells whether no component is left.
-    pub fn is_empty(self) -> bool
-        requires { (self.low.first ≤ self.low.last) × (self.high.first ≤ self.high.last) }
-        ensures none { IsTrue result → (self.low.last - self.low.first) + (self.high.last - self.high.first) ≡ 0 }
-        ensures some { IsFalse result → 0 < (self.low.last - self.low.first) + (self.high.last - self.high.first) }
-    {
-        self.low.first == self.low.last && self.high.first == self.high.last
-    }
-
-    /// Chooses one of the components that lie behind the others.
-    fn choose_high(self, order: Order) -> ChosenApart
-        requires rising { self.low.first ≤ self.low.last }
-        requires some { self.high.first < self.high.last }
-        requires few { (self.low.last - self.low.first) + (self.high.last - self.high.first) < 2 ^ 64 }
-        ensures pick { result.pick ≡ (self.low.last - self.low.first) + pick_among order (self.high.last - self.high.first) }
-        ensures chosen { (all left : List Begun) → AreApart all self left → IsChosenApart all left result.pick result.at result.rest }
-    {
-        let chosen = self.high.choose(order);
-        ChosenApart {
-            at: chosen.at,
-            pick: (self.low.last - self.low.first) + chosen.pick,
-            rest: Apart {
-                low: self.low,
-                high: chosen.rest,
-            },
-        }
-    }
-
-    /// Chooses one of the components that lie before the others.
-    fn choose_low(self, order: Order) -> ChosenApart
-        requires some { self.low.first < self.low.last }
-        ensures pick { result.pick ≡ pick_among order (self.low.last - self.low.first) }
-        ensures chosen { (all left : List Begun) → AreApart all self left → IsChosenApart all left result.pick result.at result.rest }
-    {
-        let chosen = self.low.choose(order);
-        ChosenApart {
-            at: chosen.at,
-            pick: chosen.pick,
-            rest: Apart {
-                low: chosen.rest,
-                high: self.high,
-            },
-        }
-    }
-
-    /// Chooses a component by an order, the candidates being in the order of their positions.
-    pub fn choose(self, order: Order) -> ChosenApart
-        requires rising { (self.low.first ≤ self.low.last) × (self.high.first ≤ self.high.last) }
-        requires few { (self.low.last - self.low.first) + (self.high.last - self.high.first) < 2 ^ 64 }
-        requires some { 0 < (self.low.last - self.low.first) + (self.high.last - self.high.first) }
-        ensures pick { result.pick ≡ pick_among order ((self.low.last - self.low.first) + (self.high.last - self.high.first)) }
-        ensures chosen { (all left : List Begun) → AreApart all self left → IsChosenApart all left result.pick result.at result.rest }
-    {
-        let is_low = match order {
-            Order::Newest => self.high.first == self.high.last,
-            Order::Oldest => self.low.first < self.low.last,
-        };
-        if is_low {
-            self.choose_low(order)
-        } else {
-            self.choose_high(order)
-        }
-    }
 }
 
 /// Answers what the finalization or the adjustment of a part hands on in which an operation failed, or none did (RM 7.6.1).
@@ -223,4 +135,13 @@ impl Engine {
         spot.select(component.offset, component.position)?;
         doubled(self.alloc, spot)
     }
+}
+
+/// An assignment whose target is to take the value that is saved for it: their record type, the place where it goes on, and the cell where
+/// the window of a body begins that is called for the target.
+#[derive(Clone, Copy)]
+pub struct Assignment {
+    pub record_type: usize,
+    pub place: usize,
+    pub base: usize,
 }

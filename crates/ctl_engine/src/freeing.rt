@@ -1,6 +1,6 @@
 //! What the freeing of an object is about (RM 13.11.2): what becomes of it, what becomes null, and where its storage goes.
 
-use crate::frame::{Ended, Storage};
+use ctl_frames::frame::{Ended, Storage};
 use ctl_tree::ending::Stop;
 
 /// What becomes of an object that is to be freed.

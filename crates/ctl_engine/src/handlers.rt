@@ -2,7 +2,7 @@
 //! handlers is chosen, and `raise;` raises again what is handled.
 
 ghost use Rattle.std.specs.Prelude.{◌≡◌, ◌+◌, ◌^◌, ◌<◌, ℕ, IfNone, IfSome, None, Some, length, reverse};
-ghost use Rattle.ctl_engine.specs.declared.frame.Mode.TheVariants as ModeOf;
+ghost use Rattle.ctl_frames.specs.declared.frame.Mode.TheVariants as ModeOf;
 ghost use Rattle.ctl_code.specs.declared.code.Instr.TheVariants as InstrOf;
 ghost use Rattle.ctl_code.specs.States.{State};
 ghost use Rattle.ctl_code.specs.Table as Table;
@@ -11,9 +11,9 @@ ghost use Rattle.ctl_engine.specs.Moves.{Before, GoesOn, Makes, here_of};
 
 use crate::calls::replace_top;
 use crate::engine::Engine;
-use crate::frame::{Frame, Handling, Mode};
 use crate::jumps::pass_over;
 use ctl_code::code::{Code, Way};
+use ctl_frames::frame::{Frame, Handling, Mode};
 
 impl Engine {
     /// Answers the exception that the innermost handler around handles, which the newest frame has; 0 where that is no master's.

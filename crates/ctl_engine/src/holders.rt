@@ -1,21 +1,17 @@
 //! What a slot holds, where a master stands among the active ones, and which master a collection belongs to.
 
-ghost use Rattle.std.specs.Prelude.{◌≡◌, ◌≤◌, ◌∷◌, [], ℕ, IfNone, IfOk, IfSome, IsFalse, IsTrue, Some, drop, length, reverse, slice_get, take};
+ghost use Rattle.std.specs.Prelude.{◌≡◌, ◌≤◌, ℕ, IfNone, IfSome, Some, drop, length, reverse, slice_get, take};
 ghost use Rattle.ctl_meaning.specs.Allocation as Allocation;
 ghost use Rattle.ctl_meaning.specs.Ledger.{master_in};
 ghost use Rattle.ctl_meaning.specs.World.{Nothing};
-ghost use Rattle.ctl_engine.specs.declared.frame.Owned.{Owned};
+ghost use Rattle.ctl_frames.specs.declared.frame.Owned.{Owned};
 ghost use Rattle.std.specs.Option.{option_map};
-ghost use Rattle.ctl_engine.specs.Owned.{HaveCome, IsSet, collection_of, set_in, sets_owned};
-ghost use Rattle.ctl_code.specs.States.{object_of, worth};
+ghost use Rattle.ctl_frames.specs.Owned.{HaveCome, IsSet, collection_of, set_in, sets_owned};
 ghost use Rattle.ctl_code.specs.Table as Table;
-ghost use Rattle.ctl_engine.specs.Holders.{IsMasterOf, IsThere, formal_in, found_in, holder_in, own_formals, word_of_formal};
-ghost use Rattle.ctl_engine.specs.Masters.{AreBelow};
-ghost use Rattle.ctl_engine.specs.Spots.{located};
+ghost use Rattle.ctl_frames.specs.Holders.{IsMasterOf, IsThere, formal_in, found_in, holder_in, own_formals};
+ghost use Rattle.ctl_frames.specs.Masters.{AreBelow};
 
-use crate::frame::{Formal, Holder, Master, Owned, Role};
-use crate::spots::Spot;
-use std::alloc::{AllocError, Global};
+use ctl_frames::frame::{Formal, Holder, Master, Owned, Role};
 
 /// Answers the place of the formal of this slot, if there is one among those from one place up to another.
 fn formal(formals: &[Formal], start: usize, end: usize, slot: usize) -> Option<Holder>
@@ -154,45 +150,5 @@ pub fn master_of_set(owned: &[Owned], number: u64) -> u64
     match find_set(owned, number) {
         Some(set) => set.master,
         None => 0,
-    }
-}
-
-impl Formal {
-    /// Answers the cell that what it stands for has as an operand: the number of the object that a part is of, and 1 for the copy of a record.
-    pub fn cell(&self) -> u64
-        ensures { result ≡ worth (word_of_formal self.now) }
-    {
-        if self.is_value { 1 } else { self.spot.object() }
-    }
-
-    /// Answers the number of the object that it stands for a part of; 0 for the copy of a record.
-    pub fn object(&self) -> u64
-        ensures { result ≡ object_of (word_of_formal self.now) }
-    {
-        if self.is_value { 0 } else { self.spot.object() }
-    }
-
-    /// Answers what stands among the parts where what it stands for is an operand: a copy of the part, or of the value of the record.
-    pub fn copied(&self, alloc: Global) -> Result<Spot, AllocError>
-        ensures { IfOk result (λ s. located (word_of_formal self.now ∷ []) ≡ s ∷ []) }
-    {
-        if self.is_value {
-            self.spot.copied_value(alloc)
-        } else {
-            self.spot.copied(alloc)
-        }
-    }
-}
-
-impl Owned {
-    /// Tells whether this is the collection of this number.
-    fn is_set(self, number: u64) -> bool
-        ensures set { IsTrue result → IsSet number self }
-        ensures other { IsFalse result → IsSet number self → ⊥ }
-    {
-        match self.role {
-            Role::Object { .. } => false,
-            Role::Collection { .. } => self.number == number,
-        }
     }
 }

@@ -4,26 +4,25 @@
 ghost use Rattle.ctl_tree.specs.declared.event.Cause.TheVariants as CauseOf;
 ghost use Rattle.std.specs.Prelude.{◌≡◌, ◌||◌, ◌+◌, ◌<◌, ◌≤◌, ℕ, [], ◌∷◌, List, IfNone, IfSome, IsFalse, None, Some, drop, length, reverse, slice_get, slice_set, take, vec_capacity, vec_len};
 ghost use Rattle.ctl_meaning.specs.Objects.{change_in, with_begun};
-ghost use Rattle.ctl_meaning.specs.Outcome.{Fine};
+ghost use Rattle.ctl_meaning.specs.Outcome.{Fine, Done, Result};
 ghost use Rattle.ctl_meaning.specs.World.{Object};
 ghost use Rattle.ctl_code.specs.Table as Table;
 ghost use Rattle.ctl_code.specs.Valid.{IsValid};
-ghost use Rattle.ctl_engine.specs.declared.frame.Frame.TheVariants as FrameOf;
-ghost use Rattle.ctl_engine.specs.declared.frame.Owned.{Owned};
+ghost use Rattle.ctl_frames.specs.declared.frame.Frame.TheVariants as FrameOf;
+ghost use Rattle.ctl_frames.specs.declared.frame.Owned.{Owned};
 ghost use Rattle.ctl_engine.specs.Departing.{IsFinalizeOf, IsNewestLayer, TakesOut, out};
 ghost use Rattle.ctl_engine.specs.LeftPools.{LeavesPools};
-ghost use Rattle.ctl_engine.specs.Masters.{layers_from, rising_layers};
+ghost use Rattle.ctl_frames.specs.Masters.{layers_from, rising_layers};
 ghost use Rattle.ctl_objects.specs.Stock.{Stock};
-ghost use Rattle.ctl_engine.specs.Owned.{HaveCome, remaining, set_numbers, sets_owned};
+ghost use Rattle.ctl_frames.specs.Owned.{HaveCome, remaining, set_numbers, sets_owned};
 ghost use Rattle.ctl_objects.specs.Order.{AreUpTo};
 ghost use Rattle.ctl_engine.specs.Shows as Shows;
 ghost use Rattle.ctl_engine.specs.Shows.{IsPlainly, IsResult};
-ghost use Rattle.ctl_meaning.specs.Outcome.{Done, Result};
 
 use crate::calls::{Departure, replace_top};
 use crate::engine::Engine;
-use crate::frame::{Completion, Ended, Frame, Master, Mode, Owned, Role};
 use ctl_code::code::{Code, Entry, Way};
+use ctl_frames::frame::{Completion, Ended, Frame, Master, Mode, Owned, Role};
 use ctl_objects::Objects;
 use ctl_tree::event::Cause;
 

@@ -3,13 +3,13 @@
 ghost use Rattle.std.specs.Prelude.{◌≡◌, ◌≢◌, ◌-◌, IfNone, IfSome, Some, length, slice_get};
 ghost use Rattle.ctl_meaning.specs.Outcome as Outcome;
 ghost use Rattle.ctl_code.specs.Table as Table;
-ghost use Rattle.ctl_engine.specs.declared.frame.Frame.TheVariants as FrameOf;
-ghost use Rattle.ctl_engine.specs.declared.frame.After.{After};
-ghost use Rattle.ctl_engine.specs.declared.frame.Handling.{Handling};
+ghost use Rattle.ctl_frames.specs.declared.frame.Frame.TheVariants as FrameOf;
+ghost use Rattle.ctl_frames.specs.declared.frame.After.{After};
+ghost use Rattle.ctl_frames.specs.declared.frame.Handling.{Handling};
 
 use crate::engine::Engine;
-use crate::frame::{After, Frame};
 use ctl_code::code::Way;
+use ctl_frames::frame::{After, Frame};
 
 /// The place where control comes behind a master that is left, and the first cell of the window that is the newest one then.
 #[derive(Clone, Copy)]

@@ -1,50 +1,21 @@
-//! The engine of the machine: its state, and what is done to the objects, the parts and the cells in it.
+//! The engine of the machine: its state, and how masters and calls come and go in it.
 #![tactic(auto)]
 
-pub mod adjusting;
-pub mod allocating;
-pub mod allocating_copy;
-pub mod assign;
 pub mod begin;
 pub mod calls;
 pub mod closing;
-pub mod components;
 pub mod computing;
-pub mod copies;
-pub mod creating;
-pub mod declare;
-pub mod dereferencing;
-pub mod emptying;
 pub mod engine;
-pub mod evaluating;
-pub mod failing;
-pub mod filling;
 pub mod finalizing;
-pub mod frame;
 pub mod freeing;
-pub mod granting;
 pub mod handlers;
 pub mod holders;
-pub mod initialize;
 pub mod jumps;
 pub mod layers;
 pub mod leaving;
-pub mod locating;
 pub mod loops;
-pub mod outcome;
-pub mod parts;
-pub mod pool_blocks;
-pub mod pools;
 pub mod printing;
-pub mod record_values;
 pub mod resuming;
-pub mod returning;
-mod room;
-pub mod seen;
 pub mod showing;
-pub mod spots;
 pub mod start;
-pub mod storage_calls;
-pub mod undoing;
-pub mod variables;
 pub mod window;

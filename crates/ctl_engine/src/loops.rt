@@ -4,15 +4,15 @@
 ghost use Rattle.std.specs.Prelude.{◌≡◌, ◌+◌, ◌^◌, ◌<◌, MatchOption, Some, length, slice_set};
 ghost use Rattle.ctl_code.specs.Table as Table;
 ghost use Rattle.ctl_code.specs.Valid.{IsValid};
-ghost use Rattle.ctl_engine.specs.declared.frame.Mode.TheVariants as ModeOf;
+ghost use Rattle.ctl_frames.specs.declared.frame.Mode.TheVariants as ModeOf;
 ghost use Rattle.ctl_engine.specs.Instructions.{Turns};
 ghost use Rattle.ctl_engine.specs.Moves.{Before, here_of};
 ghost use Rattle.ctl_engine.specs.Turns as Turns;
 ghost use Rattle.ctl_engine.specs.Windows.{Comes, IsGoing, IsWindow, Moment};
 
-use crate::frame::Mode;
 use crate::window::{read, write};
 use ctl_code::code::{Code, Instr};
+use ctl_frames::frame::Mode;
 use ctl_program::operators::Direction;
 use ctl_values::operators::{cell_of, signed};
 

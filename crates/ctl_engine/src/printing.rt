@@ -9,12 +9,12 @@ ghost use Rattle.ctl_engine.specs.Moves.{Before, GoesOn, Makes, here_of};
 ghost use Rattle.ctl_engine.specs.Prints.{line_end, print_of};
 
 use crate::engine::Engine;
-use crate::frame::Mode;
-use crate::room::reserve;
 use ctl_code::code::Code;
+use ctl_frames::frame::Mode;
 use ctl_tree::event::Event;
 use ctl_tree::text::Text;
 use ctl_values::texts::text_from;
+use room::reserve;
 use std::alloc::AllocError;
 
 /// A text is printed, and its line ends where that is asked.

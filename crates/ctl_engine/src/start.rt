@@ -6,9 +6,9 @@ ghost use Rattle.ctl_code.specs.Valid.{IsValid};
 ghost use Rattle.ctl_engine.specs.Shows.{Shows};
 
 use crate::engine::Engine;
-use crate::frame::{Mode, Numbered};
-use crate::parts::needs_of;
 use ctl_code::code::Code;
+use ctl_frames::frame::{Mode, Numbered};
+use ctl_frames::parts::needs_of;
 use ctl_objects::Objects;
 use ctl_tree::event::Event;
 use std::alloc::{AllocError, Global};

@@ -11,8 +11,10 @@ ghost use Rattle.ctl_engine.specs.RecordValues.{IsPart};
 
 use ctl_code::code::{Code, Parts};
 use ctl_engine::engine::Engine;
-use ctl_engine::frame::Mode;
-use ctl_engine::parts::parts_of;
+use ctl_frames::frame::Mode;
+use ctl_frames::parts::parts_of;
+use ctl_lifetimes::assign::replace_at_once;
+use ctl_places::record_values::{is_newest_value, is_value_below};
 use ctl_steps::assign::finalize_target;
 use ctl_tree::ending::Stop;
 use std::alloc::AllocError;
@@ -34,7 +36,7 @@ fn replace_value(
     ensures err { OnErr result (GoesOn engine.old engine.new engine.old.mode engine.old.cells.items) }
 {
     match parts_of(code, record) {
-        Parts::Plain => engine.replace_at_once(code, record, is_value, place),
+        Parts::Plain => replace_at_once(engine, code, record, is_value, place),
         _ => finalize_target(engine, code, record, is_value, place),
     }
 }
@@ -57,11 +59,11 @@ pub(crate) fn assign(
     ensures ok { OnOk result (Makes code.now engine.old engine.new (Table.by_instr code.now (Some (InstrOf.Assign «record»)) s.operands (here_of place s))) }
     ensures err { OnErr result (GoesOn engine.old engine.new engine.old.mode engine.old.cells.items) }
 {
-    if engine.is_value_below(code, place) {
+    if is_value_below(engine, code, place) {
         engine.mode = Mode::Stopped(Stop::UseAfterFree);
         return Ok(());
     }
-    if engine.is_newest_value(code, place) {
+    if is_newest_value(engine, code, place) {
         return replace_value(engine, code, record, true, place + 1);
     }
     assign_part(engine, code, record, place)

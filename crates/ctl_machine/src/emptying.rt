@@ -7,10 +7,10 @@ ghost use Rattle.ctl_code.specs.States as T;
 ghost use Rattle.ctl_code.specs.States.{State};
 ghost use Rattle.ctl_code.specs.Table as Table;
 ghost use Rattle.ctl_code.specs.Valid.{IsValid};
-ghost use Rattle.ctl_engine.specs.declared.frame.Frame.{Frame};
-ghost use Rattle.ctl_engine.specs.declared.frame.Frame.TheVariants as FrameOf;
-ghost use Rattle.ctl_engine.specs.Emptying.{Emptied, Empties, member_finished};
-ghost use Rattle.ctl_engine.specs.Filling.{noted_among, pick_among};
+ghost use Rattle.ctl_frames.specs.declared.frame.Frame.{Frame};
+ghost use Rattle.ctl_frames.specs.declared.frame.Frame.TheVariants as FrameOf;
+ghost use Rattle.ctl_lifetimes.specs.Emptying.{Emptied, Empties, member_finished};
+ghost use Rattle.ctl_frames.specs.Filling.{noted_among, pick_among};
 ghost use Rattle.ctl_engine.specs.Finishing.{Finished};
 ghost use Rattle.ctl_engine.specs.Moves.{BeforeResuming, Chooses, GoesOn, Resumes};
 ghost use Rattle.ctl_engine.specs.Shows as Shows;
@@ -18,16 +18,16 @@ ghost use Rattle.ctl_engine.specs.Shows as Shows;
 use crate::finalizing::finalize_whole;
 use ctl_code::code::Code;
 use ctl_engine::calls::replace_top;
-use ctl_engine::emptying::{Member, pick_of};
 use ctl_engine::engine::Engine;
-use ctl_engine::filling::note_pick;
 use ctl_engine::finalizing::{Finalization, doubled, handed};
-use ctl_engine::frame::{Ended, Frame, Mode};
 use ctl_engine::layers::fails_with;
-use ctl_engine::spots::Spot;
-use ctl_objects::room::reserve;
+use ctl_frames::frame::{Ended, Frame, Mode};
+use ctl_frames::spots::Spot;
+use ctl_lifetimes::emptying::{Member, find_candidates, pick_of};
+use ctl_lifetimes::filling::note_pick;
 use ctl_tree::event::Cause;
 use ctl_tree::request::Order;
+use room::reserve;
 use std::alloc::AllocError;
 
 /// Finalizes this member of some collections, which an order has chosen among so many; the frame of the collections waits for it
@@ -93,7 +93,7 @@ pub(crate) fn resume_emptying(
     ensures err { OnErr result (GoesOn engine.old engine.new engine.old.mode engine.old.cells.items) }
 {
     let fails = fails_with(failed, ended);
-    let found = engine.candidates(code, order, first, last);
+    let found = find_candidates(engine, code, order, first, last);
     let Some(member) = found.chosen else {
         let _ = engine.control.take_last();
         engine.mode = Mode::Giving(handed(fails));

@@ -1,7 +1,7 @@
 //! Objects are freed (RM 13.11.2): one that is still to be finalized is finalized, what designated it becomes null, it is gone, and its storage
 //! is given back.
 
-ghost use Rattle.std.specs.Prelude.{◌≡◌, ◌+◌, ◌-◌, ◌^◌, ◌<◌, ◌≤◌, ◌∷◌, ◌++◌, List, ℕ, IfOk, OnErr, OnOk, Some, drop, is_some, length, reverse, slice_get, false, vec_capacity, vec_len};
+ghost use Rattle.std.specs.Prelude.{◌≡◌, ◌+◌, ◌-◌, ◌^◌, ◌<◌, ◌≤◌, ◌∷◌, ◌++◌, List, ℕ, IfOk, OnErr, OnOk, Some, drop, length, reverse, slice_get, false, vec_capacity, vec_len};
 ghost use Rattle.ctl_tree.specs.declared.event.Cause.TheVariants as CauseOf;
 ghost use Rattle.ctl_meaning.specs.Changes.{object_at};
 ghost use Rattle.ctl_meaning.specs.Finalization as S;
@@ -11,31 +11,34 @@ ghost use Rattle.ctl_code.specs.declared.code.Instr.TheVariants as InstrOf;
 ghost use Rattle.ctl_code.specs.Table as Table;
 ghost use Rattle.ctl_code.specs.States.{Giving, NullPart, NullVariable, State, whole_spot};
 ghost use Rattle.ctl_code.specs.Valid.{IsValid};
-ghost use Rattle.ctl_engine.specs.declared.frame.Frame.{Frame};
-ghost use Rattle.ctl_engine.specs.declared.frame.Frame.TheVariants as FrameOf;
-ghost use Rattle.ctl_engine.specs.declared.frame.Nulled.TheVariants as NulledOf;
+ghost use Rattle.ctl_frames.specs.declared.frame.Frame.{Frame};
+ghost use Rattle.ctl_frames.specs.declared.frame.Frame.TheVariants as FrameOf;
+ghost use Rattle.ctl_frames.specs.declared.frame.Nulled.TheVariants as NulledOf;
 ghost use Rattle.ctl_engine.specs.Allocating.{OwnsNone};
 ghost use Rattle.ctl_engine.specs.Assigning.{HasRoom};
 ghost use Rattle.ctl_engine.specs.Finishing.{AreDoubles};
-ghost use Rattle.ctl_engine.specs.Freeing as Freeing;
-ghost use Rattle.ctl_engine.specs.Freeing.{Freed, Frees, Gone, HasReturnRoom, IsEnding, IsFate, IsLetGo, IsReleased, by_component, by_variable, freeing_of, gone_by_part, point_of, storage_at, units_at};
-ghost use Rattle.ctl_engine.specs.Masters.{heads_of};
+ghost use Rattle.ctl_places.specs.Freeing as Freeing;
+ghost use Rattle.ctl_places.specs.Freeing.{Freed, Frees, Gone, HasReturnRoom, IsEnding, IsFate, IsLetGo, IsReleased, by_component, by_variable, freeing_of, gone_by_part, point_of, storage_at, units_at};
+ghost use Rattle.ctl_frames.specs.Masters.{heads_of};
 ghost use Rattle.ctl_engine.specs.Moves.{Before, BeforeResuming, GoesOn, Makes, here_of};
 ghost use Rattle.ctl_engine.specs.Shows as Shows;
 ghost use Rattle.ctl_engine.specs.Shows.{Holds, IsStored, kept};
-ghost use Rattle.ctl_engine.specs.Spots.{first_spot};
-ghost use Rattle.ctl_engine.specs.Under.{tall};
+ghost use Rattle.ctl_frames.specs.Spots.{first_spot};
+ghost use Rattle.ctl_frames.specs.Under.{tall};
 
 use crate::finalizing::finalize_whole;
+use ctl_allocations::allocating::set_held;
+use ctl_allocations::granting::units_for;
 use ctl_code::code::Code;
 use ctl_engine::engine::Engine;
 use ctl_engine::finalizing::{Doubles, Finalization, doubled};
-use ctl_engine::frame::{Ended, Frame, Mode, Nulled, Storage};
 use ctl_engine::freeing::{Component, Ending, Fate, Found, Release};
-use ctl_engine::granting::units_for;
-use ctl_engine::parts::{offset_of, parts_of};
-use ctl_engine::spots::Spot;
+use ctl_frames::frame::{Ended, Frame, Mode, Nulled, Storage};
+use ctl_frames::parts::{offset_of, parts_of};
+use ctl_frames::spots::Spot;
 use ctl_objects::{Existing, Life, Objects, Origin, Place};
+use ctl_places::components::read_at;
+use ctl_places::variables::read_variable;
 use ctl_program::types::{Ty, Var};
 use ctl_steps::freeing::{deallocate_of, is_unfinished, null_variable, return_storage};
 use ctl_tree::ending::Stop;
@@ -102,7 +105,7 @@ fn fate(engine: &Engine, code: &Code, access: &Var, object: u64) -> Found
 {
     match engine.stock.find(object) {
         Some(existing) => Found {
-            fate: fate_of(code, engine.set_held(code, access), &existing),
+            fate: fate_of(code, set_held(engine, code, access), &existing),
             storage: Storage {
                 place: storage_of(existing.origin),
                 units: units_for(code, existing.ty),
@@ -231,7 +234,7 @@ pub(crate) fn free_variable(
     ensures ok { OnOk result (Makes code.now engine.old engine.new (Table.by_instr code.now (Some (InstrOf.Free access out slot)) s.operands (here_of place s))) }
     ensures err { OnErr result (GoesOn engine.old engine.new engine.old.mode engine.old.cells.items) }
 {
-    let object = engine.read_variable(code, out, slot);
+    let object = read_variable(engine, code, out, slot);
     if object == 0 {
         engine.go_on(Mode::At(place + 2));
         return Ok(());
@@ -395,7 +398,7 @@ pub(crate) fn free_part(
     let offset = offset_of(code, record, position);
     let newest = engine.count_spots() - 1;
     let spot = &engine.spots[newest];
-    let Some(object) = engine.read_at(code, spot.object(), spot.offset(), offset) else {
+    let Some(object) = read_at(engine, code, spot.object(), spot.offset(), offset) else {
         engine.go_on(Mode::Stopped(Stop::UseAfterFree));
         return Ok(());
     };

@@ -4,14 +4,14 @@ ghost use Rattle.std.specs.Prelude.{◌+◌, ◌^◌, ◌<◌, OnErr, OnOk};
 ghost use Rattle.ctl_code.specs.States.{State};
 ghost use Rattle.ctl_code.specs.Table as Table;
 ghost use Rattle.ctl_code.specs.Valid.{IsValid};
-ghost use Rattle.ctl_engine.specs.declared.frame.Completion.TheVariants as CompletionOf;
+ghost use Rattle.ctl_frames.specs.declared.frame.Completion.TheVariants as CompletionOf;
 ghost use Rattle.ctl_engine.specs.Shows.{way_in};
 ghost use Rattle.ctl_engine.specs.Moves.{BeforeLeaving, GoesOn, Makes};
 
 use crate::leaving::leave;
 use ctl_code::code::{Code, Way};
 use ctl_engine::engine::Engine;
-use ctl_engine::frame::{Completion, Handling, Mode};
+use ctl_frames::frame::{Completion, Handling, Mode};
 use std::alloc::AllocError;
 
 /// Transfers control out of the statements of the newest master: an exception goes to its handlers, if it has some that have not begun

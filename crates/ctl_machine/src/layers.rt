@@ -4,15 +4,15 @@ ghost use Rattle.std.specs.Prelude.{◌≡◌, ◌∷◌, List, reverse};
 ghost use Rattle.ctl_code.specs.States.{Giving, State};
 ghost use Rattle.ctl_code.specs.Table as Table;
 ghost use Rattle.ctl_code.specs.Valid.{IsValid};
-ghost use Rattle.ctl_engine.specs.declared.frame.Frame.{Frame};
-ghost use Rattle.ctl_engine.specs.declared.frame.Frame.TheVariants as FrameOf;
+ghost use Rattle.ctl_frames.specs.declared.frame.Frame.{Frame};
+ghost use Rattle.ctl_frames.specs.declared.frame.Frame.TheVariants as FrameOf;
 ghost use Rattle.ctl_engine.specs.Moves.{BeforeResuming, Makes};
 ghost use Rattle.ctl_engine.specs.Shows as Shows;
 
 use ctl_code::code::Code;
 use ctl_engine::engine::Engine;
-use ctl_engine::frame::{Ended, Frame, Mode};
 use ctl_engine::layers::remembered;
+use ctl_frames::frame::{Ended, Frame, Mode};
 use ctl_steps::closing::close_after;
 use ctl_tree::event::Cause;
 

@@ -7,21 +7,21 @@ ghost use Rattle.ctl_code.specs.States.{State, Word, worth};
 ghost use Rattle.ctl_meaning.specs.Finalization as S;
 ghost use Rattle.ctl_code.specs.Valid.{HaveOperands, IsValid};
 ghost use Rattle.ctl_code.specs.Windows.{height};
-ghost use Rattle.ctl_engine.specs.Calling as Calling;
-ghost use Rattle.ctl_engine.specs.Calling.{BeforeCall};
-ghost use Rattle.ctl_engine.specs.Masters.{first_window};
+ghost use Rattle.ctl_allocations.specs.Calling as Calling;
+ghost use Rattle.ctl_allocations.specs.Calling.{BeforeCall};
+ghost use Rattle.ctl_frames.specs.Masters.{first_window};
 ghost use Rattle.ctl_engine.specs.Moves.{GoesOn, Makes, here_of};
-ghost use Rattle.ctl_engine.specs.Passing.{AreActuals, StandIn, bound, cell_passed, formal_if, is_located, passed, with_actuals};
-ghost use Rattle.ctl_engine.specs.Spots.{located};
+ghost use Rattle.ctl_places.specs.Passing.{AreActuals, StandIn, bound, cell_passed, formal_if, is_located, passed, with_actuals};
+ghost use Rattle.ctl_frames.specs.Spots.{located};
 ghost use Rattle.ctl_engine.specs.Shows.{kept};
-ghost use Rattle.ctl_engine.specs.declared.frame.Mode.TheVariants as ModeOf;
+ghost use Rattle.ctl_frames.specs.declared.frame.Mode.TheVariants as ModeOf;
 ghost use Rattle.ctl_engine.specs.Windows.{IsGoing};
 
 use ctl_code::code::Code;
 use ctl_engine::engine::{Engine, clear};
-use ctl_engine::frame::{After, Callee, Formal, Master};
-use ctl_engine::record_values::is_value_as;
-use ctl_engine::spots::Spot;
+use ctl_frames::frame::{After, Callee, Formal, Master};
+use ctl_frames::spots::Spot;
+use ctl_places::record_values::is_value_as;
 use ctl_steps::procedures::is_part;
 use std::alloc::AllocError;
 
@@ -113,7 +113,7 @@ fn bind_parts(
 
 /// Counts the cells of a window below the actuals of a call, which stands at this place with so many.
 #[inline(always)]
-#[tactic(auto, using(ctl_engine::proofs::SubprogramCalled::height_over))]
+#[tactic(auto, using(ctl_allocations::proofs::SubprogramCalled::height_over))]
 fn height_below(code: &Code, actuals: usize, place: usize) -> usize
     requires before { place < length code.now.kinds }
     requires actuals { HaveOperands actuals (stack_at code.now.kinds place) }

@@ -27,9 +27,9 @@ ghost use Rattle.ctl_storage.specs.Storage.{ArePools};
 use crate::allocations::Allocations;
 use crate::cells::{add_zeros, copy_cells, read_cell, save_cells, write_cell, write_cells};
 use crate::existing::{Existing, Origin};
-use crate::room::reserve;
 use ctl_program::types::Ty;
 use ctl_storage::{PoolSize, Stage, Step};
+use room::reserve;
 use std::alloc::{AllocError, Global};
 use std::marker::Model;
 

@@ -7,7 +7,6 @@ mod cells;
 mod declarations;
 mod existing;
 mod object_list;
-pub mod room;
 
 pub use ctl_groups::{Group, Need, Start, Waiting};
 pub use ctl_storage::{BlockReturn, Life, Place, Placing, Pool, PoolSize, PoolState, Spot, Stage};

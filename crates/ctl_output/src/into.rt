@@ -15,7 +15,7 @@ ghost use Rattle.ctl_output.specs.declared.summary.RunFault.TheVariants.{Write};
 
 use crate::printing::run_printing;
 use crate::summary::{RunFault, Summary};
-use ctl_engine::outcome::Outcome;
+use ctl_frames::outcome::Outcome;
 use ctl_run::run::run_source;
 use ctl_sink::{Sink, put_all};
 use ctl_text::{output_text_in, trace_text_in};

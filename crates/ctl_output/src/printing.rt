@@ -13,7 +13,7 @@ ghost use Rattle.ctl_tree.specs.declared.request.Show.TheVariants.{Output};
 ghost use Rattle.ctl_output.specs.declared.summary.RunFault.TheVariants.{Write};
 
 use crate::summary::{RunFault, Summary};
-use ctl_engine::outcome::Progress;
+use ctl_frames::outcome::Progress;
 use ctl_machine::machine::Machine;
 use ctl_sink::{PutFault, Sink, put_all};
 use ctl_tree::event::Event;

@@ -1,6 +1,6 @@
 //! Summaries of runs whose text has been written, and the reasons why one was not.
 
-use ctl_engine::outcome::Outcome;
+use ctl_frames::outcome::Outcome;
 use ctl_tree::ending::End;
 use ctl_tree::fault::Fault;
 use thiserror::Error;

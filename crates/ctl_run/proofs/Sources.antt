@@ -6,7 +6,7 @@ use Rattle.ctl_tree.specs.declared.request.Order.{Order}
 use Rattle.ctl_meaning.specs.Choice.{replayed}
 use Rattle.ctl_code.specs.declared.code.Code.{Code}
 use Rattle.ctl_code.specs.Steps.{end_of}
-use Rattle.ctl_engine.specs.declared.outcome.Outcome.{Outcome}
+use Rattle.ctl_frames.specs.declared.outcome.Outcome.{Outcome}
 use Rattle.ctl_engine.specs.Shows.{chosen}
 use Rattle.ctl_machine.specs.Machine.{Ends, Reports, Running, after_steps, is_end, shown_between}
 use Rattle.ctl_machine.proofs.Ends.{no_limit}

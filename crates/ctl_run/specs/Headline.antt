@@ -15,7 +15,7 @@ use Rattle.ctl_code.specs.States.{Stuck}
 use Rattle.ctl_code.specs.Steps.{end_of}
 use Rattle.ctl_code.specs.Laws.{IsPrefix}
 use Rattle.ctl_layout.specs.Layout.{IsLaidOut}
-use Rattle.ctl_engine.specs.declared.outcome.Outcome.{Outcome}
+use Rattle.ctl_frames.specs.declared.outcome.Outcome.{Outcome}
 use Rattle.ctl_machine.specs.Machine.{after_steps}
 use Rattle.ctl_engine.specs.Shows.{chosen}
 use Rattle.ctl_verdict.specs.Verdict.{IsVerdict}

@@ -6,7 +6,7 @@ ghost use Rattle.ctl_lex.specs.Memory.{IsMemory};
 ghost use Rattle.ctl_run.specs.Headline.{RunsSource, account_of};
 ghost use Rattle.ctl_verdict.specs.Verdict.{IsFaultOf, IsFaultless};
 
-use ctl_engine::outcome::Outcome;
+use ctl_frames::outcome::Outcome;
 use ctl_machine::machine::Machine;
 use ctl_tree::fault::Fault;
 use ctl_tree::request::Order;

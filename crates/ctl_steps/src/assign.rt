@@ -11,10 +11,11 @@ use crate::finalizing::finalize_part;
 use ctl_code::code::Code;
 use ctl_engine::engine::Engine;
 use ctl_engine::finalizing::Finalization;
-use ctl_engine::frame::{Frame, Value};
-use ctl_engine::parts::{parts_of, size_of};
-use ctl_objects::room::reserve;
+use ctl_frames::frame::{Frame, Value};
+use ctl_frames::parts::{parts_of, size_of};
+use ctl_lifetimes::assign::{double_part, save_value};
 use ctl_tree::event::Cause;
+use room::reserve;
 use std::alloc::AllocError;
 
 /// Saves the value of the newest part, of an object that is there, or of a record, for the part below it, both of this record type, and
@@ -35,11 +36,11 @@ pub fn finalize_target(
     ensures err { OnErr result (GoesOn engine.old engine.new engine.old.mode engine.old.cells.items) }
 {
     let base = engine.window() + code.kinds.height_at(place, 0);
-    let doubles = engine.double_part(engine.count_spots() - 2)?;
+    let doubles = double_part(engine, engine.count_spots() - 2)?;
     let size = size_of(code, record);
     reserve(&mut engine.saved, size)?;
     engine.prepare_finalization(code, base)?;
-    engine.save_value(size, is_value);
+    save_value(engine, size, is_value);
     engine.control.push_reserved(Frame::Assigning {
         record,
         value: Value::Saved,

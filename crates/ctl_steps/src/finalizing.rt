@@ -2,22 +2,20 @@
 
 ghost use Rattle.std.specs.Prelude.{◌≡◌};
 ghost use Rattle.ctl_meaning.specs.Changes as Changes;
-ghost use Rattle.ctl_code.specs.States.{Giving};
 ghost use Rattle.ctl_code.specs.Table as Table;
 ghost use Rattle.ctl_code.specs.Valid.{IsValid};
-ghost use Rattle.ctl_engine.specs.declared.frame.Frame.{Frame};
 ghost use Rattle.ctl_engine.specs.Assigning.{Called};
 ghost use Rattle.ctl_engine.specs.Finishing.{AreDoubles, BeginsOver, CallsOwn, Finished, Finishes, HasFrameRoom, HasRoomToFinish};
 ghost use Rattle.ctl_engine.specs.Moves.{Makes};
 
 use ctl_code::code::{Code, Entry, Parts};
 use ctl_engine::engine::Engine;
-use ctl_engine::filling::all_controlled;
 use ctl_engine::finalizing::{Doubles, Finalization, handed};
-use ctl_engine::frame::{Ended, Frame, Mode};
 use ctl_engine::layers::finalize_of;
-use ctl_engine::parts::parts_of;
-use ctl_engine::spots::Spot;
+use ctl_frames::frame::{Ended, Frame, Mode};
+use ctl_frames::parts::parts_of;
+use ctl_frames::spots::Spot;
+use ctl_lifetimes::filling::all_controlled;
 use ctl_tree::ending::Stop;
 use ctl_tree::event::{Cause, Event};
 

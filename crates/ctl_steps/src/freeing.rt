@@ -1,6 +1,6 @@
 //! Behind the finalization of an object that is freed (RM 13.11.2): what designated it becomes null, and its storage is given back.
 
-ghost use Rattle.std.specs.Prelude.{◌≡◌, ◌+◌, ◌-◌, ◌^◌, ◌<◌, ◌∷◌, ◌&&◌, [], ℕ, Some, is_some, length, slice_get, true, false};
+ghost use Rattle.std.specs.Prelude.{◌≡◌, ◌+◌, ◌^◌, ◌<◌, ◌∷◌, ◌&&◌, [], ℕ, is_some, length, slice_get, true};
 ghost use Rattle.ctl_tree.specs.declared.event.Event.TheVariants as EventOf;
 ghost use Rattle.ctl_meaning.specs.Changes.{home_of};
 ghost use Rattle.ctl_meaning.specs.Objects.{is_untouched, object_in};
@@ -15,21 +15,22 @@ ghost use Rattle.ctl_code.specs.Table as Table;
 ghost use Rattle.ctl_code.specs.States.{AfterProcedure, NullVariable};
 ghost use Rattle.ctl_code.specs.Valid.{IsValid};
 ghost use Rattle.ctl_engine.specs.Assigning.{HasRoom};
-ghost use Rattle.ctl_engine.specs.Freeing as Freeing;
-ghost use Rattle.ctl_engine.specs.Freeing.{Deallocates, Gone, IsEnding, IsGivenBack, IsGone, IsLetGo, gone_by_variable};
-ghost use Rattle.ctl_engine.specs.Masters.{heads_of};
+ghost use Rattle.ctl_places.specs.Freeing as Freeing;
+ghost use Rattle.ctl_places.specs.Freeing.{Deallocates, Gone, IsEnding, IsGivenBack, IsGone, IsLetGo, gone_by_variable};
+ghost use Rattle.ctl_frames.specs.Masters.{heads_of};
 ghost use Rattle.ctl_engine.specs.Moves.{Makes};
 ghost use Rattle.ctl_engine.specs.Shows as Shows;
-ghost use Rattle.ctl_engine.specs.StorageCalling.{StorageCall};
-ghost use Rattle.ctl_engine.specs.Under.{tall};
+ghost use Rattle.ctl_places.specs.StorageCalling.{StorageCall};
+ghost use Rattle.ctl_frames.specs.Under.{tall};
 
 use ctl_code::code::{Code, Parts};
 use ctl_engine::engine::Engine;
-use ctl_engine::frame::{After, Ended, Mode};
 use ctl_engine::freeing::{Deallocation, Ending, GivenBack};
-use ctl_engine::parts::parts_of;
-use ctl_engine::storage_calls::StorageActuals;
+use ctl_frames::frame::{After, Ended, Mode};
+use ctl_frames::parts::parts_of;
 use ctl_objects::{BlockReturn, Existing, Life, Objects, Place, PoolState};
+use ctl_places::storage_calls::{StorageActuals, call_storage};
+use ctl_places::variables::give;
 use ctl_program::types::Ty;
 use ctl_tree::ending::Stop;
 use ctl_tree::event::Event;
@@ -143,7 +144,7 @@ fn deallocate(
     };
     let after = After::Procedure { place, copies: 0 };
     let entry = code.entries[call.body];
-    engine.call_storage(code, &entry, master, base, event, actuals, after);
+    call_storage(engine, code, &entry, master, base, event, actuals, after);
 }
 
 /// Gives back the storage of an object that is gone, and goes on behind its freeing (RM 13.11.2); there is room for the call of a
@@ -186,7 +187,7 @@ pub fn null_variable(
     requires ends { IsEnding code.now engine.old ending }
     ensures { Makes code.now engine.old engine.new (Table.freed_in code.now (NullVariable out slot) object (place_of ending.storage.place) ending.storage.units (Table.says_failed (Shows.tried_of ending.ended)) t.0.point t.0.control t.0.world) }
 {
-    engine.give(code, out, slot, 0, ending.place);
+    give(engine, code, out, slot, 0, ending.place);
     engine.stock.forget(object);
     return_storage(engine, code, ending);
 }

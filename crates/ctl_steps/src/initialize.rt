@@ -3,15 +3,17 @@
 ghost use Rattle.std.specs.Prelude.{◌≡◌, ◌∷◌, List, OnErr, OnOk, reverse};
 ghost use Rattle.ctl_code.specs.Table as Table;
 ghost use Rattle.ctl_code.specs.States.{Giving, State};
-ghost use Rattle.ctl_engine.specs.declared.frame.Frame.{Frame};
-ghost use Rattle.ctl_engine.specs.declared.frame.Frame.TheVariants as FrameOf;
+ghost use Rattle.ctl_frames.specs.declared.frame.Frame.{Frame};
+ghost use Rattle.ctl_frames.specs.declared.frame.Frame.TheVariants as FrameOf;
 ghost use Rattle.ctl_engine.specs.Moves.{BeforeResuming, GoesOn, Makes};
 ghost use Rattle.ctl_engine.specs.Shows as Shows;
 
 use ctl_code::code::Code;
 use ctl_engine::engine::Engine;
-use ctl_engine::filling::{Creation, all_controlled};
-use ctl_engine::frame::{Ended, Frame};
+use ctl_frames::frame::{Ended, Frame};
+use ctl_lifetimes::failing::fail;
+use ctl_lifetimes::filling::{Creation, all_controlled};
+use ctl_lifetimes::initialize::complete;
 use ctl_tree::event::Owner;
 use std::alloc::AllocError;
 
@@ -31,11 +33,17 @@ pub fn resume_initializing(
     ensures err { OnErr result (GoesOn engine.old engine.new engine.old.mode engine.old.cells.items) }
 {
     if let Ended::Raised(exception) = ended {
-        return engine.fail(code, record, all_controlled(code, record), exception);
+        return fail(
+            engine,
+            code,
+            record,
+            all_controlled(code, record),
+            exception,
+        );
     }
     let creation = Creation {
         record_type: record,
         owner,
     };
-    engine.complete(code, creation)
+    complete(engine, code, creation)
 }

@@ -1,14 +1,13 @@
 //! Masters whose statements are over are left: their layers one by one, the newest first, and then what they own (RM 7.6.1).
 
-ghost use Rattle.std.specs.Prelude.{◌≡◌, ◌+◌, ◌-◌, ◌^◌, ◌<◌, ◌∷◌, List, ℕ, OnErr, OnOk, Some, length, reverse, take, vec_len};
-ghost use Rattle.ctl_engine.specs.declared.frame.Frame.{Frame};
-ghost use Rattle.ctl_engine.specs.declared.frame.Frame.TheVariants as FrameOf;
-ghost use Rattle.ctl_engine.specs.declared.frame.After.{After};
-ghost use Rattle.ctl_engine.specs.declared.frame.After.TheVariants.{Block, Function};
+ghost use Rattle.std.specs.Prelude.{◌≡◌, ◌+◌, ◌^◌, ◌<◌, ◌∷◌, List, ℕ, OnErr, OnOk, length, reverse, take, vec_len};
+ghost use Rattle.ctl_frames.specs.declared.frame.Frame.{Frame};
+ghost use Rattle.ctl_frames.specs.declared.frame.Frame.TheVariants as FrameOf;
+ghost use Rattle.ctl_frames.specs.declared.frame.After.TheVariants.{Block, Function};
 ghost use Rattle.ctl_engine.specs.Shows as Shows;
-ghost use Rattle.ctl_engine.specs.declared.frame.Owned.{Owned};
+ghost use Rattle.ctl_frames.specs.declared.frame.Owned.{Owned};
 ghost use Rattle.ctl_engine.specs.Departing.{ClosesSo, Departed, Departs, FinalizesLayer};
-ghost use Rattle.ctl_engine.specs.Links.{first_base, first_end};
+ghost use Rattle.ctl_frames.specs.Links.{first_base, first_end};
 ghost use Rattle.ctl_engine.specs.Moves.{BeforeResuming, Closes, GoesOn, Makes};
 ghost use Rattle.ctl_code.specs.Table as Table;
 ghost use Rattle.ctl_code.specs.States.{Giving, State};
@@ -22,12 +21,13 @@ use ctl_code::code::{Code, Parts, Way};
 use ctl_engine::calls::Departure;
 use ctl_engine::engine::Engine;
 use ctl_engine::finalizing::{Finalization, doubled};
-use ctl_engine::frame::{After, Completion, Ended, Formal, Frame, Mode, Role};
 use ctl_engine::layers::{PROGRAM_ERROR, forget_owned, says_failed};
 use ctl_engine::leaving::completes_loop;
-use ctl_engine::parts::parts_of;
-use ctl_engine::returning::concerns_record;
-use ctl_engine::spots::Spot;
+use ctl_frames::frame::{After, Completion, Ended, Formal, Frame, Mode, Role};
+use ctl_frames::parts::parts_of;
+use ctl_frames::spots::Spot;
+use ctl_lifetimes::emptying::empty_layer;
+use ctl_places::returning::concerns_record;
 use ctl_tree::event::Cause;
 use std::alloc::AllocError;
 
@@ -200,7 +200,7 @@ pub fn next_layer(
         return Ok(());
     };
     match engine.owned[at].role {
-        Role::Collection { count, .. } => engine.empty_layer(code, departure, at, count),
+        Role::Collection { count, .. } => empty_layer(engine, code, departure, at, count),
         Role::Object { record } => match parts_of(code, record) {
             Parts::Plain => {
                 let number = engine.owned[at].number;

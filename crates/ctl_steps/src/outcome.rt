@@ -3,7 +3,7 @@
 ghost use Rattle.std.specs.Prelude.{◌≡◌};
 
 use ctl_engine::engine::Engine;
-use ctl_engine::outcome::Outcome;
+use ctl_frames::outcome::Outcome;
 use ctl_tree::ending::End;
 
 /// Answers what an engine has shown and which choices it has taken, with this end and after so many steps.

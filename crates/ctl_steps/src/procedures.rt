@@ -1,8 +1,8 @@
 //! Which actuals are passed by reference (RM 6.2).
 
-ghost use Rattle.std.specs.Prelude.{◌≡◌, Some};
+ghost use Rattle.std.specs.Prelude.{◌≡◌};
 ghost use Rattle.ctl_code.specs.Kinds.{stack_at};
-ghost use Rattle.ctl_engine.specs.Passing.{is_part_at};
+ghost use Rattle.ctl_places.specs.Passing.{is_part_at};
 
 use ctl_code::code::Code;
 use ctl_code::kinds::Kind;

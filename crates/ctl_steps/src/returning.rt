@@ -4,9 +4,9 @@ ghost use Rattle.std.specs.Prelude.{◌≡◌, ◌<◌, ◌∷◌, [], List, OnE
 ghost use Rattle.ctl_code.specs.Fits.{Behind, FitsWorld};
 ghost use Rattle.ctl_code.specs.Table as Table;
 ghost use Rattle.ctl_code.specs.Valid.{IsValid};
-ghost use Rattle.ctl_engine.specs.declared.frame.Master.{Master};
+ghost use Rattle.ctl_frames.specs.declared.frame.Master.{Master};
 ghost use Rattle.ctl_engine.specs.Departing.{Departed, Departs};
-ghost use Rattle.ctl_engine.specs.Masters.{layers_from};
+ghost use Rattle.ctl_frames.specs.Masters.{layers_from};
 ghost use Rattle.ctl_engine.specs.Moves.{GoesOn, Makes};
 
 use crate::leaving::{close, mode_behind};
@@ -14,8 +14,10 @@ use ctl_code::code::Code;
 use ctl_engine::calls::Departure;
 use ctl_engine::engine::Engine;
 use ctl_engine::layers::forget_owned;
-use ctl_engine::returning::{drop_parts, put_cell, put_record, waits_further};
-use ctl_objects::room::reserve;
+use ctl_places::returning::{
+    cell_behind, drop_parts, put_cell, put_record, record_behind, waits_further,
+};
+use room::reserve;
 use std::alloc::AllocError;
 
 /// Takes the newest master off, which is left so and of whose layers none is left, with what it owned, and goes on behind it, where a value
@@ -43,8 +45,8 @@ pub fn close_with_record(
     let newest = engine.newest();
     let after = departure.after;
     let completion = departure.completion();
-    let given = engine.record_behind(after, completion)?;
-    let cell = engine.cell_behind(after, completion);
+    let given = record_behind(engine, after, completion)?;
+    let cell = cell_behind(engine, after, completion);
     reserve(&mut engine.spots, 1)?;
     forget_owned(&mut engine.owned, &mut engine.stock, &newest);
     let base = close(engine, mode_behind(after, completion));

@@ -1,6 +1,6 @@
 //! Jobs on source texts, with readers and writers that fail.
 
-use ctl_engine::outcome::Outcome;
+use ctl_frames::outcome::Outcome;
 use ctl_job::{Job, UsageFault};
 use ctl_run::run::run_source;
 use ctl_serve::report::{Picks, say, say_end};

@@ -2,7 +2,7 @@
 
 use crate::rows::first_wrong;
 use crate::runs::{counted, outcome_of};
-use ctl_engine::outcome::Outcome;
+use ctl_frames::outcome::Outcome;
 use ctl_tree::ending::End;
 use ctl_tree::request::Order;
 use std::alloc::{AllocError, Global};

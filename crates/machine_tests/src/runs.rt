@@ -4,7 +4,7 @@
 //! the drop of each list is proved at each way out of the function.
 
 use crate::codes::valid_code_of;
-use ctl_engine::outcome::Outcome;
+use ctl_frames::outcome::Outcome;
 use ctl_machine::machine::Machine;
 use ctl_text::trace_text;
 use ctl_tree::request::Order;

@@ -1,7 +1,7 @@
 //! `ctl_run`: runs of texts to their ends and to a limit, and texts that are refused.
 
 use crate::texts::{EMPTY, TWO_OBJECTS, TWO_OBJECTS_TRACE, is_fault};
-use ctl_engine::outcome::Outcome;
+use ctl_frames::outcome::Outcome;
 use ctl_run::run::run_source;
 use ctl_text::{output_text, trace_text};
 use ctl_tree::ending::End;

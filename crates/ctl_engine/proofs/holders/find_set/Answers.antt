@@ -1,11 +1,11 @@
 use Rattle.std.proofs.Common.{◌∙◌, Some, ap, sym}
 use Rattle.std.specs.Prelude.{slice_get, slice_index_or}
 use Rattle.std.proofs.lemmas.Option.{slice_get_within}
-use Rattle.ctl_engine.specs.declared.frame.Owned.{Owned}
-use Rattle.ctl_engine.specs.Owned.{collection_of}
+use Rattle.ctl_frames.specs.declared.frame.Owned.{Owned}
+use Rattle.ctl_frames.specs.Owned.{collection_of}
 use Rattle.ctl_engine.proofs.Come.{set_found, no_set_found}
-use Rattle.ctl_engine.proofs.Lists.{get_index, same_at}
-use Rattle.ctl_engine.proofs.Newest.{any_owned}
+use Rattle.ctl_frames.proofs.Lists.{get_index, same_at}
+use Rattle.ctl_frames.proofs.Newest.{any_owned}
 use Rattle.ctl_engine.proofs.holders.find_set.Goals as goal
 
 pub returns-in-Some : goal.returns-in-Some

@@ -1,9 +1,9 @@
 use Rattle.std.proofs.Common.{◌≡◌, ◌∙◌, ◌-◌, Some, ap, arith, sym}
 use Rattle.std.specs.Prelude.{slice_get}
 use Rattle.ctl_code.specs.Table.{word_of}
-use Rattle.ctl_engine.specs.declared.frame.Formal.{Formal}
-use Rattle.ctl_engine.specs.Holders.{held_by}
-use Rattle.ctl_engine.proofs.Links.{got}
+use Rattle.ctl_frames.specs.declared.frame.Formal.{Formal}
+use Rattle.ctl_frames.specs.Holders.{held_by}
+use Rattle.ctl_frames.proofs.Links.{got}
 use Rattle.ctl_engine.proofs.Walked.{formal_found, formal_passed, formal_word}
 use Rattle.ctl_engine.proofs.holders.formal.Goals as goal
 

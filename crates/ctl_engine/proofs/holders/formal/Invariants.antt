@@ -1,5 +1,5 @@
 use Rattle.std.specs.Prelude.{◌≡◌, ◌≤◌, drop, length, take}
-use Rattle.ctl_engine.specs.Holders.{formal_in}
+use Rattle.ctl_frames.specs.Holders.{formal_in}
 use Rattle.ctl_engine.proofs.holders.formal.Given as goal
 
 -- no formal from here up to the end has the slot

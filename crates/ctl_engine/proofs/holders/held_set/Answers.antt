@@ -2,10 +2,10 @@ use Rattle.std.proofs.Common.{◌-◌, ◌∙◌, List, ap, arith, sym}
 use Rattle.std.specs.Prelude.{slice_index_or}
 use Rattle.ctl_meaning.specs.Allocation as Allocation
 use Rattle.ctl_meaning.specs.World.{Content, Nothing}
-use Rattle.ctl_engine.specs.declared.frame.Owned.{Owned}
-use Rattle.ctl_engine.specs.declared.frame.Role.{Role}
-use Rattle.ctl_engine.specs.Holders.{content_as, holder_in}
-use Rattle.ctl_engine.proofs.Newest.{any_owned}
+use Rattle.ctl_frames.specs.declared.frame.Owned.{Owned}
+use Rattle.ctl_frames.specs.declared.frame.Role.{Role}
+use Rattle.ctl_frames.specs.Holders.{content_as, holder_in}
+use Rattle.ctl_frames.proofs.Newest.{any_owned}
 use Rattle.ctl_engine.proofs.Walked.{holder_found, holder_passed, none_taken}
 use Rattle.ctl_engine.proofs.holders.held_set.Goals as goal
 

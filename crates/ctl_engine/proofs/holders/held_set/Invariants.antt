@@ -1,6 +1,6 @@
 use Rattle.std.specs.Prelude.{◌≡◌, ◌≤◌, drop, length, take}
 use Rattle.ctl_meaning.specs.World.{Nothing}
-use Rattle.ctl_engine.specs.Holders.{holder_in}
+use Rattle.ctl_frames.specs.Holders.{holder_in}
 use Rattle.ctl_engine.proofs.holders.held_set.Given as goal
 
 -- nothing from here up to the end came in the slot

@@ -1,9 +1,9 @@
 use Rattle.std.proofs.Common.{◌-◌, ◌∙◌, ap, arith, sym}
 use Rattle.std.specs.Prelude.{slice_index_or}
 use Rattle.ctl_code.specs.Table.{word_of}
-use Rattle.ctl_engine.specs.declared.frame.Role.{Role}
-use Rattle.ctl_engine.specs.Holders.{content_as, formal_in, own_formals}
-use Rattle.ctl_engine.proofs.Newest.{any_owned}
+use Rattle.ctl_frames.specs.declared.frame.Role.{Role}
+use Rattle.ctl_frames.specs.Holders.{content_as, formal_in, own_formals}
+use Rattle.ctl_frames.proofs.Newest.{any_owned}
 use Rattle.ctl_engine.proofs.Walked.{holder_found, holder_passed}
 use Rattle.ctl_engine.proofs.holders.holder.Goals as goal
 

@@ -1,5 +1,5 @@
 use Rattle.std.specs.Prelude.{◌≡◌, ◌≤◌, drop, length, take}
-use Rattle.ctl_engine.specs.Holders.{holder_in, formal_in, own_formals}
+use Rattle.ctl_frames.specs.Holders.{holder_in, formal_in, own_formals}
 use Rattle.ctl_engine.proofs.holders.holder.Given as goal
 
 -- no object from here up to the end was declared in the slot

@@ -1,7 +1,7 @@
 use Rattle.std.proofs.Common.{◌+◌, ◌-◌, arith}
 use Rattle.std.specs.Prelude.{◌/◌, slice_index_or}
 use Rattle.ctl_engine.proofs.Homes.{any_master}
-use Rattle.ctl_engine.proofs.Lists.{get_index}
+use Rattle.ctl_frames.proofs.Lists.{get_index}
 use Rattle.ctl_engine.proofs.Numbers.{higher_back, lower_front}
 use Rattle.ctl_engine.proofs.holders.master_at.Goals as goal
 

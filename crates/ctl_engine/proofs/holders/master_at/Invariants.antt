@@ -1,5 +1,5 @@
 use Rattle.std.specs.Prelude.{◌≡◌, ◌<◌, ◌≤◌, ◌-◌, ℕ, Some, length, slice_get}
-use Rattle.ctl_engine.specs.declared.frame.Master.{Master}
+use Rattle.ctl_frames.specs.declared.frame.Master.{Master}
 use Rattle.ctl_engine.proofs.holders.master_at.Given as goal
 
 -- those before have lower numbers, and those behind higher ones

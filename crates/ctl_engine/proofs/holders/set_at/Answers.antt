@@ -1,8 +1,8 @@
 use Rattle.std.proofs.Common.{◌+◌, ◌-◌, arith, refl}
 use Rattle.std.specs.Prelude.{◌/◌, slice_index_or}
 use Rattle.ctl_engine.proofs.Come.{not_behind, not_in_front}
-use Rattle.ctl_engine.proofs.Lists.{get_index}
-use Rattle.ctl_engine.proofs.Newest.{any_owned}
+use Rattle.ctl_frames.proofs.Lists.{get_index}
+use Rattle.ctl_frames.proofs.Newest.{any_owned}
 use Rattle.ctl_engine.proofs.holders.set_at.Goals as goal
 
 pub loop-low-preserved-then-found-number : goal.loop-low-preserved-then-found-number

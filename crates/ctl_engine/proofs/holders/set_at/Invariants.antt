@@ -1,6 +1,6 @@
 use Rattle.std.specs.Prelude.{◌≡◌, ◌<◌, ◌≤◌, ◌-◌, ℕ, Some, length, slice_get}
-use Rattle.ctl_engine.specs.declared.frame.Owned.{Owned}
-use Rattle.ctl_engine.specs.Owned.{IsSet}
+use Rattle.ctl_frames.specs.declared.frame.Owned.{Owned}
+use Rattle.ctl_frames.specs.Owned.{IsSet}
 use Rattle.ctl_engine.proofs.holders.set_at.Given as goal
 
 -- it is none of those before, and none of those behind

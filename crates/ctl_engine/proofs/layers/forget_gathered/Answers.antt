@@ -1,8 +1,8 @@
 use Rattle.std.proofs.Common.{◌∙◌, ◌+◌, ap, sym, subst, [], ◌∷◌}
 use Rattle.ctl_objects.specs.Stock.{Stock}
 use Rattle.ctl_engine.proofs.Forgotten.{RemainsTo, no_set_goes, not_over, set_goes}
-use Rattle.ctl_engine.proofs.Lists.{get_index}
-use Rattle.ctl_engine.proofs.Newest.{any_owned}
+use Rattle.ctl_frames.proofs.Lists.{get_index}
+use Rattle.ctl_frames.proofs.Newest.{any_owned}
 use Rattle.std.specs.Prelude.{slice_index_or, not}
 use Rattle.ctl_engine.proofs.layers.forget_gathered.Goals.{in-Collection, in_default}
 use Rattle.ctl_engine.proofs.layers.forget_gathered.Goals as goal

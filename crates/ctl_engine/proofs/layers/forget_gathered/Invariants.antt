@@ -1,7 +1,7 @@
 use Rattle.std.specs.Prelude.{◌≡◌, [], List, drop, take}
 use Rattle.ctl_meaning.specs.World.{Object}
 use Rattle.ctl_objects.specs.Order.{AreUpTo}
-use Rattle.ctl_engine.specs.Owned.{remaining, set_numbers}
+use Rattle.ctl_frames.specs.Owned.{remaining, set_numbers}
 use Rattle.ctl_engine.proofs.layers.forget_gathered.Given as goal
 use Rattle.ctl_objects.specs.Stock.{Stock}
 use Rattle.ctl_engine.specs.LeftPools.{LeavesPools}

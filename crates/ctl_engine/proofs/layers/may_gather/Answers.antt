@@ -1,8 +1,8 @@
 use Rattle.std.proofs.Common.{◌-◌, arith, length}
 use Rattle.std.specs.Prelude.{slice_index_or}
 use Rattle.ctl_engine.proofs.Come.{newer_than_before, newer_than_none, none_gathered, not_more}
-use Rattle.ctl_engine.proofs.Lists.{get_index}
-use Rattle.ctl_engine.proofs.Newest.{any_owned}
+use Rattle.ctl_frames.proofs.Lists.{get_index}
+use Rattle.ctl_frames.proofs.Newest.{any_owned}
 use Rattle.ctl_engine.proofs.layers.may_gather.Goals.{then-start-eq0, else-start-eq0}
 use Rattle.ctl_engine.proofs.layers.may_gather.Goals as goal
 

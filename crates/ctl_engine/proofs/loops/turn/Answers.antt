@@ -1,7 +1,7 @@
 use Rattle.std.proofs.Common.{◌+◌, ◌-◌, ◌<◌, Some, length, reverse, sym, subst, arith}
 use Rattle.ctl_code.specs.declared.code.Instr.{Instr}
 use Rattle.ctl_code.specs.Table as Table
-use Rattle.ctl_engine.specs.Masters.{first_window}
+use Rattle.ctl_frames.specs.Masters.{first_window}
 use Rattle.ctl_engine.specs.Moves.{Before, Makes, here_of}
 use Rattle.ctl_engine.proofs.Leading.{led_within}
 use Rattle.ctl_engine.proofs.Bounds.{low_within, high_within, counted_within, parameter_within}

@@ -3,7 +3,7 @@ use Rattle.ctl_code.specs.declared.kinds.Kind.{Kind}
 use Rattle.ctl_code.specs.declared.kinds.Kind.TheVariants.{Operand}
 use Rattle.ctl_code.specs.declared.code.Instr.TheVariants as InstrOf
 use Rattle.ctl_program.specs.declared.types.Ty.TheVariants.{Record}
-use Rattle.ctl_engine.proofs.Assigned.{given_makes, gives_now, value_stops}
+use Rattle.ctl_allocations.proofs.Assigned.{given_makes, gives_now, value_stops}
 use Rattle.ctl_engine.proofs.Steps.{on_ok}
 use Rattle.ctl_machine.proofs.assign.assign.Goals as goal
 

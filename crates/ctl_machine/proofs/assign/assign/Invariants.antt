@@ -1,7 +1,7 @@
 use Rattle.ctl_meaning.specs.Objects.{first_cells}
 use Rattle.ctl_code.specs.Table.{size_of}
-use Rattle.ctl_engine.specs.Spots.{value_on_top}
-use Rattle.ctl_engine.proofs.Assigned.{assigned_at}
+use Rattle.ctl_frames.specs.Spots.{value_on_top}
+use Rattle.ctl_allocations.proofs.Assigned.{assigned_at}
 use Rattle.ctl_machine.proofs.assign.assign.Given as goal
 
 abbrev pub ghost-is_value_below : goal.ghost-is_value_below

@@ -6,11 +6,11 @@ use Rattle.ctl_code.specs.Table.{is_same_part, replace_value}
 use Rattle.ctl_engine.specs.Assigning.{Replaces}
 use Rattle.ctl_engine.specs.Moves.{Makes}
 use Rattle.ctl_engine.specs.Shows.{kept, with_spots}
-use Rattle.ctl_engine.specs.Spots.{standing}
-use Rattle.ctl_engine.proofs.Assigned.{are_given, assigned_at, point_of, replaced_makes, replaces_now, rest_of, same_makes, source_gone, source_of, target_of, value_found}
+use Rattle.ctl_frames.specs.Spots.{standing}
+use Rattle.ctl_allocations.proofs.Assigned.{are_given, assigned_at, point_of, replaced_makes, replaces_now, rest_of, same_makes, source_gone, source_of, target_of, value_found}
 use Rattle.ctl_engine.proofs.Owned.{none_there, some_there}
 use Rattle.ctl_engine.proofs.Steps.{on_ok}
-use Rattle.ctl_engine.proofs.Words.{newest_read, next_read, two_dropped}
+use Rattle.ctl_frames.proofs.Words.{newest_read, next_read, two_dropped}
 use Rattle.ctl_machine.proofs.assign.assign_part.Goals as goal
 
 pub returns-then-not-exists-clause-ok : goal.returns-then-not-exists-clause-ok

@@ -1,5 +1,5 @@
 use Rattle.ctl_meaning.specs.Objects.{object_in}
-use Rattle.ctl_engine.proofs.Assigned.{assigned_at, source_of, value_found}
+use Rattle.ctl_allocations.proofs.Assigned.{assigned_at, source_of, value_found}
 use Rattle.ctl_machine.proofs.assign.assign_part.Given as goal
 
 abbrev pub ghost-replace_value : goal.ghost-replace_value

@@ -5,14 +5,14 @@ use Rattle.ctl_code.specs.States as T
 use Rattle.ctl_code.specs.States.{whole_spot}
 use Rattle.ctl_code.specs.Table.{finalize_object, parts_of}
 use Rattle.ctl_engine.specs.declared.engine.Engine.{Engine}
-use Rattle.ctl_engine.specs.declared.frame.Frame.{Frame}
-use Rattle.ctl_engine.specs.declared.frame.Frame.TheVariants as FrameOf
+use Rattle.ctl_frames.specs.declared.frame.Frame.{Frame}
+use Rattle.ctl_frames.specs.declared.frame.Frame.TheVariants as FrameOf
 use Rattle.ctl_engine.specs.Finishing.{AreDoubles, BeginsOver, Finished, Finishes}
 use Rattle.ctl_engine.specs.Moves.{Makes}
 use Rattle.ctl_engine.specs.Shows.{Kept, kept}
-use Rattle.ctl_engine.proofs.Emptied.{member_base, member_finishes, with_newest}
-use Rattle.ctl_engine.proofs.NextPart.{chooses, noted_so}
-use Rattle.ctl_engine.proofs.NextWindow.{end_is, tall_within}
+use Rattle.ctl_allocations.proofs.Emptied.{member_base, member_finishes, with_newest}
+use Rattle.ctl_lifetimes.proofs.NextPart.{chooses, noted_so}
+use Rattle.ctl_lifetimes.proofs.NextWindow.{end_is, tall_within}
 use Rattle.ctl_machine.proofs.emptying.finalize_member.Goals as goal
 
 pub next_window-base-requires : goal.next_window-base-requires

@@ -10,21 +10,21 @@ use Rattle.ctl_code.specs.States as T
 use Rattle.ctl_code.specs.States.{Move}
 use Rattle.ctl_code.specs.Table.{component_of, controlled_of, finalize_part, parts_of}
 use Rattle.ctl_engine.specs.declared.engine.Engine.{Engine}
-use Rattle.ctl_engine.specs.declared.frame.Ended.TheVariants.{Complete}
-use Rattle.ctl_engine.specs.declared.frame.Mode.TheVariants as ModeOf
-use Rattle.ctl_engine.specs.declared.frame.Frame.{Frame}
-use Rattle.ctl_engine.specs.declared.frame.Frame.TheVariants as FrameOf
-use Rattle.ctl_engine.specs.Filling.{IsChosenApart, noted_among, pick_among}
+use Rattle.ctl_frames.specs.declared.frame.Ended.TheVariants.{Complete}
+use Rattle.ctl_frames.specs.declared.frame.Mode.TheVariants as ModeOf
+use Rattle.ctl_frames.specs.declared.frame.Frame.{Frame}
+use Rattle.ctl_frames.specs.declared.frame.Frame.TheVariants as FrameOf
+use Rattle.ctl_frames.specs.Filling.{IsChosenApart, noted_among, pick_among}
 use Rattle.ctl_engine.specs.Finishing.{BeginsOver, Finishes}
 use Rattle.ctl_engine.specs.Moves.{Chooses, Makes}
 use Rattle.ctl_engine.specs.Shows.{Kept, kept}
-use Rattle.ctl_engine.specs.Spots.{spots_in}
-use Rattle.ctl_engine.proofs.Chosen.{count_apart}
-use Rattle.ctl_engine.proofs.Finishing.{finished_gives}
-use Rattle.ctl_engine.proofs.Lists.{same_at}
-use Rattle.ctl_engine.proofs.NextPart.{chooses, next_by_type, next_elementary, noted_so, own_doubles, rest_finishes, some_begun}
-use Rattle.ctl_engine.proofs.NextWindow.{end_is, tall_within}
-use Rattle.ctl_engine.proofs.Words.{last_there}
+use Rattle.ctl_frames.specs.Spots.{spots_in}
+use Rattle.ctl_frames.proofs.Chosen.{count_apart}
+use Rattle.ctl_lifetimes.proofs.Finishing.{finished_gives}
+use Rattle.ctl_frames.proofs.Lists.{same_at}
+use Rattle.ctl_lifetimes.proofs.NextPart.{chooses, next_by_type, next_elementary, noted_so, own_doubles, rest_finishes, some_begun}
+use Rattle.ctl_lifetimes.proofs.NextWindow.{end_is, tall_within}
+use Rattle.ctl_frames.proofs.Words.{last_there}
 use Rattle.ctl_machine.proofs.finalizing.finalize_next.Goals as goal
 
 pub controlled_at-component-requires : goal.controlled_at-component-requires

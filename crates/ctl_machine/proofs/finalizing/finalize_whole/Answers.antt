@@ -5,14 +5,14 @@ use Rattle.ctl_meaning.specs.Finalization.{Spot}
 use Rattle.ctl_code.specs.States.{Move, whole_spot}
 use Rattle.ctl_code.specs.Table.{finalize_part, part_at, parts_of}
 use Rattle.ctl_engine.specs.declared.engine.Engine.{Engine}
-use Rattle.ctl_engine.specs.declared.frame.Frame.{Frame}
-use Rattle.ctl_engine.specs.declared.frame.Frame.TheVariants as FrameOf
+use Rattle.ctl_frames.specs.declared.frame.Frame.{Frame}
+use Rattle.ctl_frames.specs.declared.frame.Frame.TheVariants as FrameOf
 use Rattle.ctl_engine.specs.Finishing.{BeginsOver, Finishes}
 use Rattle.ctl_engine.specs.Moves.{Makes}
 use Rattle.ctl_engine.specs.Shows.{Kept, kept}
-use Rattle.ctl_engine.proofs.FinalizedLayers.{object_finalized}
+use Rattle.ctl_places.proofs.FinalizedLayers.{object_finalized}
 use Rattle.ctl_engine.proofs.Following.{makes_later}
-use Rattle.ctl_engine.proofs.WholeFinalized.{whole_base, whole_finishes, whole_of}
+use Rattle.ctl_allocations.proofs.WholeFinalized.{whole_base, whole_finishes, whole_of}
 use Rattle.ctl_machine.proofs.finalizing.finalize_whole.Goals as goal
 
 pub finalize_part-requires : goal.finalize_part-requires

@@ -1,4 +1,4 @@
-use Rattle.ctl_engine.proofs.WholeFinalized.{whole_of}
+use Rattle.ctl_allocations.proofs.WholeFinalized.{whole_of}
 use Rattle.ctl_machine.proofs.finalizing.finalize_whole.Given as goal
 
 abbrev pub ghost-finalize_part : goal.ghost-finalize_part

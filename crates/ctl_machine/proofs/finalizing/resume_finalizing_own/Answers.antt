@@ -1,5 +1,5 @@
 use Rattle.std.proofs.Common.{refl}
-use Rattle.ctl_engine.proofs.AfterFinalize.{after_assigning, after_fine, after_raised, own_drops}
+use Rattle.ctl_lifetimes.proofs.AfterFinalize.{after_assigning, after_fine, after_raised, own_drops}
 use Rattle.ctl_machine.proofs.finalizing.resume_finalizing_own.Goals as goal
 
 pub finalize_components-requires : goal.finalize_components-requires

@@ -1,4 +1,4 @@
-use Rattle.ctl_engine.proofs.AfterFinalize.{finished_in}
+use Rattle.ctl_lifetimes.proofs.AfterFinalize.{finished_in}
 use Rattle.ctl_machine.proofs.finalizing.resume_finalizing_own.Given as goal
 
 abbrev pub ghost-finalize_components : goal.ghost-finalize_components

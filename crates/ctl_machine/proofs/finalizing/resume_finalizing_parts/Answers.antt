@@ -1,9 +1,9 @@
 use Rattle.std.proofs.Common.{arith, refl}
 use Rattle.std.proofs.lemmas.Result.{on_ok_weaker}
-use Rattle.ctl_engine.specs.declared.frame.Frame.TheVariants.{FinalizingParts}
-use Rattle.ctl_engine.proofs.AfterFinalize.{after_last, after_next, after_raising, frame_there, left_in, parts_awaited, parts_left}
-use Rattle.ctl_engine.proofs.Chosen.{count_apart}
-use Rattle.ctl_engine.proofs.Words.{many_of}
+use Rattle.ctl_frames.specs.declared.frame.Frame.TheVariants.{FinalizingParts}
+use Rattle.ctl_lifetimes.proofs.AfterFinalize.{after_last, after_next, after_raising, frame_there, left_in, parts_awaited, parts_left}
+use Rattle.ctl_frames.proofs.Chosen.{count_apart}
+use Rattle.ctl_frames.proofs.Words.{many_of}
 use Rattle.ctl_code.specs.Table.{controlled_of}
 use Rattle.ctl_machine.proofs.finalizing.resume_finalizing_parts.Goals as goal
 

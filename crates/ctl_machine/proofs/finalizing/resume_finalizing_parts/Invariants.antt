@@ -1,8 +1,8 @@
 use Rattle.std.specs.Prelude.{length}
 use Rattle.ctl_meaning.specs.Lists.{pull_rest}
 use Rattle.ctl_code.specs.States as T
-use Rattle.ctl_engine.specs.Filling.{pick_among}
-use Rattle.ctl_engine.proofs.AfterFinalize.{finished_in, left_in, part_in}
+use Rattle.ctl_frames.specs.Filling.{pick_among}
+use Rattle.ctl_lifetimes.proofs.AfterFinalize.{finished_in, left_in, part_in}
 use Rattle.ctl_machine.proofs.finalizing.resume_finalizing_parts.Given as goal
 
 abbrev pub ghost-finalize_next : goal.ghost-finalize_next

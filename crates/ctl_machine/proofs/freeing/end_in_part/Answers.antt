@@ -1,14 +1,14 @@
 use Rattle.std.proofs.Common.{◌≡◌, ◌∙◌, List, ap, arith, length, refl, subst, sym, true}
 use Rattle.ctl_meaning.specs.Finalization.{Spot}
 use Rattle.ctl_code.specs.States as T
-use Rattle.ctl_engine.specs.declared.frame.Frame.TheVariants as FrameOf
-use Rattle.ctl_engine.specs.declared.frame.Nulled.TheVariants as NulledOf
-use Rattle.ctl_engine.specs.Freeing.{calls_back, part_of}
+use Rattle.ctl_frames.specs.declared.frame.Frame.TheVariants as FrameOf
+use Rattle.ctl_frames.specs.declared.frame.Nulled.TheVariants as NulledOf
+use Rattle.ctl_places.specs.Freeing.{calls_back, part_of}
 use Rattle.ctl_engine.specs.Shows.{Kept}
-use Rattle.ctl_engine.specs.Spots.{standing}
+use Rattle.ctl_frames.specs.Spots.{standing}
 use Rattle.ctl_engine.proofs.Following.{makes_later}
-use Rattle.ctl_engine.proofs.Freed.{ending_kept, freeing, goes_behind}
-use Rattle.ctl_engine.proofs.FreedPart.{dropped_so, nulled_part, part_ends}
+use Rattle.ctl_places.proofs.Freed.{ending_kept, freeing, goes_behind}
+use Rattle.ctl_allocations.proofs.FreedPart.{dropped_so, nulled_part, part_ends}
 use Rattle.ctl_machine.proofs.freeing.end_in_part.Goals as goal
 
 pub null_component-requires : goal.null_component-requires

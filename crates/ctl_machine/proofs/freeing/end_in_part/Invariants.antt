@@ -1,4 +1,4 @@
-use Rattle.ctl_engine.specs.Freeing.{behind_frees, gone_by_part, part_of}
+use Rattle.ctl_places.specs.Freeing.{behind_frees, gone_by_part, part_of}
 use Rattle.ctl_machine.proofs.freeing.end_in_part.Given as goal
 
 abbrev pub ghost-null_component : goal.ghost-null_component

@@ -1,9 +1,9 @@
 use Rattle.std.proofs.Common.{arith, refl}
-use Rattle.ctl_engine.specs.declared.frame.Frame.TheVariants as FrameOf
-use Rattle.ctl_engine.specs.declared.frame.Nulled.TheVariants as NulledOf
-use Rattle.ctl_engine.proofs.AfterInitialize.{rest_is}
+use Rattle.ctl_frames.specs.declared.frame.Frame.TheVariants as FrameOf
+use Rattle.ctl_frames.specs.declared.frame.Nulled.TheVariants as NulledOf
+use Rattle.ctl_lifetimes.proofs.AfterInitialize.{rest_is}
 use Rattle.ctl_engine.proofs.Following.{makes_later}
-use Rattle.ctl_engine.proofs.Freed.{ending_kept, freeing, goes_behind, variable_behind, variable_ends}
+use Rattle.ctl_places.proofs.Freed.{ending_kept, freeing, goes_behind, variable_behind, variable_ends}
 use Rattle.ctl_machine.proofs.freeing.end_in_variable.Goals as goal
 
 pub null_variable-requires : goal.null_variable-requires

@@ -1,4 +1,4 @@
-use Rattle.ctl_engine.specs.Freeing.{behind_frees, gone_by_variable}
+use Rattle.ctl_places.specs.Freeing.{behind_frees, gone_by_variable}
 use Rattle.ctl_machine.proofs.freeing.end_in_variable.Given as goal
 
 abbrev pub ghost-null_variable : goal.ghost-null_variable

@@ -1,7 +1,7 @@
 use Rattle.std.proofs.Common.{◌∙◌, subst, sym}
 use Rattle.ctl_engine.specs.declared.freeing.Fate.{Fate}
-use Rattle.ctl_engine.specs.Freeing.{IsFate}
-use Rattle.ctl_engine.proofs.Fates.{fate_known, fate_unknown, storage_known, storage_unknown, units_known, units_unknown}
+use Rattle.ctl_places.specs.Freeing.{IsFate}
+use Rattle.ctl_places.proofs.Fates.{fate_known, fate_unknown, storage_known, storage_unknown, units_known, units_unknown}
 use Rattle.ctl_machine.proofs.freeing.fate.Goals as goal
 
 pub returns-in-Some-clause-fate : goal.returns-in-Some-clause-fate

@@ -1,13 +1,13 @@
 use Rattle.std.proofs.Common.{◌≡◌, ◌+◌, ◌++◌, ◌∙◌, List, ap, arith, drop, refl, sym}
 use Rattle.ctl_meaning.specs.Finalization.{Spot}
-use Rattle.ctl_engine.specs.declared.frame.Ended.TheVariants as EndedOf
+use Rattle.ctl_frames.specs.declared.frame.Ended.TheVariants as EndedOf
 use Rattle.ctl_engine.specs.Shows.{Kept, kept, with_cells, with_spots}
-use Rattle.ctl_engine.specs.Spots.{first_spot, standing}
+use Rattle.ctl_frames.specs.Spots.{first_spot, standing}
 use Rattle.ctl_engine.proofs.Following.{makes_later}
-use Rattle.ctl_engine.proofs.Freed.{ending_at, ending_kept}
-use Rattle.ctl_engine.proofs.FreedPart.{component_lets_go}
-use Rattle.ctl_engine.proofs.Located.{part_on_top}
-use Rattle.ctl_engine.proofs.Words.{many_of, same_front}
+use Rattle.ctl_places.proofs.Freed.{ending_at, ending_kept}
+use Rattle.ctl_allocations.proofs.FreedPart.{component_lets_go}
+use Rattle.ctl_places.proofs.Located.{part_on_top}
+use Rattle.ctl_frames.proofs.Words.{many_of, same_front}
 use Rattle.ctl_machine.proofs.freeing.free_at_once_by_part.Goals as goal
 
 pub take_last-part-requires : goal.take_last-part-requires

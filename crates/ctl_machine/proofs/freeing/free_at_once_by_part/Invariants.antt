@@ -1,6 +1,6 @@
 use Rattle.std.proofs.Common.{drop}
-use Rattle.ctl_engine.specs.Freeing.{gone_by_part}
-use Rattle.ctl_engine.proofs.Freed.{at_place}
+use Rattle.ctl_places.specs.Freeing.{gone_by_part}
+use Rattle.ctl_places.proofs.Freed.{at_place}
 use Rattle.ctl_machine.proofs.freeing.free_at_once_by_part.Given as goal
 
 abbrev pub ghost-null_component : goal.ghost-null_component

@@ -1,8 +1,8 @@
 use Rattle.std.proofs.Common.{◌+◌, refl}
-use Rattle.ctl_engine.specs.declared.frame.Ended.TheVariants as EndedOf
+use Rattle.ctl_frames.specs.declared.frame.Ended.TheVariants as EndedOf
 use Rattle.ctl_engine.proofs.Following.{makes_later}
-use Rattle.ctl_engine.proofs.Freed.{ending_at}
-use Rattle.ctl_engine.proofs.FreedPart.{variable_lets_go}
+use Rattle.ctl_places.proofs.Freed.{ending_at}
+use Rattle.ctl_allocations.proofs.FreedPart.{variable_lets_go}
 use Rattle.ctl_machine.proofs.freeing.free_at_once_by_variable.Goals as goal
 
 pub null_variable-requires : goal.null_variable-requires

@@ -1,5 +1,5 @@
-use Rattle.ctl_engine.specs.Freeing.{gone_by_variable}
-use Rattle.ctl_engine.proofs.Freed.{at_place}
+use Rattle.ctl_places.specs.Freeing.{gone_by_variable}
+use Rattle.ctl_places.proofs.Freed.{at_place}
 use Rattle.ctl_machine.proofs.freeing.free_at_once_by_variable.Given as goal
 
 abbrev pub ghost-null_variable : goal.ghost-null_variable

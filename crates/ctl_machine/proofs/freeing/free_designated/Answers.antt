@@ -3,9 +3,9 @@ use Rattle.std.proofs.lemmas.Option.{slice_get_within}
 use Rattle.ctl_meaning.specs.Finalization.{Spot}
 use Rattle.ctl_engine.specs.declared.freeing.Fate.{Fate}
 use Rattle.ctl_engine.specs.declared.freeing.Fate.TheVariants as FateOf
-use Rattle.ctl_engine.specs.Freeing.{IsFate, by_component, point_of}
-use Rattle.ctl_engine.proofs.Freed.{fate_goes, fate_makes, stays_makes}
-use Rattle.ctl_engine.proofs.Links.{got}
+use Rattle.ctl_places.specs.Freeing.{IsFate, by_component, point_of}
+use Rattle.ctl_places.proofs.Freed.{fate_goes, fate_makes, stays_makes}
+use Rattle.ctl_frames.proofs.Links.{got}
 use Rattle.ctl_engine.proofs.Steps.{on_ok}
 use Rattle.ctl_machine.proofs.freeing.free_designated.Goals as goal
 

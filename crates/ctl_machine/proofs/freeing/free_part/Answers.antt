@@ -6,11 +6,11 @@ use Rattle.ctl_code.specs.States.{NullPart}
 use Rattle.ctl_code.specs.Table.{component_of, free_object}
 use Rattle.ctl_engine.specs.Moves.{Makes, here_of}
 use Rattle.ctl_engine.specs.Shows.{kept, with_spots}
-use Rattle.ctl_engine.specs.Spots.{first_spot, standing}
-use Rattle.ctl_engine.proofs.FreedPart.{component, component_gone, component_null, component_read, component_some}
-use Rattle.ctl_engine.proofs.Located.{part_on_top}
+use Rattle.ctl_frames.specs.Spots.{first_spot, standing}
+use Rattle.ctl_allocations.proofs.FreedPart.{component, component_gone, component_null, component_read, component_some}
+use Rattle.ctl_places.proofs.Located.{part_on_top}
 use Rattle.ctl_engine.proofs.Steps.{on_ok}
-use Rattle.ctl_engine.proofs.Words.{newest_read, same_front}
+use Rattle.ctl_frames.proofs.Words.{newest_read, same_front}
 use Rattle.ctl_machine.proofs.freeing.free_part.Goals as goal
 
 pub returns-in_default-clause-ok : goal.returns-in_default-clause-ok

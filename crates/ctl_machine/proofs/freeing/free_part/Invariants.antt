@@ -1,5 +1,5 @@
 use Rattle.ctl_code.specs.Table.{component_of}
-use Rattle.ctl_engine.specs.Spots.{first_spot}
+use Rattle.ctl_frames.specs.Spots.{first_spot}
 use Rattle.ctl_machine.proofs.freeing.free_part.Given as goal
 
 abbrev pub ghost-read_at : goal.ghost-read_at

@@ -2,10 +2,10 @@ use Rattle.std.proofs.Common.{subst}
 use Rattle.std.proofs.lemmas.Option.{slice_get_within}
 use Rattle.ctl_engine.specs.declared.freeing.Fate.{Fate}
 use Rattle.ctl_engine.specs.declared.freeing.Fate.TheVariants as FateOf
-use Rattle.ctl_engine.specs.Freeing.{IsFate, by_variable, point_of}
-use Rattle.ctl_engine.proofs.Freed.{fate_goes, fate_makes, stays_makes}
-use Rattle.ctl_engine.proofs.FreedPart.{variable_some}
-use Rattle.ctl_engine.proofs.Links.{got}
+use Rattle.ctl_places.specs.Freeing.{IsFate, by_variable, point_of}
+use Rattle.ctl_places.proofs.Freed.{fate_goes, fate_makes, stays_makes}
+use Rattle.ctl_allocations.proofs.FreedPart.{variable_some}
+use Rattle.ctl_frames.proofs.Links.{got}
 use Rattle.ctl_engine.proofs.Steps.{on_ok}
 use Rattle.ctl_machine.proofs.freeing.free_variable.Goals as goal
 

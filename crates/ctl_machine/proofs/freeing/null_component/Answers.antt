@@ -5,13 +5,13 @@ use Rattle.ctl_meaning.specs.World.{Object}
 use Rattle.ctl_objects.specs.Order as Order
 use Rattle.ctl_storage.specs.Allocated.{place_of}
 use Rattle.ctl_code.specs.Table.{freed_by, return_to, says_failed}
-use Rattle.ctl_engine.specs.Freeing.{Gone, IsGone, calls_back}
+use Rattle.ctl_places.specs.Freeing.{Gone, IsGone, calls_back}
 use Rattle.ctl_engine.specs.Moves.{Makes}
 use Rattle.ctl_engine.specs.Shows.{kept, tried_of}
 use Rattle.ctl_engine.proofs.Following.{makes_later}
 use Rattle.ctl_engine.proofs.Foreign.{foreign_allocated, forgotten}
-use Rattle.ctl_engine.proofs.Freed.{called_before, ending_kept}
-use Rattle.ctl_engine.proofs.FreedPart.{null_called, null_inside, null_written, part_gone, part_made, part_stops, with_null}
+use Rattle.ctl_places.proofs.Freed.{called_before, ending_kept}
+use Rattle.ctl_allocations.proofs.FreedPart.{null_called, null_inside, null_written, part_gone, part_made, part_stops, with_null}
 use Rattle.ctl_engine.proofs.Owned.{none_there, some_there}
 use Rattle.ctl_engine.proofs.Stocked.{stocked, with_stock}
 use Rattle.ctl_machine.proofs.freeing.null_component.Goals as goal

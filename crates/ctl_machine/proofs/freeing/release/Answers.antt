@@ -1,7 +1,7 @@
 use Rattle.std.proofs.Common.{arith, refl}
 use Rattle.ctl_engine.specs.declared.engine.Engine.{Engine}
 use Rattle.ctl_engine.proofs.Following.{makes_later}
-use Rattle.ctl_engine.proofs.Freed.{freeing_finishes, freeing_pushed}
+use Rattle.ctl_places.proofs.Freed.{freeing_finishes, freeing_pushed}
 use Rattle.ctl_machine.proofs.freeing.release.Goals as goal
 
 pub finalize_whole-requires : goal.finalize_whole-requires

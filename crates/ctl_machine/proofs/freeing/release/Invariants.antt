@@ -1,4 +1,4 @@
-use Rattle.ctl_engine.proofs.Freed.{freed_over}
+use Rattle.ctl_places.proofs.Freed.{freed_over}
 use Rattle.ctl_machine.proofs.freeing.release.Given as goal
 
 abbrev pub ghost-finalize_whole : goal.ghost-finalize_whole

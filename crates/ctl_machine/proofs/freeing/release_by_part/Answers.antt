@@ -4,19 +4,19 @@ use Rattle.std.specs.Vec.{with_item}
 use Rattle.ctl_meaning.specs.Finalization.{Spot}
 use Rattle.ctl_code.specs.Table.{component_of}
 use Rattle.ctl_engine.specs.declared.engine.Engine.{Engine}
-use Rattle.ctl_engine.specs.declared.frame.Nulled.TheVariants as NulledOf
+use Rattle.ctl_frames.specs.declared.frame.Nulled.TheVariants as NulledOf
 use Rattle.ctl_engine.specs.declared.freeing.Fate.TheVariants as FateOf
 use Rattle.ctl_engine.specs.Finishing.{AreDoubles}
-use Rattle.ctl_engine.specs.Freeing.{MayBe, by_component}
-use Rattle.ctl_engine.specs.Masters.{first_window}
+use Rattle.ctl_places.specs.Freeing.{MayBe, by_component}
+use Rattle.ctl_frames.specs.Masters.{first_window}
 use Rattle.ctl_engine.specs.Shows.{Kept, kept, with_spots}
-use Rattle.ctl_engine.specs.Spots.{first_spot, standing}
-use Rattle.ctl_engine.proofs.Assignments.{base_there}
+use Rattle.ctl_frames.specs.Spots.{first_spot, standing}
+use Rattle.ctl_lifetimes.proofs.Assignments.{base_there}
 use Rattle.ctl_engine.proofs.Following.{makes_later}
-use Rattle.ctl_engine.proofs.FreedPart.{component_frees, frees_more}
-use Rattle.ctl_engine.proofs.Lists.{same_at}
-use Rattle.ctl_engine.proofs.Located.{part_on_top}
-use Rattle.ctl_engine.proofs.Words.{last_replaced, last_there, many_of}
+use Rattle.ctl_allocations.proofs.FreedPart.{component_frees, frees_more}
+use Rattle.ctl_frames.proofs.Lists.{same_at}
+use Rattle.ctl_places.proofs.Located.{part_on_top}
+use Rattle.ctl_frames.proofs.Words.{last_replaced, last_there, many_of}
 use Rattle.ctl_machine.proofs.freeing.release_by_part.Goals as goal
 
 pub component_of_newest-requires : goal.component_of_newest-requires

@@ -1,4 +1,4 @@
-use Rattle.ctl_engine.specs.Freeing.{by_component}
+use Rattle.ctl_places.specs.Freeing.{by_component}
 use Rattle.ctl_machine.proofs.freeing.release_by_part.Given as goal
 
 abbrev pub ghost-release : goal.ghost-release

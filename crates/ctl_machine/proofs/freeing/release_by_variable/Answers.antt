@@ -1,15 +1,15 @@
 use Rattle.std.proofs.Common.{◌+◌, ◌∙◌, ap, refl, reverse, subst, sym}
 use Rattle.ctl_meaning.specs.Finalization.{Spot}
-use Rattle.ctl_engine.specs.declared.frame.Nulled.TheVariants as NulledOf
+use Rattle.ctl_frames.specs.declared.frame.Nulled.TheVariants as NulledOf
 use Rattle.ctl_engine.specs.declared.freeing.Fate.TheVariants as FateOf
 use Rattle.ctl_engine.specs.Finishing.{AreDoubles}
-use Rattle.ctl_engine.specs.Freeing.{MayBe, by_variable}
-use Rattle.ctl_engine.specs.Masters.{first_window}
+use Rattle.ctl_places.specs.Freeing.{MayBe, by_variable}
+use Rattle.ctl_frames.specs.Masters.{first_window}
 use Rattle.ctl_engine.specs.Shows.{Kept, kept, with_spots}
-use Rattle.ctl_engine.specs.Spots.{standing}
-use Rattle.ctl_engine.proofs.Assignments.{base_there}
+use Rattle.ctl_frames.specs.Spots.{standing}
+use Rattle.ctl_lifetimes.proofs.Assignments.{base_there}
 use Rattle.ctl_engine.proofs.Following.{makes_later}
-use Rattle.ctl_engine.proofs.FreedPart.{frees_more, variable_frees}
+use Rattle.ctl_allocations.proofs.FreedPart.{frees_more, variable_frees}
 use Rattle.ctl_machine.proofs.freeing.release_by_variable.Goals as goal
 
 pub release-requires : goal.release-requires

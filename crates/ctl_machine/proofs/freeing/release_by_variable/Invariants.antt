@@ -1,5 +1,5 @@
 use Rattle.ctl_code.specs.States.{whole_spot}
-use Rattle.ctl_engine.proofs.Freed.{nulled_by}
+use Rattle.ctl_places.proofs.Freed.{nulled_by}
 use Rattle.ctl_machine.proofs.freeing.release_by_variable.Given as goal
 
 abbrev pub ghost-release : goal.ghost-release

@@ -1,8 +1,8 @@
 use Rattle.std.proofs.Common.{◌∷◌, ◌∙◌, ap}
-use Rattle.ctl_engine.specs.declared.frame.Frame.TheVariants as FrameOf
-use Rattle.ctl_engine.specs.declared.frame.Nulled.{Nulled}
+use Rattle.ctl_frames.specs.declared.frame.Frame.TheVariants as FrameOf
+use Rattle.ctl_frames.specs.declared.frame.Nulled.{Nulled}
 use Rattle.ctl_engine.specs.Shows.{Kept}
-use Rattle.ctl_engine.proofs.Freed.{ending_there, resuming_more}
+use Rattle.ctl_places.proofs.Freed.{ending_there, resuming_more}
 use Rattle.ctl_machine.proofs.freeing.resume_freeing.Goals as goal
 
 pub end_in_variable-requires : goal.end_in_variable-requires

@@ -3,7 +3,7 @@ use Rattle.ctl_code.specs.declared.code.Way.{Way}
 use Rattle.ctl_code.specs.declared.code.Way.TheVariants as WayOf
 use Rattle.ctl_code.specs.States.{Move}
 use Rattle.ctl_code.specs.Table.{by_transfer}
-use Rattle.ctl_engine.specs.declared.frame.Completion.TheVariants.{Transferred}
+use Rattle.ctl_frames.specs.declared.frame.Completion.TheVariants.{Transferred}
 use Rattle.ctl_engine.specs.Shows.{way_in}
 use Rattle.ctl_engine.specs.Handlers.{first_handlers}
 use Rattle.ctl_engine.specs.Moves.{BeforeLeaving, Makes}

@@ -1,11 +1,11 @@
 use Rattle.std.proofs.Common.{◌≡◌, ◌∷◌, ◌∙◌, List, [], refl, ap, sym, reverse}
 use Rattle.std.proofs.lemmas.List.{reverse-append}
 use Rattle.ctl_engine.specs.declared.engine.Engine.{Engine}
-use Rattle.ctl_engine.specs.declared.frame.Frame.{Frame}
-use Rattle.ctl_engine.specs.declared.frame.Mode.TheVariants.{Giving}
-use Rattle.ctl_engine.specs.declared.frame.Frame.TheVariants as FrameOf
+use Rattle.ctl_frames.specs.declared.frame.Frame.{Frame}
+use Rattle.ctl_frames.specs.declared.frame.Mode.TheVariants.{Giving}
+use Rattle.ctl_frames.specs.declared.frame.Frame.TheVariants as FrameOf
 use Rattle.ctl_engine.proofs.Leaves.{tail_is}
-use Rattle.ctl_engine.proofs.Resumed.{resumes_finalizing}
+use Rattle.ctl_allocations.proofs.Resumed.{resumes_finalizing}
 use Rattle.ctl_machine.proofs.layers.resume_finalizing.Goals as goal
 use Rattle.ctl_engine.proofs.Stocked.{stock_so}
 

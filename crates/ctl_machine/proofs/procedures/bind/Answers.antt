@@ -3,10 +3,10 @@ use Rattle.std.proofs.lemmas.List.{append_assoc, length-append}
 use Rattle.ctl_meaning.specs.Finalization.{Spot}
 use Rattle.ctl_code.specs.Kinds.{stack_at}
 use Rattle.ctl_code.specs.States.{Word}
-use Rattle.ctl_engine.specs.declared.frame.Formal.{Formal}
-use Rattle.ctl_engine.specs.Passing.{AreActuals, StandIn, bound, cell_passed, formal_if, passed}
-use Rattle.ctl_engine.specs.Spots.{located}
-use Rattle.ctl_engine.proofs.Passed.{is_next, length_cell, next_spots, some_located, stand_here, stand_next}
+use Rattle.ctl_frames.specs.declared.frame.Formal.{Formal}
+use Rattle.ctl_places.specs.Passing.{AreActuals, StandIn, bound, cell_passed, formal_if, passed}
+use Rattle.ctl_frames.specs.Spots.{located}
+use Rattle.ctl_places.proofs.Passed.{is_next, length_cell, next_spots, some_located, stand_here, stand_next}
 use Rattle.ctl_machine.proofs.procedures.bind.Goals as goal
 
 pub pass-requires-clause-some : goal.pass-requires-clause-some

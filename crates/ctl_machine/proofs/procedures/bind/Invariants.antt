@@ -1,7 +1,7 @@
 use Rattle.std.specs.Prelude.{◌≡◌, ◌+◌, ◌-◌, ◌≤◌, ◌++◌, drop, take, length, vec_len, vec_capacity}
 use Rattle.ctl_code.specs.Kinds.{stack_at}
-use Rattle.ctl_engine.specs.Passing.{AreActuals, StandIn, bound, passed}
-use Rattle.ctl_engine.specs.Spots.{located}
+use Rattle.ctl_places.specs.Passing.{AreActuals, StandIn, bound, passed}
+use Rattle.ctl_frames.specs.Spots.{located}
 use Rattle.ctl_machine.proofs.procedures.bind.Given as goal
 
 -- the actuals from here on are still to be passed

@@ -2,8 +2,8 @@ use Rattle.std.proofs.Common.{◌≡◌, ◌∙◌, ◌++◌, List, [], ap, arit
 use Rattle.std.specs.Prelude.{vec_len}
 use Rattle.std.proofs.lemmas.Bool.Decides.{nat_tests}
 use Rattle.std.proofs.lemmas.List.{append-nil}
-use Rattle.ctl_engine.specs.declared.frame.Formal.{Formal}
-use Rattle.ctl_engine.proofs.Passed.{none_passed, nothing_is}
+use Rattle.ctl_frames.specs.declared.frame.Formal.{Formal}
+use Rattle.ctl_places.proofs.Passed.{none_passed, nothing_is}
 use Rattle.ctl_machine.proofs.procedures.bind_parts.Goals as goal
 
 pub returns-then-is_empty-clause-cells : goal.returns-then-is_empty-clause-cells

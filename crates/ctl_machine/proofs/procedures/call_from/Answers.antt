@@ -2,22 +2,22 @@ use Rattle.std.proofs.Common.{◌≡◌, ◌+◌, ◌≤◌, ◌∷◌, ◌++◌
 use Rattle.std.specs.Prelude.{slice_get}
 use Rattle.std.proofs.lemmas.List.{append-nil, reverse-reverse}
 use Rattle.std.proofs.lemmas.Option.{slice_get_within}
-use Rattle.ctl_engine.specs.declared.frame.Callee.{Callee}
+use Rattle.ctl_frames.specs.declared.frame.Callee.{Callee}
 use Rattle.ctl_code.specs.declared.kinds.Kind.{Kind}
 use Rattle.ctl_code.specs.declared.kinds.Kind.TheVariants.{Body}
 use Rattle.ctl_code.specs.Kinds.{stack_at}
 use Rattle.ctl_code.specs.Windows.{height}
-use Rattle.ctl_engine.specs.declared.frame.After.{After}
+use Rattle.ctl_frames.specs.declared.frame.After.{After}
 use Rattle.ctl_engine.specs.declared.engine.Engine.{Engine}
-use Rattle.ctl_engine.specs.declared.frame.Master.{Master}
-use Rattle.ctl_engine.specs.Calling.{after_for, count_values}
-use Rattle.ctl_engine.specs.Links.{AreLinked}
-use Rattle.ctl_engine.specs.Masters.{first_window, heads_of}
-use Rattle.ctl_engine.specs.Spots.{standing}
-use Rattle.ctl_engine.specs.Passing.{with_actuals}
+use Rattle.ctl_frames.specs.declared.frame.Master.{Master}
+use Rattle.ctl_allocations.specs.Calling.{after_for, count_values}
+use Rattle.ctl_frames.specs.Links.{AreLinked}
+use Rattle.ctl_frames.specs.Masters.{first_window, heads_of}
+use Rattle.ctl_frames.specs.Spots.{standing}
+use Rattle.ctl_places.specs.Passing.{with_actuals}
 use Rattle.ctl_engine.specs.Shows.{Kept, kept, with_cells, with_master}
-use Rattle.ctl_engine.proofs.Links.{got}
-use Rattle.ctl_engine.proofs.SubprogramCalled.{base_within, call_makes, has_actuals, has_slots, linked_before, operands_stand, passed_spots, same_below, words_stand}
+use Rattle.ctl_frames.proofs.Links.{got}
+use Rattle.ctl_allocations.proofs.SubprogramCalled.{base_within, call_makes, has_actuals, has_slots, linked_before, operands_stand, passed_spots, same_below, words_stand}
 use Rattle.ctl_machine.proofs.procedures.call_from.Goals as goal
 
 -- where the window of the body begins

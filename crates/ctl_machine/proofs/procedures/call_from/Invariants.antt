@@ -1,6 +1,6 @@
 use Rattle.std.specs.Prelude.{drop}
-use Rattle.ctl_engine.specs.Masters.{heads_of}
-use Rattle.ctl_engine.specs.Spots.{standing}
+use Rattle.ctl_frames.specs.Masters.{heads_of}
+use Rattle.ctl_frames.specs.Spots.{standing}
 use Rattle.ctl_machine.proofs.procedures.call_from.Given as goal
 
 abbrev pub ghost-around : goal.ghost-around

@@ -1,10 +1,10 @@
 use Rattle.std.proofs.Common.{◌∷◌, ◌++◌, ◌∙◌, [], List, ap, sym}
 use Rattle.std.specs.Prelude.{slice_index_or}
 use Rattle.std.proofs.lemmas.Option.{slice_get-get_or}
-use Rattle.ctl_engine.specs.declared.frame.Formal.{Formal}
-use Rattle.ctl_engine.proofs.Passed.{no_part_passed, part_passed}
+use Rattle.ctl_frames.specs.declared.frame.Formal.{Formal}
+use Rattle.ctl_places.proofs.Passed.{no_part_passed, part_passed}
 use Rattle.ctl_machine.proofs.procedures.pass.Goals as goal
-use Rattle.ctl_engine.specs.Passing.{formal_with}
+use Rattle.ctl_places.specs.Passing.{formal_with}
 
 pub returns-then-is_part-clause-passed : goal.returns-then-is_part-clause-passed
 returns-then-is_part-clause-passed c = λ x below is spots read.

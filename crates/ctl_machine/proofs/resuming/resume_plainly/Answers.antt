@@ -1,11 +1,11 @@
 use Rattle.std.proofs.Common.{◌≡◌, ℕ, List, ◌∷◌, ap, arith, subst, ◌∙◌}
-use Rattle.ctl_engine.specs.declared.frame.After.{After}
-use Rattle.ctl_engine.specs.declared.frame.Frame.{Frame}
-use Rattle.ctl_engine.specs.declared.frame.Frame.TheVariants as FrameOf
-use Rattle.ctl_engine.specs.declared.frame.Handling.{Handling}
-use Rattle.ctl_engine.specs.Masters.{heads_of}
+use Rattle.ctl_frames.specs.declared.frame.After.{After}
+use Rattle.ctl_frames.specs.declared.frame.Frame.{Frame}
+use Rattle.ctl_frames.specs.declared.frame.Frame.TheVariants as FrameOf
+use Rattle.ctl_frames.specs.declared.frame.Handling.{Handling}
+use Rattle.ctl_frames.specs.Masters.{heads_of}
 use Rattle.ctl_engine.specs.Shows.{Wait, kept, tried_of}
-use Rattle.ctl_engine.proofs.Evaluated.{no_evaluation_waits}
+use Rattle.ctl_lifetimes.proofs.Evaluated.{no_evaluation_waits}
 use Rattle.ctl_engine.proofs.Steps.{no_master_waits}
 use Rattle.ctl_machine.proofs.resuming.resume_plainly.Goals as goal
 

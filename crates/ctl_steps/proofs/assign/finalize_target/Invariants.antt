@@ -1,5 +1,5 @@
 use Rattle.std.specs.Prelude.{Some}
-use Rattle.ctl_engine.proofs.Targets.{target_over}
+use Rattle.ctl_lifetimes.proofs.Targets.{target_over}
 use Rattle.ctl_steps.proofs.assign.finalize_target.Given as goal
 
 abbrev pub ghost-finalize_part : goal.ghost-finalize_part

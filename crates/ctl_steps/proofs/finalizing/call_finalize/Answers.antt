@@ -1,9 +1,9 @@
 use Rattle.std.proofs.Common.{◌∙◌, ap, arith, refl, sym}
 use Rattle.ctl_tree.specs.declared.event.Event.TheVariants.{Finalize}
 use Rattle.ctl_tree.specs.declared.event.Part.{Part}
-use Rattle.ctl_engine.specs.declared.frame.Frame.TheVariants.{FinalizingOwn}
+use Rattle.ctl_frames.specs.declared.frame.Frame.TheVariants.{FinalizingOwn}
 use Rattle.ctl_engine.specs.Assigning.{Called}
-use Rattle.ctl_engine.proofs.Finishing.{calls_own, own_makes, pushed}
+use Rattle.ctl_lifetimes.proofs.Finishing.{calls_own, own_makes, pushed}
 use Rattle.ctl_steps.proofs.finalizing.call_finalize.Goals as goal
 
 pub call_operation-requires : goal.call_operation-requires

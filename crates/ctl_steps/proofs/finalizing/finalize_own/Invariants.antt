@@ -1,6 +1,6 @@
 use Rattle.ctl_engine.specs.Finishing.{own_call}
 use Rattle.ctl_engine.proofs.MasterOf.{object_or}
-use Rattle.ctl_engine.proofs.UserBodies.{body_of_finalize}
+use Rattle.ctl_lifetimes.proofs.UserBodies.{body_of_finalize}
 use Rattle.ctl_steps.proofs.finalizing.finalize_own.Given as goal
 
 abbrev pub ghost-call_finalize : goal.ghost-call_finalize

@@ -1,7 +1,7 @@
 use Rattle.std.proofs.Common.{sym}
 use Rattle.std.proofs.lemmas.Option.{slice_get_within}
-use Rattle.ctl_engine.proofs.Deallocated.{body_there, calls_storage}
-use Rattle.ctl_engine.proofs.Links.{got}
+use Rattle.ctl_places.proofs.Deallocated.{body_there, calls_storage}
+use Rattle.ctl_frames.proofs.Links.{got}
 use Rattle.ctl_steps.proofs.freeing.deallocate.Goals as goal
 
 pub master_of-requires : goal.master_of-requires

@@ -6,9 +6,9 @@ use Rattle.ctl_storage.specs.Allocated.{place_of}
 use Rattle.ctl_storage.specs.declared.existing.Place.{Place}
 use Rattle.ctl_code.specs.Table.{return_to}
 use Rattle.ctl_engine.specs.declared.freeing.GivenBack.TheVariants as BackOf
-use Rattle.ctl_engine.specs.Freeing.{IsGivenBack}
-use Rattle.ctl_engine.proofs.GivenBack.{gone_given, library_given, user_given}
-use Rattle.ctl_engine.proofs.MayJoin.{none_known}
+use Rattle.ctl_places.specs.Freeing.{IsGivenBack}
+use Rattle.ctl_places.proofs.GivenBack.{gone_given, library_given, user_given}
+use Rattle.ctl_places.proofs.MayJoin.{none_known}
 use Rattle.ctl_steps.proofs.freeing.give_back.Goals as goal
 
 pub returns-in_default-find-clause-back : goal.returns-in_default-find-clause-back

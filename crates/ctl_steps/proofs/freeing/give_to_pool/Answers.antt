@@ -2,8 +2,8 @@ use Rattle.std.proofs.Common.{◌∙◌, subst, sym}
 use Rattle.ctl_meaning.specs.Pools.{block_pool_at}
 use Rattle.ctl_storage.specs.declared.pools.BlockReturn.{BlockReturn}
 use Rattle.ctl_code.specs.Table.{pool_return}
-use Rattle.ctl_engine.specs.Freeing.{IsGivenBack}
-use Rattle.ctl_engine.proofs.GivenBack.{back_of, block_given_back}
+use Rattle.ctl_places.specs.Freeing.{IsGivenBack}
+use Rattle.ctl_places.proofs.GivenBack.{back_of, block_given_back}
 use Rattle.ctl_steps.proofs.freeing.give_to_pool.Goals as goal
 
 pub returns-in-Accepted-clause-back : goal.returns-in-Accepted-clause-back

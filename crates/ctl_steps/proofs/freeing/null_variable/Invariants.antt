@@ -1,4 +1,4 @@
-use Rattle.ctl_engine.proofs.Freed.{state_there}
+use Rattle.ctl_places.proofs.Freed.{state_there}
 use Rattle.ctl_steps.proofs.freeing.null_variable.Given as goal
 
 abbrev pub ghost-give : goal.ghost-give

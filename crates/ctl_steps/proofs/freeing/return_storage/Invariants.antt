@@ -1,4 +1,4 @@
-use Rattle.ctl_engine.proofs.Deallocated.{call_for}
+use Rattle.ctl_places.proofs.Deallocated.{call_for}
 use Rattle.ctl_steps.proofs.freeing.return_storage.Given as goal
 
 abbrev pub ghost-deallocate : goal.ghost-deallocate

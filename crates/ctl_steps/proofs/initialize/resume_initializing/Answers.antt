@@ -3,11 +3,11 @@ use Rattle.std.proofs.lemmas.Result.{on_ok_weaker}
 use Rattle.ctl_meaning.specs.Outcome.{Tried}
 use Rattle.ctl_code.specs.Table.{act}
 use Rattle.ctl_code.specs.States.{Giving, Handed}
-use Rattle.ctl_engine.specs.declared.frame.Ended.{Ended}
+use Rattle.ctl_frames.specs.declared.frame.Ended.{Ended}
 use Rattle.ctl_engine.specs.Moves.{Makes}
 use Rattle.ctl_engine.specs.Shows.{tried_of}
-use Rattle.ctl_engine.proofs.AfterInitialize.{fine_of}
-use Rattle.ctl_engine.proofs.GivesUp.{completed_resumes, fails_initializing, gives_up_initializing, is_initializing}
+use Rattle.ctl_lifetimes.proofs.AfterInitialize.{fine_of}
+use Rattle.ctl_lifetimes.proofs.GivesUp.{completed_resumes, fails_initializing, gives_up_initializing, is_initializing}
 use Rattle.ctl_steps.proofs.initialize.resume_initializing.Goals as goal
 
 pub fail-requires : goal.fail-requires
@@ -22,7 +22,7 @@ pub returns-in-Raised-clause-ok : goal.returns-in-Raised-clause-ok
 returns-in-Raised-clause-ok g c =
     let code = c.args.code.now in
     let old = c.args.engine.now in
-    let new = c.fail.new.self in
+    let new = c.fail.new.engine in
     let top = c.requires.1 in
     let f = is_initializing code old c.args.record c.args.owner top.0 g.s c.requires.0 top.1 in
     on_ok_weaker c.fail.result
@@ -39,7 +39,7 @@ pub returns-clause-ok : goal.returns-clause-ok
 returns-clause-ok g c =
     let code = c.args.code.now in
     let old = c.args.engine.now in
-    let new = c.complete.new.self in
+    let new = c.complete.new.engine in
     let top = c.requires.1 in
     let f = is_initializing code old c.args.record c.args.owner top.0 g.s c.requires.0 top.1 in
     let fine = fine_of c.args.ended c.in_default.not-Raised in

@@ -1,6 +1,6 @@
 use Rattle.ctl_code.specs.Table as Table
-use Rattle.ctl_engine.proofs.Filled.{grown_of}
-use Rattle.ctl_engine.proofs.GivesUp.{given_up}
+use Rattle.ctl_lifetimes.proofs.Filled.{grown_of}
+use Rattle.ctl_lifetimes.proofs.GivesUp.{given_up}
 use Rattle.ctl_steps.proofs.initialize.resume_initializing.Given as goal
 
 abbrev pub ghost-fail : goal.ghost-fail

@@ -7,21 +7,21 @@ use Rattle.ctl_meaning.specs.Changes.{close_master}
 use Rattle.ctl_meaning.specs.Outcome.{Result, Done}
 use Rattle.ctl_code.specs.Table.{pending_with}
 use Rattle.ctl_engine.specs.declared.engine.Engine.{Engine}
-use Rattle.ctl_engine.specs.declared.frame.Frame.TheVariants as FrameOf
-use Rattle.ctl_engine.specs.declared.frame.Master.{Master}
+use Rattle.ctl_frames.specs.declared.frame.Frame.TheVariants as FrameOf
+use Rattle.ctl_frames.specs.declared.frame.Master.{Master}
 use Rattle.ctl_engine.specs.Departing.{with_top}
-use Rattle.ctl_engine.specs.Links.{first_base}
-use Rattle.ctl_engine.specs.Masters.{AreBelow, AreMasters, heads_of, layers_from}
+use Rattle.ctl_frames.specs.Links.{first_base}
+use Rattle.ctl_frames.specs.Masters.{AreBelow, AreMasters, heads_of, layers_from}
 use Rattle.ctl_engine.specs.Returning.{cell_behind, record_behind, waits_further, with_record}
 use Rattle.ctl_engine.specs.Shows.{kept, with_spots, written_at}
-use Rattle.ctl_engine.specs.Spots.{standing}
-use Rattle.ctl_engine.specs.Under.{aside}
+use Rattle.ctl_frames.specs.Spots.{standing}
+use Rattle.ctl_frames.specs.Under.{aside}
 use Rattle.ctl_engine.proofs.Closed.{without_master}
-use Rattle.ctl_engine.proofs.LeftOwner.{comes_behind}
-use Rattle.ctl_engine.proofs.LeftWithRecord.{cell_is, closed_to, closes_given, given_within, is_done, length_written, parts_given, record_is, result_given, some_waits}
-use Rattle.ctl_engine.proofs.Newest.{first_or}
+use Rattle.ctl_places.proofs.LeftOwner.{comes_behind}
+use Rattle.ctl_places.proofs.LeftWithRecord.{cell_is, closed_to, closes_given, given_within, is_done, length_written, parts_given, record_is, result_given, some_waits}
+use Rattle.ctl_frames.proofs.Newest.{first_or}
 use Rattle.ctl_engine.proofs.Owned.{up_to_newest}
-use Rattle.ctl_engine.proofs.OwnLayers.{place_behind}
+use Rattle.ctl_places.proofs.OwnLayers.{place_behind}
 use Rattle.ctl_engine.proofs.PoolsDropped.{drops}
 use Rattle.ctl_engine.proofs.Stretches.{cells_are}
 use Rattle.ctl_steps.proofs.returning.close_with_record.Goals as goal

@@ -1,6 +1,6 @@
 use Rattle.std.proofs.Common.{◌∙◌, ap, arith, take, List, ℕ}
-use Rattle.ctl_engine.specs.Masters.{display_from}
-use Rattle.ctl_engine.proofs.Links.{display_of_all}
+use Rattle.ctl_frames.specs.Masters.{display_from}
+use Rattle.ctl_frames.proofs.Links.{display_of_all}
 use Rattle.ctl_engine.proofs.engine.Engine.around.Goals as goal
 
 pub around_from-requires : goal.around_from-requires

@@ -1,5 +1,5 @@
 use Rattle.std.proofs.Common.{◌∙◌, ◌-◌, arith}
-use Rattle.ctl_engine.proofs.Links.{stops_here, goes_further, got}
+use Rattle.ctl_frames.proofs.Links.{stops_here, goes_further, got}
 use Rattle.ctl_engine.proofs.engine.Engine.around_from.Goals as goal
 
 pub returns-then-master-level-clause-display : goal.returns-then-master-level-clause-display

@@ -1,5 +1,5 @@
 use Rattle.std.specs.Prelude.{◌≡◌, ◌≤◌, take, length}
-use Rattle.ctl_engine.specs.Masters.{display_from}
+use Rattle.ctl_frames.specs.Masters.{display_from}
 use Rattle.ctl_engine.proofs.engine.Engine.around_from.Given as goal
 
 abbrev pub invariant-loop-count : goal.invariant-loop-count

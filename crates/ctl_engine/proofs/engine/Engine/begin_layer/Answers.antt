@@ -4,12 +4,12 @@ use Rattle.std.proofs.lemmas.List.{reverse-append}
 use Rattle.std.proofs.lemmas.Option.{slice_get_within}
 use Rattle.ctl_tree.specs.declared.event.Cause.TheVariants.{Scope}
 use Rattle.ctl_meaning.specs.Objects.{change_in, with_begun}
-use Rattle.ctl_engine.specs.declared.frame.Frame.{Frame}
-use Rattle.ctl_engine.specs.declared.frame.Frame.TheVariants as FrameOf
-use Rattle.ctl_engine.specs.declared.frame.Owned.{Owned}
+use Rattle.ctl_frames.specs.declared.frame.Frame.{Frame}
+use Rattle.ctl_frames.specs.declared.frame.Frame.TheVariants as FrameOf
+use Rattle.ctl_frames.specs.declared.frame.Owned.{Owned}
 use Rattle.ctl_engine.specs.Departing.{out}
-use Rattle.ctl_engine.proofs.Links.{got}
-use Rattle.ctl_engine.proofs.Lists.{same_at}
+use Rattle.ctl_frames.proofs.Links.{got}
+use Rattle.ctl_frames.proofs.Lists.{same_at}
 use Rattle.ctl_engine.proofs.engine.Engine.begin_layer.Goals as goal
 
 pub returns-clause-control : goal.returns-clause-control

@@ -1,11 +1,11 @@
 use Rattle.std.proofs.Common.{◌+◌, ◌++◌, ◌∙◌, [], ◌∷◌, ap, arith, refl, sym}
 use Rattle.std.proofs.lemmas.List.{length-append}
-use Rattle.ctl_engine.specs.declared.frame.After.TheVariants as AfterOf
-use Rattle.ctl_engine.specs.declared.frame.Master.{Master}
-use Rattle.ctl_engine.specs.Holders.{first_formal}
+use Rattle.ctl_frames.specs.declared.frame.After.TheVariants as AfterOf
+use Rattle.ctl_frames.specs.declared.frame.Master.{Master}
+use Rattle.ctl_frames.specs.Holders.{first_formal}
 use Rattle.ctl_engine.specs.Moves.{cleared}
 use Rattle.ctl_engine.specs.Shows.{kept, with_body}
-use Rattle.ctl_engine.specs.Masters.{heads_of, display_from}
+use Rattle.ctl_frames.specs.Masters.{heads_of, display_from}
 use Rattle.ctl_engine.proofs.Bodies.{IsCall}
 use Rattle.ctl_engine.proofs.Operations.{call_within, linked_call, operation_makes}
 use Rattle.ctl_engine.proofs.engine.Engine.call_operation.Goals as goal

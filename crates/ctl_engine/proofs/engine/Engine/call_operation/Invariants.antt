@@ -1,4 +1,4 @@
-use Rattle.ctl_engine.specs.Masters.{heads_of}
+use Rattle.ctl_frames.specs.Masters.{heads_of}
 use Rattle.ctl_engine.proofs.engine.Engine.call_operation.Given as goal
 
 abbrev pub ghost-around_from : goal.ghost-around_from

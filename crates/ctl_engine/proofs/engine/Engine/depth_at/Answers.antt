@@ -1,5 +1,5 @@
 use Rattle.std.proofs.Common.{◌<◌, ◌-◌, arith}
-use Rattle.ctl_engine.proofs.Links.{seen_there, got}
+use Rattle.ctl_frames.proofs.Links.{seen_there, got}
 use Rattle.ctl_engine.proofs.engine.Engine.depth_at.Goals as goal
 
 pub returns-clause-depth : goal.returns-clause-depth

@@ -1,6 +1,6 @@
 use Rattle.std.proofs.Common.{◌≡◌, ◌-◌, ◌∙◌, suc, drop, arith, ap}
-use Rattle.ctl_engine.specs.Masters.{layer_of, rising_layers}
-use Rattle.ctl_engine.proofs.Links.{got}
+use Rattle.ctl_frames.specs.Masters.{layer_of, rising_layers}
+use Rattle.ctl_frames.proofs.Links.{got}
 use Rattle.ctl_engine.proofs.NewestLayers.{none_from, none_there, none_below, not_a_layer}
 use Rattle.ctl_engine.proofs.engine.Engine.newest_layer.Goals as goal
 

@@ -1,5 +1,5 @@
 use Rattle.std.specs.Prelude.{◌≡◌, ◌≤◌, ◌-◌, [], drop, length}
-use Rattle.ctl_engine.specs.Masters.{rising_layers}
+use Rattle.ctl_frames.specs.Masters.{rising_layers}
 use Rattle.ctl_engine.proofs.engine.Engine.newest_layer.Given as goal
 
 abbrev pub invariant-loop-end : goal.invariant-loop-end

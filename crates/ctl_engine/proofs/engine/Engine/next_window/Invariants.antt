@@ -1,5 +1,5 @@
 use Rattle.std.specs.Prelude.{◌≡◌, ◌≤◌, length, reverse, take}
-use Rattle.ctl_engine.specs.Links.{end_behind}
+use Rattle.ctl_frames.specs.Links.{end_behind}
 use Rattle.ctl_engine.proofs.engine.Engine.next_window.Given as goal
 
 abbrev pub invariant-loop-count : goal.invariant-loop-count

@@ -1,4 +1,0 @@
-use Rattle.ctl_engine.proofs.engine.Engine.adjust_own.Given as goal
-
-abbrev pub ghost-adjust_controlled : goal.ghost-adjust_controlled
-ghost-adjust_controlled g a = g.t

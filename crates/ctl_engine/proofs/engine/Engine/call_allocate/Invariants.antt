@@ -1,4 +1,0 @@
-use Rattle.ctl_engine.proofs.engine.Engine.call_allocate.Given as goal
-
-abbrev pub ghost-enter_allocate : goal.ghost-enter_allocate
-ghost-enter_allocate g a = g.s

@@ -1,4 +1,0 @@
-use Rattle.ctl_engine.proofs.engine.Engine.cells_of_value.Given as goal
-
-abbrev pub ghost-newest_value : goal.ghost-newest_value
-ghost-newest_value g a = g.s

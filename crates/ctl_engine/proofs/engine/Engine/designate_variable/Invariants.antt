@@ -1,4 +1,0 @@
-use Rattle.ctl_engine.proofs.engine.Engine.designate_variable.Given as goal
-
-abbrev pub ghost-holder_seen : goal.ghost-holder_seen
-ghost-holder_seen g a = g.s

@@ -1,4 +1,0 @@
-use Rattle.ctl_engine.proofs.engine.Engine.empty_layer.Given as goal
-
-abbrev pub ghost-take_out : goal.ghost-take_out
-ghost-take_out g a = g.t.1

@@ -1,4 +1,0 @@
-use Rattle.ctl_engine.proofs.engine.Engine.end_allocation.Given as goal
-
-abbrev pub ghost-may_join : goal.ghost-may_join
-ghost-may_join g a = g.s

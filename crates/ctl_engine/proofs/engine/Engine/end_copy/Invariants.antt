@@ -1,5 +1,0 @@
-use Rattle.ctl_engine.proofs.Newest.{newest_object}
-use Rattle.ctl_engine.proofs.engine.Engine.end_copy.Given as goal
-
-abbrev pub ghost-become_layer : goal.ghost-become_layer
-ghost-become_layer g a = newest_object a.self.now.owned.items

@@ -1,4 +1,0 @@
-use Rattle.ctl_engine.proofs.engine.Engine.fetch.Given as goal
-
-abbrev pub ghost-read_seen : goal.ghost-read_seen
-ghost-read_seen g a = g.s

@@ -1,4 +1,0 @@
-use Rattle.ctl_engine.proofs.engine.Engine.fetch_part.Given as goal
-
-abbrev pub ghost-read_held : goal.ghost-read_held
-ghost-read_held g a = g.s

@@ -1,4 +1,0 @@
-use Rattle.ctl_engine.proofs.engine.Engine.grantor.Given as goal
-
-abbrev pub ghost-grantor_held : goal.ghost-grantor_held
-ghost-grantor_held g a = g.s

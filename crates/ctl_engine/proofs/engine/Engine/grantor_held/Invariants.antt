@@ -1,7 +1,0 @@
-use Rattle.ctl_engine.proofs.engine.Engine.grantor_held.Given as goal
-
-abbrev pub ghost-object_held : goal.ghost-object_held
-ghost-object_held g a = g.s
-
-abbrev pub ghost-pool_grantor : goal.ghost-pool_grantor
-ghost-pool_grantor g a = g.s

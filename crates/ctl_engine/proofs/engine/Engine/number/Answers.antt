@@ -1,6 +1,0 @@
-use Rattle.std.proofs.Common.{refl}
-use Rattle.ctl_engine.proofs.Given.{number_makes}
-use Rattle.ctl_engine.proofs.engine.Engine.number.Goals as goal
-
-pub returns-clause-makes : goal.returns-clause-makes
-returns-clause-makes g c = number_makes c.args.code.now c.args.self.now _ c.args.place g.s c.requires.0 refl refl refl refl

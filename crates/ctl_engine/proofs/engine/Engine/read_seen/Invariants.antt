@@ -1,4 +1,0 @@
-use Rattle.ctl_engine.proofs.engine.Engine.read_seen.Given as goal
-
-abbrev pub ghost-seen_at : goal.ghost-seen_at
-ghost-seen_at g a = g.s

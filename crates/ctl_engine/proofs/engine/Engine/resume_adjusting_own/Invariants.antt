@@ -1,5 +1,0 @@
-use Rattle.ctl_engine.proofs.AfterFinalize.{finished_in}
-use Rattle.ctl_engine.proofs.engine.Engine.resume_adjusting_own.Given as goal
-
-abbrev pub ghost-adjusted : goal.ghost-adjusted
-ghost-adjusted g a = finished_in g.s.control g.s.world

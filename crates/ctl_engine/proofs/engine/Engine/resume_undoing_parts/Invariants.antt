@@ -1,9 +1,0 @@
-use Rattle.std.specs.Prelude.{length}
-use Rattle.ctl_meaning.specs.Lists.{pull_rest}
-use Rattle.ctl_code.specs.States as T
-use Rattle.ctl_engine.specs.Filling.{pick_among}
-use Rattle.ctl_engine.proofs.AfterFinalize.{finished_in, left_in, part_in}
-use Rattle.ctl_engine.proofs.engine.Engine.resume_undoing_parts.Given as goal
-
-abbrev pub ghost-undo_next : goal.ghost-undo_next
-ghost-undo_next g a = (finished_in g.s.control g.s.world, left_in g.s.control, T.UndoingParts (part_in g.s.control) (pull_rest (pick_among a.order (length (left_in g.s.control))) (left_in g.s.control)))

@@ -1,4 +1,0 @@
-use Rattle.ctl_engine.proofs.engine.Engine.return_record.Given as goal
-
-abbrev pub ghost-cells_on_top : goal.ghost-cells_on_top
-ghost-cells_on_top g a = g.s

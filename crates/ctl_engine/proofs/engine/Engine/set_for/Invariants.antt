@@ -1,4 +1,0 @@
-use Rattle.ctl_engine.proofs.engine.Engine.set_for.Given as goal
-
-abbrev pub ghost-set_seen : goal.ghost-set_seen
-ghost-set_seen g a = g.s

@@ -1,4 +1,0 @@
-use Rattle.ctl_engine.proofs.engine.Engine.take_of_part.Given as goal
-
-abbrev pub ghost-read_at : goal.ghost-read_at
-ghost-read_at g a = g.s

@@ -1,4 +1,0 @@
-use Rattle.ctl_engine.proofs.engine.Engine.touch.Given as goal
-
-abbrev pub ghost-touch_object : goal.ghost-touch_object
-ghost-touch_object g a = g.s

@@ -1,4 +1,0 @@
-use Rattle.ctl_engine.proofs.engine.Engine.undo_declared.Given as goal
-
-abbrev pub ghost-undo_copy : goal.ghost-undo_copy
-ghost-undo_copy g a = g.s

@@ -1,5 +1,0 @@
-use Rattle.ctl_engine.specs.Masters.{heads_of}
-use Rattle.ctl_engine.proofs.engine.Engine.variable.Given as goal
-
-abbrev pub ghost-master_out : goal.ghost-master_out
-ghost-master_out g a = heads_of g.s.world.activations

@@ -1,0 +1,10 @@
+pub mod Beginnings
+pub mod Chosen
+pub mod FirstCells
+pub mod FormalWords
+pub mod Intervals
+pub mod Links
+pub mod Lists
+pub mod Newest
+pub mod StillLeft
+pub mod Words

@@ -1,0 +1,9 @@
+pub mod Filling
+pub mod Holders
+pub mod Links
+pub mod Masters
+pub mod Needs
+pub mod Noted
+pub mod Owned
+pub mod Spots
+pub mod Under

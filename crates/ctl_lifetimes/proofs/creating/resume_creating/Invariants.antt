@@ -1,0 +1,5 @@
+use Rattle.ctl_frames.proofs.Newest.{newest_object}
+use Rattle.ctl_lifetimes.proofs.creating.resume_creating.Given as goal
+
+abbrev pub ghost-become_layer : goal.ghost-become_layer
+ghost-become_layer g a = newest_object a.engine.now.owned.items

@@ -1,0 +1,5 @@
+pub mod Adjusting
+pub mod Emptying
+pub mod GivingUp
+pub mod Resuming
+pub mod Undoing

@@ -1,0 +1,7 @@
+pub mod Freeing
+pub mod Gathering
+pub mod Granting
+pub mod Parts
+pub mod Passing
+pub mod PoolBlocks
+pub mod StorageCalling
