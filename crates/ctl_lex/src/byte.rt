@@ -1,15 +1,10 @@
 //! Classes of bytes (RM 2.1, 2.2).
 
 ghost use Rattle.std.specs.Prelude.{◌≡◌};
-ghost use Rattle.ctl_lexis.specs.Bytes.{class_of, is_blank, is_line_end, is_letter, is_digit, is_underscore, is_graphic, in_name, in_number, in_line, run};
+ghost use Rattle.ctl_lexis.specs.Bytes.{class_of, is_blank, is_letter, is_digit, is_underscore, is_graphic, in_name, in_number, in_line, run};
 
+use ctl_bytes::place::is_line_end;
 use ctl_lexis::class::ByteClass;
-
-pub fn is_line_end(byte: u8) -> bool
-    ensures { result ≡ is_line_end byte }
-{
-    (10..=13).contains(&byte)
-}
 
 fn is_blank(byte: u8) -> bool
     ensures { result ≡ is_blank byte }

@@ -4,10 +4,10 @@ ghost use Rattle.std.specs.Prelude.{◌≡◌, ◌≤◌, ◌<◌, ◌^◌, leng
 ghost use Rattle.ctl_lexis.specs.Reading.{comment_at, mark_at, front_of};
 
 use crate::byte::{class_of, line_run};
-use crate::delimiter::{compound_delimiter, simple_delimiter};
 use crate::name::name_at;
 use crate::number::{byte_at, number_at};
 use crate::string::string_at;
+use ctl_bytes::delimiter::{compound_delimiter, simple_delimiter};
 use ctl_lexis::class::ByteClass;
 use ctl_lexis::shape::{Front, Shape};
 use ctl_tree::fault::FaultCode;

@@ -2,11 +2,9 @@
 #![tactic(auto)]
 
 mod byte;
-mod delimiter;
 mod front;
 mod name;
 mod number;
-mod place;
 mod scan;
 mod string;
 mod token;

@@ -7,8 +7,8 @@ ghost use Rattle.ctl_lexis.specs.Lexis.{HasTokens, HasFault};
 ghost use Rattle.ctl_lex.specs.Memory.{IsMemory};
 
 use crate::front::front_of;
-use crate::place::{place_after, start};
 use crate::token::{bare_token, push_token};
+use ctl_bytes::place::{place_after, start};
 use ctl_tree::fault::{Fault, FaultCode};
 use ctl_tree::token::{Kind, Token};
 use std::alloc::Global;

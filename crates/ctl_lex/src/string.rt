@@ -3,7 +3,8 @@
 ghost use Rattle.std.specs.Prelude.{◌≡◌, ◌+◌, ◌≤◌, ◌<◌, ◌^◌, false, length, drop, IfOk, IfSome};
 ghost use Rattle.ctl_lexis.specs.Reading.{body_length, content_of, string_of, string_at};
 
-use crate::byte::{graphic_run, is_line_end};
+use crate::byte::graphic_run;
+use ctl_bytes::place::is_line_end;
 use ctl_lexis::shape::{Front, Shape};
 use ctl_tree::fault::FaultCode;
 use ctl_tree::text::Text;

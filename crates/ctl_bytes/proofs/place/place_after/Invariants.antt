@@ -1,6 +1,6 @@
 use Rattle.std.proofs.Common.{◌≡◌, ◌+◌, ◌≤◌, drop}
 use Rattle.ctl_lexis.specs.Places.{place_after}
-use Rattle.ctl_lex.proofs.place.place_after.Given as goal
+use Rattle.ctl_bytes.proofs.place.place_after.Given as goal
 
 abbrev pub invariant-loop-byte : goal.invariant-loop-byte
 invariant-loop-byte l = record {

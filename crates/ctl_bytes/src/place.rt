@@ -1,11 +1,18 @@
-//! Places (RM 2.2).
+//! Line ends and places (RM 2.2).
 
 ghost use Rattle.std.specs.Prelude.{◌≡◌, ◌+◌, ◌≤◌, ◌<◌, ◌^◌, length};
+ghost use Rattle.ctl_lexis.specs.Bytes.{is_line_end};
 ghost use Rattle.ctl_lexis.specs.Places.{start, after, place_after};
 
-use crate::byte::is_line_end;
 use ctl_lexis::place::Place;
 use ctl_tree::span::Span;
+
+/// Tells whether a line ends at this byte.
+pub fn is_line_end(byte: u8) -> bool
+    ensures { result ≡ is_line_end byte }
+{
+    (10..=13).contains(&byte)
+}
 
 /// Gives the place where a text begins.
 pub fn start() -> Place
