@@ -1,5 +1,5 @@
-use Rattle.ctl_job.proofs.Values.{test_none, test_some, text_none, text_some}
-use Rattle.ctl_job.proofs.entries.has_value.Goals as goal
+use Rattle.ctl_entries.proofs.Values.{test_none, test_some, text_none, text_some}
+use Rattle.ctl_entries.proofs.entries.has_value.Goals as goal
 
 pub returns-in-Some : goal.returns-in-Some
 returns-in-Some c =

@@ -1,7 +1,7 @@
 use Rattle.std.proofs.Common.{subst, sym, refl}
-use Rattle.ctl_job.specs.Entries.{IsSpelled}
-use Rattle.ctl_job.proofs.Values.{limit_none, limit_some, parsed_spelled, text_none, text_some}
-use Rattle.ctl_job.proofs.entries.steps_of.Goals as goal
+use Rattle.ctl_entries.specs.Entries.{IsSpelled}
+use Rattle.ctl_entries.proofs.Values.{limit_none, limit_some, parsed_spelled, text_none, text_some}
+use Rattle.ctl_entries.proofs.entries.steps_of.Goals as goal
 
 pub returns-in-Some : goal.returns-in-Some
 returns-in-Some c =

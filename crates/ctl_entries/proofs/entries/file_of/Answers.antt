@@ -1,6 +1,6 @@
 use Rattle.std.proofs.Common.{◌≡◌, IfOk, string_bytes, subst}
-use Rattle.ctl_job.proofs.Values.{unwrap_or-text}
-use Rattle.ctl_job.proofs.entries.file_of.Goals as goal
+use Rattle.ctl_entries.proofs.Values.{unwrap_or-text}
+use Rattle.ctl_entries.proofs.entries.file_of.Goals as goal
 
 pub returns : goal.returns
 returns c =

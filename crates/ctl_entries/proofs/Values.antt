@@ -4,7 +4,7 @@ use Rattle.std.specs.Prelude.{unwrap_or}
 use Rattle.std.specs.Result.{result_unwrap_or}
 use Rattle.std.specs.Str.Parse.{ParsesUnsigned}
 use Rattle.std.proofs.lemmas.Slice.Eq.{bytes_eq-Decides}
-use Rattle.ctl_job.specs.Entries.{IsSpelled}
+use Rattle.ctl_entries.specs.Entries.{IsSpelled}
 
 -- the text behind a value
 abbrev pub text_of : Option (Bor (List ℕ)) → Option (List ℕ)
