@@ -3,6 +3,8 @@
 ghost use Rattle.std.specs.Prelude.{◌≡◌, [], drop};
 ghost use Rattle.ctl_resolve.specs.Naming.{Names, each, optional};
 ghost use Rattle.ctl_resolve.specs.Expressions as spec;
+ghost use Rattle.ctl_syntax.specs.declared.expression.Expression.TheVariants as e;
+ghost use Rattle.ctl_syntax.specs.declared.name.Suffix.TheVariants as s;
 
 use crate::copies::{identifier, leading};
 use crate::lists::room_for;
@@ -11,7 +13,8 @@ use crate::view::{Usage, View};
 use ctl_syntax::denoted::Use;
 use ctl_syntax::expression::Expression;
 use ctl_syntax::name::{Identifier, Name, Suffix};
-use ctl_syntax::operators::Operand;
+use ctl_syntax::operators::{LogicalOperator, Operand, RelationalOperator};
+use ctl_tree::span::Span;
 use sqlite_items::{Boxed, Items};
 use std::alloc::{AllocError, Global};
 
@@ -26,23 +29,12 @@ pub fn expression(
 {
     match of {
         Expression::Logical(at, operator, first, second, more) => {
-            let first = boxed(alloc, view, first)?;
-            let second = boxed(alloc, view, second)?;
-            let more = expressions(alloc, view, more.as_slice())?;
-            Ok(Expression::Logical(*at, *operator, first, second, more))
+            logical(alloc, view, *at, *operator, first, second, more)
         }
         Expression::Relation(at, operator, left, right) => {
-            let left = boxed(alloc, view, left)?;
-            let right = boxed(alloc, view, right)?;
-            Ok(Expression::Relation(*at, *operator, left, right))
+            relation(alloc, view, *at, *operator, left, right)
         }
-        Expression::Chain(at, first, second, more) => {
-            let first = boxed(alloc, view, first)?;
-            let second = operand(alloc, view, second.get())?;
-            let more = operands(alloc, view, more.as_slice())?;
-            let second = Boxed::new(alloc, second)?;
-            Ok(Expression::Chain(*at, first, second, more))
-        }
+        Expression::Chain(at, first, second, more) => chain(alloc, view, *at, first, second, more),
         Expression::Unary(at, operator, inner) => {
             let inner = boxed(alloc, view, inner)?;
             Ok(Expression::Unary(*at, *operator, inner))
@@ -68,6 +60,61 @@ pub fn expression(
             Ok(Expression::New(*at, handle, mark, value))
         }
     }
+}
+
+/// Resolves the names in relations that a logical operator joins (RM 4.5.1).
+#[cycle(expression)]
+fn logical(
+    alloc: Global,
+    view: &mut View,
+    at: Span,
+    operator: LogicalOperator,
+    first: &Boxed<Expression<Identifier>>,
+    second: &Boxed<Expression<Identifier>>,
+    more: &Items<Expression<Identifier>>,
+) -> Result<Expression<Use>, AllocError>
+    ensures { Names (spec.expression (e.Logical at operator first.now second.now more.now)) view.old result view.new }
+{
+    let first = boxed(alloc, view, first)?;
+    let second = boxed(alloc, view, second)?;
+    let more = expressions(alloc, view, more.as_slice())?;
+    Ok(Expression::Logical(at, operator, first, second, more))
+}
+
+/// Resolves the names in a relation (RM 4.5.2).
+#[cycle(expression)]
+fn relation(
+    alloc: Global,
+    view: &mut View,
+    at: Span,
+    operator: RelationalOperator,
+    left: &Boxed<Expression<Identifier>>,
+    right: &Boxed<Expression<Identifier>>,
+) -> Result<Expression<Use>, AllocError>
+    ensures { Names (spec.expression (e.Relation at operator left.now right.now)) view.old result view.new }
+{
+    let left = boxed(alloc, view, left)?;
+    let right = boxed(alloc, view, right)?;
+    Ok(Expression::Relation(at, operator, left, right))
+}
+
+/// Resolves the names in the terms of a sum, or in the factors of a term (RM 4.5.3, 4.5.5).
+#[cycle(expression)]
+fn chain(
+    alloc: Global,
+    view: &mut View,
+    at: Span,
+    first: &Boxed<Expression<Identifier>>,
+    second: &Boxed<Operand<Expression<Identifier>>>,
+    more: &Items<Operand<Expression<Identifier>>>,
+) -> Result<Expression<Use>, AllocError>
+    ensures { Names (spec.expression (e.Chain at first.now second.now more.now)) view.old result view.new }
+{
+    let first = boxed(alloc, view, first)?;
+    let second = operand(alloc, view, second.get())?;
+    let second = Boxed::new(alloc, second)?;
+    let more = operands(alloc, view, more.as_slice())?;
+    Ok(Expression::Chain(at, first, second, more))
 }
 
 /// Resolves the names in a part of an expression.
@@ -178,13 +225,25 @@ fn suffix(
             Ok(Suffix::Selector(id))
         }
         Suffix::All(at) => Ok(Suffix::All(*at)),
-        Suffix::Arguments(at, first, more) => {
-            let first = expression(alloc, view, first)?;
-            let more = expressions(alloc, view, more.as_slice())?;
-            Ok(Suffix::Arguments(*at, first, more))
-        }
+        Suffix::Arguments(at, first, more) => arguments(alloc, view, *at, first, more),
         Suffix::Attribute(at, attribute) => Ok(Suffix::Attribute(*at, *attribute)),
     }
+}
+
+/// Resolves the names in the arguments of a call or of an index (RM 4.1.1, 6.4).
+#[cycle(expression)]
+fn arguments(
+    alloc: Global,
+    view: &mut View,
+    at: Span,
+    first: &Expression<Identifier>,
+    more: &Items<Expression<Identifier>>,
+) -> Result<Suffix<Expression<Use>>, AllocError>
+    ensures { Names (spec.named_suffix (s.Arguments at first.now more.now)) view.old result view.new }
+{
+    let first = expression(alloc, view, first)?;
+    let more = expressions(alloc, view, more.as_slice())?;
+    Ok(Suffix::Arguments(at, first, more))
 }
 
 /// Resolves the handle of an allocator, if it has one (RM 13.11.4).

@@ -107,6 +107,21 @@ fn object_of(
     Ok((mark, discriminants, value))
 }
 
+/// Resolves what stands in the declaration of objects, where their names are hidden (RM 8.3(17)).
+fn hidden_object_of(
+    alloc: Global,
+    view: &mut View,
+    of: &Objects<Identifier, Identifier>,
+) -> Result<(Mark<Use>, Items<Association<Use>>, Option<Expression<Use>>), AllocError>
+    ensures { Names (spec.hidden_in of.now.names (spec.object_of of.now)) view.old result view.new }
+{
+    let count = view.table.count();
+    hide_each(alloc, view, of.names.as_slice())?;
+    let resolved = object_of(alloc, view, of)?;
+    cut(view, count);
+    Ok(resolved)
+}
+
 /// Declares objects, whose names are hidden in their declaration (RM 3.3.1, 8.3(17)).
 pub fn objects(
     alloc: Global,
@@ -115,10 +130,7 @@ pub fn objects(
 ) -> Result<Objects<Definition, Use>, AllocError>
     ensures { Names (spec.objects of.now) view.old result view.new }
 {
-    let count = view.table.count();
-    hide_each(alloc, view, of.names.as_slice())?;
-    let (mark, discriminants, value) = object_of(alloc, view, of)?;
-    cut(view, count);
+    let (mark, discriminants, value) = hidden_object_of(alloc, view, of)?;
     let names = new_names(alloc, view, of.names.as_slice())?;
     Ok(Objects {
         names,

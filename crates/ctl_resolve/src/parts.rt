@@ -4,6 +4,7 @@ ghost use Rattle.std.specs.Prelude.{◌≡◌, [], ◌∷◌};
 ghost use Rattle.ctl_resolve.specs.Naming.{Names, each};
 ghost use Rattle.ctl_resolve.specs.Declarations as declarations;
 ghost use Rattle.ctl_resolve.specs.Parts as spec;
+ghost use Rattle.ctl_syntax.specs.declared.item.Statement.TheVariants as s;
 
 use crate::declarations::{hide, new_name, new_names};
 use crate::ends::{choices, note_choices, note_unfinished};
@@ -18,7 +19,9 @@ use crate::types::{incomplete, note_order};
 use crate::view::{Stage, Usage, View};
 use ctl_syntax::denoted::{Definition, Use};
 use ctl_syntax::expression::Expression;
-use ctl_syntax::item::{Body, Branch, Handler, Item, ItemKind, Specification, Statement};
+use ctl_syntax::item::{
+    Body, Branch, Direction, Handler, Item, ItemKind, Specification, Statement,
+};
 use ctl_syntax::name::Identifier;
 use ctl_tree::span::Span;
 use sqlite_items::{Boxed, Items};
@@ -190,33 +193,99 @@ fn statement(
         }
         Statement::RaiseAgain(at) => Ok(Statement::RaiseAgain(*at)),
         Statement::If(at, first, more, others) => {
-            let first = guarded(alloc, view, first)?;
-            let more = branches(alloc, view, more.as_slice())?;
-            let others = statements(alloc, view, others.as_slice())?;
-            Ok(Statement::If(*at, first, more, others))
+            conditional(alloc, view, *at, first, more, others)
         }
-        Statement::Loop(at, all) => {
-            let repeated = statements(alloc, view, all.as_slice())?;
-            Ok(Statement::Loop(*at, repeated))
-        }
-        Statement::While(at, condition, all) => {
-            let condition = expression(alloc, view, condition)?;
-            let repeated = statements(alloc, view, all.as_slice())?;
-            Ok(Statement::While(*at, condition, repeated))
-        }
+        Statement::Loop(at, all) => endless(alloc, view, *at, all),
+        Statement::While(at, condition, all) => while_loop(alloc, view, *at, all, condition),
         Statement::For(at, id, direction, low, high, all) => {
-            let (low, high) = bounds(alloc, view, id, low, high)?;
-            let (parameter, repeated) = repeated(alloc, view, id, all.as_slice())?;
-            Ok(Statement::For(*at, parameter, *direction, low, high, repeated))
+            counting(alloc, view, *at, all, id, *direction, low, high)
         }
-        Statement::Block(at, part) => {
-            let around = enter_master(view)?;
-            let part = body(alloc, view, part.get())?;
-            leave(view, around);
-            let part = Boxed::new(alloc, part)?;
-            Ok(Statement::Block(*at, part))
-        }
+        Statement::Block(at, part) => block(alloc, view, *at, part),
     }
+}
+
+/// Resolves an if statement (RM 5.3).
+#[cycle(part)]
+fn conditional(
+    alloc: Global,
+    view: &mut View,
+    at: Span,
+    first: &Branch<Statement<Identifier, Identifier>, Identifier>,
+    more: &Items<Branch<Statement<Identifier, Identifier>, Identifier>>,
+    others: &Items<Statement<Identifier, Identifier>>,
+) -> Result<Statement<Definition, Use>, AllocError>
+    ensures { Names (spec.statement (s.If at first.now more.now others.now)) view.old result view.new }
+{
+    let first = guarded(alloc, view, first)?;
+    let more = branches(alloc, view, more.as_slice())?;
+    let others = statements(alloc, view, others.as_slice())?;
+    Ok(Statement::If(at, first, more, others))
+}
+
+/// Resolves a loop without an iteration scheme (RM 5.5).
+#[cycle(part)]
+fn endless(
+    alloc: Global,
+    view: &mut View,
+    at: Span,
+    all: &Items<Statement<Identifier, Identifier>>,
+) -> Result<Statement<Definition, Use>, AllocError>
+    ensures { Names (spec.statement (s.Loop at all.now)) view.old result view.new }
+{
+    let repeated = statements(alloc, view, all.as_slice())?;
+    Ok(Statement::Loop(at, repeated))
+}
+
+/// Resolves a loop that goes on while a condition holds (RM 5.5).
+#[cycle(part)]
+fn while_loop(
+    alloc: Global,
+    view: &mut View,
+    at: Span,
+    all: &Items<Statement<Identifier, Identifier>>,
+    condition: &Expression<Identifier>,
+) -> Result<Statement<Definition, Use>, AllocError>
+    ensures { Names (spec.statement (s.While at condition.now all.now)) view.old result view.new }
+{
+    let condition = expression(alloc, view, condition)?;
+    let repeated = statements(alloc, view, all.as_slice())?;
+    Ok(Statement::While(at, condition, repeated))
+}
+
+/// Resolves a loop whose parameter counts (RM 5.5).
+#[cycle(part)]
+fn counting(
+    alloc: Global,
+    view: &mut View,
+    at: Span,
+    all: &Items<Statement<Identifier, Identifier>>,
+    id: &Identifier,
+    direction: Direction,
+    low: &Expression<Identifier>,
+    high: &Expression<Identifier>,
+) -> Result<Statement<Definition, Use>, AllocError>
+    ensures { Names (spec.statement (s.For at id.now direction low.now high.now all.now)) view.old result view.new }
+{
+    let (low, high) = bounds(alloc, view, id, low, high)?;
+    let (parameter, repeated) = repeated(alloc, view, id, all.as_slice())?;
+    Ok(Statement::For(at, parameter, direction, low, high, repeated))
+}
+
+/// Resolves a block (RM 5.6).
+#[cycle(part)]
+fn block(
+    alloc: Global,
+    view: &mut View,
+    at: Span,
+    part: &Boxed<Body<Identifier, Identifier>>,
+) -> Result<Statement<Definition, Use>, AllocError>
+    ensures { Names (spec.statement (s.Block at part.now)) view.old result view.new }
+{
+    let around = enter_master(view)?;
+    let part = body(alloc, view, part.get())?;
+    leave(view, around);
+    let part = Boxed::new(alloc, part)?;
+    Ok(Statement::Block(at, part))
 }
 
 /// Resolves the bounds of a loop, where its parameter is hidden (RM 5.5, 8.3(17)).

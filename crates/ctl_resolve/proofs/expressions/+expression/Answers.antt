@@ -4,23 +4,23 @@ use Rattle.ctl_resolve.specs.Naming.{each}
 use Rattle.ctl_resolve.specs.Expressions.{expression, named_operand, named_suffix, used, leading}
 use Rattle.ctl_resolve.specs.declared.view.Usage.TheVariants.{Plain}
 use Rattle.ctl_resolve.proofs.Each.{turn}
-use Rattle.ctl_resolve.proofs.ExpressionDepths.{others_below}
+use Rattle.ctl_resolve.proofs.ExpressionDepths.{logical_below, relation_below, chain_below}
 use Rattle.ctl_resolve.proofs.ExpressionParts.{logical, chain, of_name, allocator, named, arguments}
 use Rattle.ctl_resolve.proofs.expressions.+expression.Goals as goal
 
-pub expression-returns-in_ok-more-in-Logical : goal.expression-returns-in_ok-more-in-Logical
-expression-returns-in_ok-more-in-Logical t c =
-    ap (λ e. expression e c.args.view.now) c.in-Logical.is
-    ∙ logical c.in-Logical.at c.in-Logical.operator c.in-Logical.first c.in-Logical.second c.in-Logical.more c.args.view.now c.boxed.new.view c.boxed-in-Logical.new.view c.expressions.new.view c.in_ok-first-in-Logical.first c.in_ok-second-in-Logical.second c.in_ok-more-in-Logical.more c.in_ok-first-in-Logical.ensures c.in_ok-second-in-Logical.ensures
-    (ap (λ ys. each expression [] ys c.boxed-in-Logical.new.view) (sym c.as_slice.ensures) ∙ c.in_ok-more-in-Logical.ensures)
+pub logical-returns : goal.logical-returns
+logical-returns t c =
+    let more = c.args.more.now in
+    logical c.args.at c.args.operator c.args.first.now c.args.second.now more c.args.view.now c.boxed.new.view c.boxed-2.new.view c.expressions.new.view c.in_ok-first.first c.in_ok-second.second c.in_ok-more.more c.in_ok-first.ensures c.in_ok-second.ensures
+    (ap (λ ys. each expression [] ys c.boxed-2.new.view) (sym c.as_slice.ensures) ∙ c.in_ok-more.ensures)
 
-pub expression-returns-in_ok-second-in-Chain-2 : goal.expression-returns-in_ok-second-in-Chain-2
-expression-returns-in_ok-second-in-Chain-2 t c =
-    ap (λ e. expression e c.args.view.now) c.in-Chain.is
-    ∙ chain c.in-Chain.at c.in-Chain.first c.in-Chain.second c.in-Chain.more c.args.view.now c.boxed-in-Chain.new.view c.operand.new.view c.operands.new.view c.in_ok-first-in-Chain.first c.in_ok-second-in-Chain.second c.in_ok-more-in-Chain.more c.in_ok-first-in-Chain.ensures
-    (ap (λ o. named_operand o c.boxed-in-Chain.new.view) (sym c.get.ensures) ∙ c.in_ok-second-in-Chain.ensures)
-    (ap (λ ys. each named_operand [] ys c.operand.new.view) (sym c.as_slice-in-Chain.ensures) ∙ c.in_ok-more-in-Chain.ensures)
-    ∙ ap (λ o. (x.Chain c.in-Chain.at c.in_ok-first-in-Chain.first o c.in_ok-more-in-Chain.more, c.operands.new.view)) (sym c.in_ok-second-in-Chain-2.ensures)
+pub chain-returns : goal.chain-returns
+chain-returns t c =
+    let at = c.args.at in
+    chain at c.args.first.now c.args.second.now c.args.more.now c.args.view.now c.boxed.new.view c.operand.new.view c.operands.new.view c.in_ok-first.first c.in_ok-second.second c.in_ok-more.more c.in_ok-first.ensures
+    (ap (λ o. named_operand o c.boxed.new.view) (sym c.get.ensures) ∙ c.in_ok-second.ensures)
+    (ap (λ ys. each named_operand [] ys c.operand.new.view) (sym c.as_slice.ensures) ∙ c.in_ok-more.ensures)
+    ∙ ap (λ o. (x.Chain at c.in_ok-first.first o c.in_ok-more.more, c.operands.new.view)) (sym c.in_ok-second-2.ensures)
 
 pub expression-returns-in_ok-name-in-Name : goal.expression-returns-in_ok-name-in-Name
 expression-returns-in_ok-name-in-Name t c =
@@ -39,11 +39,13 @@ name-returns t c =
     (ap (λ ids. used Plain of.first ids c.args.view.now) (sym (c.as_slice-2.ensures ∙ c.in_ok-rest.ensures ∙ ap leading c.as_slice.ensures)) ∙ c.in_ok-first.ensures)
     (ap (λ xs. each named_suffix [] (drop c.in_ok-first.count xs) c.used.new.view) (sym c.as_slice-3.ensures) ∙ c.in_ok-suffixes.ensures)
 
-pub suffix-returns-in_ok-more-in-Arguments : goal.suffix-returns-in_ok-more-in-Arguments
-suffix-returns-in_ok-more-in-Arguments t c =
-    ap (λ s. named_suffix s c.args.view.now) c.in-Arguments.is
-    ∙ arguments c.in-Arguments.at c.in-Arguments.first c.in-Arguments.more c.args.view.now c.expression.new.view c.expressions.new.view c.in_ok-first-in-Arguments.first c.in_ok-more-in-Arguments.more c.in_ok-first-in-Arguments.ensures
-    (ap (λ ys. each expression [] ys c.expression.new.view) (sym c.as_slice.ensures) ∙ c.in_ok-more-in-Arguments.ensures)
+pub suffix-returns-in-Arguments : goal.suffix-returns-in-Arguments
+suffix-returns-in-Arguments t c = rw c.in-Arguments.is c.arguments.ensures
+
+pub arguments-returns : goal.arguments-returns
+arguments-returns t c =
+    arguments c.args.at c.args.first.now c.args.more.now c.args.view.now c.expression.new.view c.expressions.new.view c.in_ok-first.first c.in_ok-more.more c.in_ok-first.ensures
+    (ap (λ ys. each expression [] ys c.expression.new.view) (sym c.as_slice.ensures) ∙ c.in_ok-more.ensures)
 
 pub expressions-loop-one-preserved : goal.expressions-loop-one-preserved
 expressions-loop-one-preserved t c =
@@ -61,7 +63,17 @@ operands-loop-one-preserved t c =
     ∙ turn named_operand c.loop-one.resolved all i c.one-item.result c.in_ok-operand.field-0 c.loop-one.view c.operand.new.view c.loop-one-test.true c.one-item.is c.in_ok-operand.ensures
     ∙ c.loop-one.invariant
 
-pub expression-expressions-requires : goal.expression-expressions-requires
-expression-expressions-requires t c =
-    let h = others_below c.args.of.now c.in-Logical.at c.in-Logical.operator c.in-Logical.first c.in-Logical.second c.in-Logical.more c.as_slice.result.now c.in-Logical.is c.as_slice.ensures in
+pub expression-logical-requires : goal.expression-logical-requires
+expression-logical-requires t c =
+    let h = logical_below c.args.of.now c.in-Logical.at c.in-Logical.operator c.in-Logical.first c.in-Logical.second c.in-Logical.more c.in-Logical.is in
+    (omega (arith, h, c.decreases), tt)
+
+pub expression-relation-requires : goal.expression-relation-requires
+expression-relation-requires t c =
+    let h = relation_below c.args.of.now c.in-Relation.at c.in-Relation.operator c.in-Relation.left c.in-Relation.right c.in-Relation.is in
+    (omega (arith, h, c.decreases), tt)
+
+pub expression-chain-requires : goal.expression-chain-requires
+expression-chain-requires t c =
+    let h = chain_below c.args.of.now c.in-Chain.at c.in-Chain.first c.in-Chain.second c.in-Chain.more c.in-Chain.is in
     (omega (arith, h, c.decreases), tt)

@@ -1,7 +1,8 @@
 -- Naming what is left, behind what is named, names all.
-use Rattle.std.proofs.Common.{◌≡◌, ◌+◌, ◌*◌, [], drop}
+use Rattle.std.proofs.Common.{◌≡◌, ◌+◌, ◌*◌, [], ◌∷◌, drop}
 use Rattle.ctl_resolve.specs.Naming.{each}
 use Rattle.ctl_resolve.specs.Expressions.{expression, named_operand, named_suffix}
+use Rattle.ctl_resolve.proofs.ExpressionDepths.{deepest, deepest_of_chain}
 use Rattle.ctl_resolve.proofs.expressions.+expression.Given as goal
 
 abbrev pub invariant-expressions-loop-one : goal.invariant-expressions-loop-one
@@ -16,31 +17,43 @@ invariant-suffixes-loop-at l = each named_suffix l.resolved (drop l.at l.all) l.
 -- Each call goes down the expression, or at one size to a function of lower rank.
 
 abbrev pub decreases-expression : goal.decreases-expression
-decreases-expression l = goal.size-expression l * 6 + 0
+decreases-expression l = goal.size-expression l * 8 + 0
 
 abbrev pub decreases-boxed : goal.decreases-boxed
-decreases-boxed l = goal.size-boxed l * 6 + 1
+decreases-boxed l = goal.size-boxed l * 8 + 1
 
 abbrev pub decreases-operand : goal.decreases-operand
-decreases-operand l = goal.size-operand l * 6 + 1
+decreases-operand l = goal.size-operand l * 8 + 1
 
 abbrev pub decreases-expressions : goal.decreases-expressions
-decreases-expressions l = goal.size-expressions l * 6 + 1
+decreases-expressions l = goal.size-expressions l * 8 + 1
 
 abbrev pub decreases-value_or_none : goal.decreases-value_or_none
-decreases-value_or_none l = goal.size-value_or_none l * 6 + 2
+decreases-value_or_none l = goal.size-value_or_none l * 8 + 2
 
 abbrev pub decreases-operands : goal.decreases-operands
-decreases-operands l = goal.size-operands l * 6 + 2
+decreases-operands l = goal.size-operands l * 8 + 2
 
 abbrev pub decreases-suffix : goal.decreases-suffix
-decreases-suffix l = goal.size-suffix l * 6 + 2
+decreases-suffix l = goal.size-suffix l * 8 + 3
 
 abbrev pub decreases-suffixes : goal.decreases-suffixes
-decreases-suffixes l = goal.size-suffixes l * 6 + 3
+decreases-suffixes l = goal.size-suffixes l * 8 + 4
 
 abbrev pub decreases-name : goal.decreases-name
-decreases-name l = goal.size-name l * 6 + 4
+decreases-name l = goal.size-name l * 8 + 5
 
 abbrev pub decreases-handle_or_none : goal.decreases-handle_or_none
-decreases-handle_or_none l = goal.size-handle_or_none l * 6 + 5
+decreases-handle_or_none l = goal.size-handle_or_none l * 8 + 6
+
+abbrev pub decreases-logical : goal.decreases-logical
+decreases-logical l = deepest (l.first.now ∷ l.second.now ∷ l.more.now) * 8 + 2
+
+abbrev pub decreases-relation : goal.decreases-relation
+decreases-relation l = deepest (l.left.now ∷ l.right.now ∷ []) * 8 + 2
+
+abbrev pub decreases-chain : goal.decreases-chain
+decreases-chain l = deepest_of_chain l.first.now l.second.now l.more.now * 8 + 3
+
+abbrev pub decreases-arguments : goal.decreases-arguments
+decreases-arguments l = deepest (l.first.now ∷ l.more.now) * 8 + 2

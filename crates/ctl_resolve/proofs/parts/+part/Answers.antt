@@ -1,10 +1,13 @@
 use Rattle.std.proofs.Common.{arith, sym, [], ap, ◌∙◌, ◌+◌, drop, map}
 use Rattle.ctl_syntax.specs.declared.name.Identifier.{Identifier}
+use denote.Param.Weighed.{at_most}
 use Rattle.ctl_syntax.specs.declared.item.Body.{out-Body}
+use Rattle.ctl_syntax.specs.declared.item.Branch.{Branch}
+use Rattle.ctl_syntax.specs.declared.item.Statement.{Statement}
 use Rattle.ctl_resolve.specs.Naming.{each, changed, leave}
 use Rattle.ctl_resolve.specs.Parts.{item_of, statement, named_branch, named_handler, note_choices, looped}
 use Rattle.ctl_resolve.proofs.BodyParts.{bodied}
-use Rattle.ctl_resolve.proofs.StatementDepths.{others_below}
+use Rattle.ctl_resolve.proofs.StatementDepths.{deepness, depth_of_branch, first_below, more_below, others_below}
 use Rattle.ctl_resolve.proofs.StatementParts.{conditional, endless, while_true, guarding, handling, looping}
 use Rattle.ctl_resolve.proofs.Each.{turn}
 use Rattle.ctl_resolve.proofs.parts.+part.Goals as goal
@@ -68,26 +71,45 @@ repeated-returns t c =
     ∙ ap (changed (leave v.part)) (looping c.args.id.now all c.enter_region-around.new.view c.new_name.new.view c.statements.new.view c.in_ok-parameter.parameter c.in_ok-resolved.resolved c.in_ok-parameter.ensures c.in_ok-resolved.ensures)
     ∙ ap (λ w. ((c.in_ok-parameter.parameter, c.in_ok-resolved.resolved), w)) (ap (λ a. leave a c.statements.new.view) (sym c.enter_region-around.ensures.around) ∙ sym c.leave.ensures)
 
-pub statement-statements-requires : goal.statement-statements-requires
-statement-statements-requires t c =
-    let h = others_below c.args.of.now c.in-If.at c.in-If.first c.in-If.more c.in-If.others c.as_slice-in-If.result.now c.in-If.is c.as_slice-in-If.ensures in
+pub statement-conditional-requires : goal.statement-conditional-requires
+statement-conditional-requires t c =
+    let h = ap deepness c.in-If.is in
     (omega (arith, h, c.decreases), tt)
 
-pub statement-returns-in_ok-others-in-If : goal.statement-returns-in_ok-others-in-If
-statement-returns-in_ok-others-in-If t c =
-    ap (λ e. statement e c.args.view.now) c.in-If.is
-    ∙ conditional c.in-If.at c.in-If.first c.in-If.more c.in-If.others c.args.view.now c.guarded.new.view c.branches.new.view c.statements.new.view c.in_ok-first-in-If.first c.in_ok-more-in-If.more c.in_ok-others-in-If.others c.in_ok-first-in-If.ensures
-    (ap (λ ys. each named_branch [] ys c.guarded.new.view) (sym c.as_slice.ensures) ∙ c.in_ok-more-in-If.ensures)
-    (ap (λ ys. each statement [] ys c.branches.new.view) (sym c.as_slice-in-If.ensures) ∙ c.in_ok-others-in-If.ensures)
+pub conditional-guarded-requires : goal.conditional-guarded-requires
+conditional-guarded-requires t c =
+    let h = first_below c.args.at c.args.first.now c.args.more.now c.args.others.now in
+    (omega (arith, h, c.decreases), tt)
 
-pub statement-returns-in_ok-repeated-in-Loop : goal.statement-returns-in_ok-repeated-in-Loop
-statement-returns-in_ok-repeated-in-Loop t c =
-    ap (λ e. statement e c.args.view.now) c.in-Loop.is
-    ∙ endless c.in-Loop.at c.in-Loop.all c.args.view.now c.statements-in-Loop.new.view c.in_ok-repeated-in-Loop.repeated
-    (ap (λ ys. each statement [] ys c.args.view.now) (sym c.as_slice-in-Loop.ensures) ∙ c.in_ok-repeated-in-Loop.ensures)
+pub conditional-branches-requires : goal.conditional-branches-requires
+conditional-branches-requires t c =
+    let h = more_below c.args.at c.args.first.now c.args.more.now c.args.others.now c.as_slice.result.now c.as_slice.ensures in
+    (omega (arith, h, c.decreases), tt)
 
-pub statement-returns-in_ok-repeated-in-While : goal.statement-returns-in_ok-repeated-in-While
-statement-returns-in_ok-repeated-in-While t c =
-    ap (λ e. statement e c.args.view.now) c.in-While.is
-    ∙ while_true c.in-While.at c.in-While.condition c.in-While.all c.args.view.now c.expression-in-While.new.view c.statements-in-While.new.view c.in_ok-condition-in-While.condition c.in_ok-repeated-in-While.repeated c.in_ok-condition-in-While.ensures
-    (ap (λ ys. each statement [] ys c.expression-in-While.new.view) (sym c.as_slice-in-While.ensures) ∙ c.in_ok-repeated-in-While.ensures)
+pub conditional-statements-requires : goal.conditional-statements-requires
+conditional-statements-requires t c =
+    let h = others_below c.args.at c.args.first.now c.args.more.now c.args.others.now c.as_slice-2.result.now c.as_slice-2.ensures in
+    (omega (arith, h, c.decreases), tt)
+
+pub branches-guarded-requires : goal.branches-guarded-requires
+branches-guarded-requires t c =
+    let b = c.one-item.result in
+    let below = at_most (λ (x : Branch (Statement Identifier Identifier) Identifier). depth_of_branch x) c.args.all.now c.loop-one.one-index b c.loop-one-test.true in
+    let same = ap (λ (x : Branch (Statement Identifier Identifier) Identifier). depth_of_branch x) c.one-item.is in
+    (omega (arith, below, same, c.decreases), tt)
+
+pub conditional-returns : goal.conditional-returns
+conditional-returns t c =
+    conditional c.args.at c.args.first.now c.args.more.now c.args.others.now c.args.view.now c.guarded.new.view c.branches.new.view c.statements.new.view c.in_ok-first.first c.in_ok-more.more c.in_ok-others.others c.in_ok-first.ensures
+    (ap (λ ys. each named_branch [] ys c.guarded.new.view) (sym c.as_slice.ensures) ∙ c.in_ok-more.ensures)
+    (ap (λ ys. each statement [] ys c.branches.new.view) (sym c.as_slice-2.ensures) ∙ c.in_ok-others.ensures)
+
+pub endless-returns : goal.endless-returns
+endless-returns t c =
+    endless c.args.at c.args.all.now c.args.view.now c.statements.new.view c.in_ok-repeated.repeated
+    (ap (λ ys. each statement [] ys c.args.view.now) (sym c.as_slice.ensures) ∙ c.in_ok-repeated.ensures)
+
+pub while_loop-returns : goal.while_loop-returns
+while_loop-returns t c =
+    while_true c.args.at c.args.condition.now c.args.all.now c.args.view.now c.expression.new.view c.statements.new.view c.in_ok-condition.condition c.in_ok-repeated.repeated c.in_ok-condition.ensures
+    (ap (λ ys. each statement [] ys c.expression.new.view) (sym c.as_slice.ensures) ∙ c.in_ok-repeated.ensures)

@@ -1,7 +1,9 @@
 -- Naming what is left, behind what is named, names all.
 use Rattle.std.proofs.Common.{◌≡◌, ◌+◌, ◌*◌, [], drop}
+use Rattle.ctl_syntax.specs.declared.item.Statement.TheVariants as s
 use Rattle.ctl_resolve.specs.Naming.{each}
 use Rattle.ctl_resolve.specs.Parts.{item_of, statement, named_branch, named_handler}
+use Rattle.ctl_resolve.proofs.StatementDepths.{deepness, deepest_of_branches}
 use Rattle.ctl_resolve.proofs.parts.+part.Given as goal
 
 abbrev pub invariant-items-loop-one : goal.invariant-items-loop-one
@@ -19,37 +21,52 @@ invariant-handlers-loop-one l = each named_handler l.resolved (drop l.one-index 
 -- Each call goes down the tree, or at one size to a function of lower rank.
 
 abbrev pub decreases-statement : goal.decreases-statement
-decreases-statement l = goal.size-statement l * 6 + 0
+decreases-statement l = goal.size-statement l * 8 + 1
 
 abbrev pub decreases-body : goal.decreases-body
-decreases-body l = goal.size-body l * 6 + 0
+decreases-body l = goal.size-body l * 8 + 1
 
 abbrev pub decreases-statements : goal.decreases-statements
-decreases-statements l = goal.size-statements l * 6 + 1
+decreases-statements l = goal.size-statements l * 8 + 2
 
 abbrev pub decreases-guarded : goal.decreases-guarded
-decreases-guarded l = goal.size-guarded l * 6 + 2
+decreases-guarded l = goal.size-guarded l * 8 + 3
 
 abbrev pub decreases-branches : goal.decreases-branches
-decreases-branches l = goal.size-branches l * 6 + 3
+decreases-branches l = deepest_of_branches l.all.now * 8 + 4
 
 abbrev pub decreases-handler : goal.decreases-handler
-decreases-handler l = goal.size-handler l * 6 + 2
+decreases-handler l = goal.size-handler l * 8 + 3
 
 abbrev pub decreases-handlers : goal.decreases-handlers
-decreases-handlers l = goal.size-handlers l * 6 + 3
+decreases-handlers l = goal.size-handlers l * 8 + 4
 
 abbrev pub decreases-repeated : goal.decreases-repeated
-decreases-repeated l = goal.size-repeated l * 6 + 2
+decreases-repeated l = goal.size-repeated l * 8 + 3
 
 abbrev pub decreases-body_item : goal.decreases-body_item
-decreases-body_item l = goal.size-body_item l * 6 + 1
+decreases-body_item l = goal.size-body_item l * 8 + 2
 
 abbrev pub decreases-kind : goal.decreases-kind
-decreases-kind l = goal.size-kind l * 6 + 2
+decreases-kind l = goal.size-kind l * 8 + 3
 
 abbrev pub decreases-item : goal.decreases-item
-decreases-item l = goal.size-item l * 6 + 3
+decreases-item l = goal.size-item l * 8 + 4
 
 abbrev pub decreases-items : goal.decreases-items
-decreases-items l = goal.size-items l * 6 + 4
+decreases-items l = goal.size-items l * 8 + 5
+
+abbrev pub decreases-conditional : goal.decreases-conditional
+decreases-conditional l = deepness (s.If l.at l.first.now l.more.now l.others.now) * 8 + 0
+
+abbrev pub decreases-endless : goal.decreases-endless
+decreases-endless l = goal.size-endless l * 8 + 3
+
+abbrev pub decreases-while_loop : goal.decreases-while_loop
+decreases-while_loop l = goal.size-while_loop l * 8 + 3
+
+abbrev pub decreases-counting : goal.decreases-counting
+decreases-counting l = goal.size-counting l * 8 + 4
+
+abbrev pub decreases-block : goal.decreases-block
+decreases-block l = goal.size-block l * 8 + 2
