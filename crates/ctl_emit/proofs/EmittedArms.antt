@@ -9,11 +9,11 @@ use Rattle.ctl_code.specs.declared.code.Instr.TheVariants.{Back, Skip}
 use Rattle.ctl_code.specs.declared.kinds.Kind.{Kind}
 use Rattle.ctl_code.specs.declared.template.TextPart.{TextPart}
 use Rattle.ctl_layout.specs.Around.{Line, Landing, BeforeLoop, OutOfMaster, Around, behind, further}
-use Rattle.ctl_emit.specs.Emitted.{Emitted, appended, around, first_end, further_arms, lined, one, open_arms, set_at, skipping, stated}
+use Rattle.ctl_emitter.specs.Emitted.{Emitted, appended, around, first_end, further_arms, lined, one, open_arms, set_at, skipping, stated}
 use Rattle.ctl_layout.specs.Layout.{StatementCode, ArmCode, all, always, arm_code, arms_code, arms_texts, branches, rest_code, statement_code, tested, turn_code}
 use Rattle.ctl_layout.specs.Values.{value_code}
 use Rattle.ctl_layout.proofs.StatementLayers.{arm_is}
-use Rattle.ctl_emit.proofs.Emission.{IsWithin, count_more, counted_behind, joined, nothing, one_longer, stated_both, stated_lined, written_anew}
+use Rattle.ctl_emitter.proofs.Emission.{IsWithin, count_more, counted_behind, joined, nothing, one_longer, stated_both, stated_lined, written_anew}
 
 -- an arm as a statement under its condition
 abbrev pub guarded : ArmCode → StatementCode

@@ -10,9 +10,9 @@ use Rattle.ctl_code.specs.declared.kinds.Kind.{Kind}
 use Rattle.ctl_code.specs.declared.kinds.Kind.TheVariants.{Body}
 use Rattle.ctl_code.specs.Kinds.{below_newest}
 use Rattle.ctl_layout.specs.Around.{Line, OutOfMaster}
-use Rattle.ctl_emit.specs.Emitted.{Emitted, appended, around, lined, none_emitted, one, standing, stated}
+use Rattle.ctl_emitter.specs.Emitted.{Emitted, appended, around, lined, none_emitted, one, standing, stated}
 use Rattle.ctl_layout.specs.Layout.{all_defaults, behind_bodies, bodies, body_code, entries_from, entry_at, instructions_of, kinds_of, master_code, nowhere, numbered, program_code}
-use Rattle.ctl_emit.proofs.Emission.{count_more, nothing, stands, stands_before, stands_behind, standing_is, texts_more}
+use Rattle.ctl_emitter.proofs.Emission.{count_more, nothing, stands, stands_before, stands_behind, standing_is, texts_more}
 use Rattle.ctl_emit.proofs.EmittedStatements.{next_statement}
 
 texts_stand : (s : List Kind) (e0 e1 : Emitted) → e1 ≡ standing s e0 → length e1.texts ≡ length e0.texts

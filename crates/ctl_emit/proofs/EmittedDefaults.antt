@@ -13,9 +13,9 @@ use Rattle.ctl_code.specs.declared.kinds.Kind.TheVariants.{Default}
 use Rattle.ctl_code.specs.Kinds.{below_newest}
 use Rattle.ctl_layout.specs.Layout.{all_defaults, default_code, defaults_code, evaluation, inherited_places, places_from, return_held, rows_from}
 use Rattle.ctl_layout.specs.Values.{ValueCode, held}
-use Rattle.ctl_emit.specs.Emitted.{Emitted, appended, holding, lined, standing, taking}
-use Rattle.ctl_emit.proofs.Emission.{count_more, in_two, lined_at, nothing, standing_is, stands, stands_before, stands_behind}
-use Rattle.ctl_emit.proofs.EmittedValues.{operand_taken}
+use Rattle.ctl_emitter.specs.Emitted.{Emitted, appended, holding, lined, standing, taking}
+use Rattle.ctl_emitter.proofs.Emission.{count_more, in_two, lined_at, nothing, standing_is, stands, stands_before, stands_behind}
+use Rattle.ctl_emitter.proofs.EmittedValues.{operand_taken}
 
 -- a default, where nothing stands
 pub evaluation_emitted : (level number : ℕ) (x : ValueCode) (ty : Ty) (cell : Cell) (e0 e1 e2 e3 e4 : Emitted) → e0.notes.standing ≡ [] → e1 ≡ standing (Default level number ∷ e0.notes.standing) e0 → e2 ≡ holding (held x ty) e1 → cell ≡ (held x ty e1.notes.standing).cell → e3 ≡ taking (InstrOf.Return cell ty) cell e2 → e4 ≡ standing (below_newest e3.notes.standing) e3 → e4 ≡ appended (evaluation level number x ty) [] [] e0

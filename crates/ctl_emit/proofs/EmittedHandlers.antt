@@ -11,8 +11,8 @@ use Rattle.ctl_code.specs.declared.kinds.Kind.{Kind}
 use Rattle.ctl_layout.specs.Around.{Line, Around, behind}
 use Rattle.ctl_layout.specs.Layout.{StatementCode, HandlerCode, all, catches_code, handled, handler_code, handler_lines, handlers_code, handlers_texts, statement_code}
 use Rattle.ctl_layout.proofs.StatementLayers.{handler_is}
-use Rattle.ctl_emit.specs.Emitted.{Emitted, appended, around, chosen, further_handlers, lined, one, one_handler, set_at, skipped_handlers, sought_code, stated}
-use Rattle.ctl_emit.proofs.Emission.{IsWithin, count_more, counted_since, lined_both, lined_stated, nothing, stated_both, written_anew}
+use Rattle.ctl_emitter.specs.Emitted.{Emitted, appended, around, chosen, further_handlers, lined, one, one_handler, set_at, skipped_handlers, sought_code, stated}
+use Rattle.ctl_emitter.proofs.Emission.{IsWithin, count_more, counted_since, lined_both, lined_stated, nothing, stated_both, written_anew}
 use Rattle.ctl_emit.proofs.EmittedArms.{next_turn}
 
 -- no loop of the master is around

@@ -12,12 +12,12 @@ use Rattle.ctl_code.specs.declared.kinds.Kind.TheVariants as KindOf
 use Rattle.ctl_code.specs.Kinds.{below_newest}
 use Rattle.ctl_code.specs.Windows.{height}
 use Rattle.ctl_layout.specs.Around.{Line, OutOfMaster, behind, newest_at}
-use Rattle.ctl_emit.specs.Emitted.{Emitted, appended, around, holding, lined, one, repeated, set_at, standing, stated, taking, with_end, without}
+use Rattle.ctl_emitter.specs.Emitted.{Emitted, appended, around, holding, lined, one, repeated, set_at, standing, stated, taking, with_end, without}
 use Rattle.ctl_layout.specs.Values.{ValueCode, evaluated, held}
 use Rattle.ctl_layout.specs.Layout.{ItemCode, StatementCode, MasterCode, always, block, block_code, bounds_code, departure, for, for_of, in_loop, inside, leaves_code, loop, next_of, test_code, test_length, tested, turns_code, with_bounds}
-use Rattle.ctl_emit.proofs.Emission.{IsWithin, count_more, counted_behind, counted_since, in_two, lined_at, lined_stated, looped, one_longer, stands_behind, standing_is, stated_at, stated_lined, still_within, texts_as_before, written_anew}
+use Rattle.ctl_emitter.proofs.Emission.{IsWithin, count_more, counted_behind, counted_since, in_two, lined_at, lined_stated, looped, one_longer, stands_behind, standing_is, stated_at, stated_lined, still_within, texts_as_before, written_anew}
 use Rattle.ctl_emit.proofs.EmittedStatements.{test_emitted, test_long}
-use Rattle.ctl_emit.proofs.EmittedValues.{two_evaluated, held_back}
+use Rattle.ctl_emitter.proofs.EmittedValues.{two_evaluated, held_back}
 
 abbrev taking_over : Instr → Cell → List Kind → Emitted → Emitted
 taking_over i cell r e = appended (one i r) [] (without cell.named r) e

@@ -14,11 +14,11 @@ use Rattle.ctl_code.specs.Kinds.{below_newest}
 use Rattle.ctl_code.specs.Windows.{height, variable_at}
 use Rattle.ctl_layout.specs.Around.{behind, local_at, local_cell, newest_cell, out_to}
 use Rattle.ctl_layout.specs.Parts.{Start, Reached, Variable, Part, Object, Result, located_code}
-use Rattle.ctl_emit.specs.Emitted.{Emitted, appended, around, holding, lined, one, standing, stated, taking}
+use Rattle.ctl_emitter.specs.Emitted.{Emitted, appended, around, holding, lined, one, standing, stated, taking}
 use Rattle.ctl_layout.specs.Values.{ValueCode, copied, evaluated, held, value_type}
 use Rattle.ctl_layout.specs.Layout.{ItemCode, StatementCode, all, all_items, assign, assign_code, declaration, discriminants_code, failed_code, free, gathers_code, layer_of, null, only_if, ordered_pool, return, return_held, return_of, return_record, scalar_code, silent, store_code, test_code, test_length, valued, valued_code, with_discriminants, with_value}
-use Rattle.ctl_emit.proofs.Emission.{IsWithin, lined_both, lined_stated, nothing, one_longer, stated_both}
-use Rattle.ctl_emit.proofs.EmittedValues.{IsElementary, of_elementary, operand_taken, two_evaluated, two_taken}
+use Rattle.ctl_emitter.proofs.Emission.{IsWithin, lined_both, lined_stated, nothing, one_longer, stated_both}
+use Rattle.ctl_emitter.proofs.EmittedValues.{IsElementary, of_elementary, operand_taken, two_evaluated, two_taken}
 
 -- another name of the same statement
 pub statement_emitted : (x y : StatementCode) (landing : Option ℕ) (e0 e1 : Emitted) → x ≡ y → e1 ≡ stated y landing e0 → e1 ≡ stated x landing e0

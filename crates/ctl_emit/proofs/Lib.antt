@@ -1,13 +1,6 @@
-pub mod Walked
-pub mod Emission
-pub mod EmittedValues
-pub mod EmittedParts
-pub mod EmittedTexts
-pub mod EmittedStatements
-pub mod EmittedCalls
-pub mod EmittedDefaults
-pub mod EmittedStorage
-pub mod EmittedLoops
 pub mod EmittedArms
-pub mod EmittedHandlers
 pub mod EmittedBodies
+pub mod EmittedDefaults
+pub mod EmittedHandlers
+pub mod EmittedLoops
+pub mod EmittedStatements

@@ -1,11 +1,7 @@
-//! The instructions of each construct of a checked program.
+//! The instructions of statements, declarations, handlers, bodies and defaults.
 #![tactic(auto)]
 
-pub mod emit;
-mod emit_calls;
-mod emit_defaults;
-mod emit_expressions;
-mod emit_handlers;
-mod emit_parts;
-mod emit_statements;
-mod emit_storage;
+pub mod emit_defaults;
+pub mod emit_handlers;
+pub mod emit_statements;
+pub mod emit_storage;

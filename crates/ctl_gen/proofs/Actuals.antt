@@ -49,7 +49,7 @@ use Rattle.ctl_gen.proofs.Reached.{Reaches}
 use Rattle.ctl_gen.proofs.LastSteps.{Ends as NameEnds, Last, itself, itself_ends, selected, selector_ends}
 use Rattle.ctl_gen.proofs.Sources.{is_alone, value_found}
 use Rattle.ctl_gen.proofs.Begun.{Starts, located_then, part_then}
-use Rattle.ctl_emit.proofs.Walked.{part_begun, start_of, steps_before, steps_of}
+use Rattle.ctl_emitter.proofs.Walked.{part_begun, start_of, steps_before, steps_of}
 use Rattle.ctl_gen.proofs.Worth.{both_cell}
 use Rattle.ctl_gen.proofs.Expressions.{Uses, Value, read_step, value_runs}
 use Rattle.ctl_gen.proofs.Follow.{IsRaise, RunsTo, by_raise, at, transferred, added_to, both_to, last_step_to, no_step_to, stop_step_to, within_to, bind_add, bind_bind}

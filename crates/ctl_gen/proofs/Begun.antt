@@ -24,7 +24,7 @@ use Rattle.ctl_code.specs.Windows.{height}
 use Rattle.ctl_layout.specs.Around.{Line, new_operand}
 use Rattle.ctl_layout.specs.Parts.{Start, OfVariable, OfValue, OfRecord, Reached, Variable, Part, Object, Result as ResultOf, access_value, are_followed, are_walked, first_type, is_dereferenced, located_code, onward_code, part_code, selects_code}
 use Rattle.ctl_layout.specs.Values.{ValueCode}
-use Rattle.ctl_emit.proofs.Walked.{start_of, steps_before, steps_of}
+use Rattle.ctl_emitter.proofs.Walked.{start_of, steps_before, steps_of}
 use Rattle.ctl_gen.proofs.Place.{Laid, laid_front, laid_back}
 use Rattle.ctl_gen.proofs.Known.{both_true}
 use Rattle.ctl_gen.proofs.Worlds.{Since}

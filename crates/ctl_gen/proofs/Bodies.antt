@@ -10,7 +10,7 @@ use Rattle.ctl_tree.specs.declared.event.Cause.TheVariants.{Collection}
 use Rattle.ctl_meaning.specs.World.{Slot, unset, Member, Log, World, empty_log, empty_world}
 use Rattle.ctl_meaning.specs.Changes.{open_master}
 use Rattle.ctl_meaning.specs.Choice.{Ask}
-use Rattle.ctl_meaning.specs.Outcome.{ByExit, ByReturn, ByRaise, Result, Goes, Leaves, Gives, Done, bind, on_goes, on_some, opened_outcome}
+use Rattle.ctl_meaning.specs.Outcome.{ByReturn, ByRaise, Result, Goes, Leaves, Gives, Done, bind, on_goes, on_some, opened_outcome}
 use Rattle.ctl_meaning.specs.Types.{Tables}
 use Rattle.ctl_meaning.specs.Names.{OfSubprogram, OfAllocator, Returned, Default, Tools, gone}
 use Rattle.ctl_meaning.specs.Names as Names
@@ -76,27 +76,19 @@ plain_rest (suc n) (x ∷ xs) h = plain_rest n xs h.1
 is_handed : (kind : SubprogramKind) (slots : List Slot) (r : Result Done) → IsTold (way_of (handed_back kind slots r))
 is_handed kind slots (Leaves (ByReturn v)) = tt
 is_handed kind slots (Leaves (ByRaise e)) = tt
-is_handed Function slots (Leaves ByExit) = tt
-is_handed Function slots (Goes a) = tt
-is_handed Procedure slots (Leaves ByExit) = tt
-is_handed Procedure slots (Goes a) = tt
+is_handed Function slots r = tt
+is_handed Procedure slots r = tt
 
 -- a body that ends so, with these slots, returns there what it means
 behind_is : (kind : SubprogramKind) (after : After) → EndsIn kind after → (slots : List Slot) (r : Result Done) (ks : List Frame) (l : Log) (w : World) → moved l (behind after r slots ks w) ≡ returned_to after ks (handed_back kind slots r) l w
-behind_is Procedure (AfterProcedure copies p) ends slots (Goes a) ks l w = refl
-behind_is Procedure (AfterProcedure copies p) ends slots (Leaves ByExit) ks l w = refl
-behind_is Procedure (AfterProcedure copies p) ends slots (Leaves (ByReturn v)) ks l w = refl
 behind_is Procedure (AfterProcedure copies p) ends slots (Leaves (ByRaise e)) ks l w = refl
-behind_is Procedure AfterBody ends slots (Goes a) ks l w = refl
-behind_is Procedure AfterBody ends slots (Leaves ByExit) ks l w = refl
-behind_is Procedure AfterBody ends slots (Leaves (ByReturn v)) ks l w = refl
+behind_is Procedure (AfterProcedure copies p) ends slots r ks l w = refl
 behind_is Procedure AfterBody ends slots (Leaves (ByRaise e)) ks l w = refl
+behind_is Procedure AfterBody ends slots r ks l w = refl
 behind_is Procedure (AfterBlock p) ends slots r ks l w = absurd ends
 behind_is Procedure (AfterFunction cells p) ends slots r ks l w = absurd ends
-behind_is Function (AfterFunction cells p) ends slots (Goes a) ks l w = refl
-behind_is Function (AfterFunction cells p) ends slots (Leaves ByExit) ks l w = refl
-behind_is Function (AfterFunction cells p) ends slots (Leaves (ByReturn v)) ks l w = refl
 behind_is Function (AfterFunction cells p) ends slots (Leaves (ByRaise e)) ks l w = refl
+behind_is Function (AfterFunction cells p) ends slots r ks l w = refl
 behind_is Function (AfterBlock p) ends slots r ks l w = absurd ends
 behind_is Function (AfterProcedure copies p) ends slots r ks l w = absurd ends
 behind_is Function AfterBody ends slots r ks l w = absurd ends

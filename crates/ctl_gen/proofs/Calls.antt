@@ -25,8 +25,8 @@ use Rattle.ctl_code.proofs.Keeping.{words_of}
 use Rattle.ctl_layout.specs.Around.{Line}
 use Rattle.ctl_layout.specs.Layout.{call as call_code, calls_code}
 use Rattle.ctl_layout.specs.Values.{ActualCode, actuals_code, copied_back, copies_code, copies_of, goes_back, numbers_in, reserved_code, with_actuals}
-use Rattle.ctl_emit.specs.Emitted.{taking_actuals}
-use Rattle.ctl_emit.proofs.EmittedCalls.{depth_over, none_kept}
+use Rattle.ctl_emitter.specs.Emitted.{taking_actuals}
+use Rattle.ctl_emitter.proofs.EmittedCalls.{depth_over, none_kept}
 use Rattle.ctl_gen.proofs.Worlds.{IsNested, Since, Kept}
 use Rattle.ctl_gen.proofs.Scopes.{IsCallable}
 use Rattle.ctl_gen.proofs.Setting.{Setting, Calls, EndsIn, Sure, Told, returned_to, tools_with, IsSeen, seen, seen_nested}

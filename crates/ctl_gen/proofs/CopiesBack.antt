@@ -32,7 +32,7 @@ use Rattle.ctl_gen.proofs.Worlds.{Since, since_value, since_written}
 use Rattle.ctl_gen.proofs.Setting.{Sure}
 use Rattle.ctl_gen.proofs.Cells.{by_code, here, out_is}
 use Rattle.ctl_gen.proofs.Formals.{back_found, backs_of, found_kept, others_kept}
-use Rattle.ctl_emit.proofs.EmittedCalls.{depth_over}
+use Rattle.ctl_emitter.proofs.EmittedCalls.{depth_over}
 use Rattle.ctl_gen.proofs.Follow.{OutOf, Runs, added, arrives, at, last_step, one_step, stop_step, within}
 
 -- What slots held in the end, as operands -----------------------------------------------------------

@@ -31,7 +31,7 @@ use Rattle.ctl_gen.proofs.Setting.{Setting, IsSeen, tools_with}
 use Rattle.ctl_gen.proofs.Place.{Laid, laid_front, laid_back}
 use Rattle.ctl_gen.proofs.Parts.{Leads, RecordOperand, agree_part, composite_leads, find_by, found_at, same_object, word}
 use Rattle.ctl_gen.proofs.Begun.{Starts, part_then}
-use Rattle.ctl_emit.proofs.Walked.{start_of, steps_of}
+use Rattle.ctl_emitter.proofs.Walked.{start_of, steps_of}
 use Rattle.ctl_gen.proofs.Expressions as X
 use Rattle.ctl_gen.proofs.Expressions.{Value}
 use Rattle.ctl_gen.proofs.Cells.{Any, OneCell, by_code, here, landed, landed_leaves, put_is}

@@ -22,7 +22,7 @@ use Rattle.ctl_layout.specs.Parts.{Start, OfVariable, OfRecord, Reached, Variabl
 use Rattle.ctl_layout.specs.Values.{ActualCode, ValueCode, OperatorCode, actual_code, actuals_run, by_value, call_reached, copied, discriminant, given, is_of, is_result, missing_value, new, new_copy, new_given, operator_of, operators_run, reached_if, read, record_call_code, record_runs, value_code, values_run, reached_by}
 use Rattle.ctl_gen.proofs.Known.{IsScalar, both_true, plain_if, scalar_elementary, scalar_if}
 use Rattle.ctl_gen.proofs.Worlds.{Since}
-use Rattle.ctl_emit.proofs.Walked.{behind_is, part_begun, start_of}
+use Rattle.ctl_emitter.proofs.Walked.{behind_is, part_begun, start_of}
 use Rattle.ctl_gen.proofs.Parts.{Leads, agree_part, agree_run, given_by, given_layer, name_leads}
 use Rattle.ctl_gen.proofs.LastSteps.{itself, itself_ends, selected, selector_ends}
 use Rattle.ctl_gen.proofs.Begun.{Starts, value_starts}

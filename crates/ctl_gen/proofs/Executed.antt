@@ -42,7 +42,7 @@ use Rattle.ctl_gen.proofs.Components.{part_does}
 use Rattle.ctl_gen.proofs.Parts.{Leads, agree_part, agree_run, composite_leads, given_by, name_leads}
 use Rattle.ctl_gen.proofs.LastSteps.{itself, itself_ends, selected, selector_ends}
 use Rattle.ctl_gen.proofs.Begun.{Starts}
-use Rattle.ctl_emit.proofs.Walked.{part_begun, start_of}
+use Rattle.ctl_emitter.proofs.Walked.{part_begun, start_of}
 use Rattle.ctl_gen.proofs.Sources.{IsGivenBy, IsSource, source_means}
 use Rattle.ctl_gen.proofs.RecordAssign.{record_does}
 use Rattle.ctl_gen.proofs.ExplicitCalls.{nothing_does}

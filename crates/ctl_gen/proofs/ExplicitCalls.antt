@@ -18,7 +18,7 @@ use Rattle.ctl_gen.proofs.Cells.{by_code}
 use Rattle.ctl_gen.proofs.Place.{laid_front, laid_back}
 use Rattle.ctl_gen.proofs.Parts.{agree_part, find_by, found_at, word}
 use Rattle.ctl_gen.proofs.Begun.{Starts, part_then}
-use Rattle.ctl_emit.proofs.Walked.{start_of, steps_before, steps_of}
+use Rattle.ctl_emitter.proofs.Walked.{start_of, steps_before, steps_of}
 use Rattle.ctl_gen.proofs.Does.{Does}
 use Rattle.ctl_gen.proofs.Follow.{Runs, added, arrives, at, lands, last_step, no_step}
 

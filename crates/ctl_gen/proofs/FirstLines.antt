@@ -33,7 +33,7 @@ use Rattle.ctl_layout.specs.Layout.{evaluation}
 use Rattle.ctl_layout.proofs.TreeLayers.{actual_roll, reached_roll, value_roll}
 use Rattle.ctl_gen.proofs.Entered.{IsEntered, entered_there}
 use Rattle.ctl_gen.proofs.Place.{Laid}
-use Rattle.ctl_emit.proofs.Walked.{behind_is, start_of}
+use Rattle.ctl_emitter.proofs.Walked.{behind_is, start_of}
 
 -- so many masters stand around there, of which the body has entered none
 abbrev pub IsOver : ℕ → List Kind → Type 0

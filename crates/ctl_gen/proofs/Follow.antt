@@ -61,9 +61,8 @@ abbrev pub leads : Target → Way → List ℕ → List Frame → List Word → 
 leads e y d k ops l w = if completes_loop y then landed_on e d k ops l w else transferred y k l w
 
 pub leads_out : (y : Way) (d : List ℕ) (k : List Frame) (ops : List Word) (l : Log) (w : World) → leads OutOf y d k ops l w ≡ transferred y k l w
-leads_out ByExit d k ops l w = refl
-leads_out (ByReturn v) d k ops l w = refl
 leads_out (ByRaise x) d k ops l w = refl
+leads_out y d k ops l w = refl
 
 -- a statement's result, at the place behind it, at a landing or under way to the innermost master
 abbrev pub arrives : Target → List ℕ → ℕ → List Frame → List Word → Result Done → Log → World → State
@@ -76,9 +75,8 @@ way_of (Goes a) = None
 way_of (Leaves y) = Some y
 
 pub raised_is : (y : Way) (e : ℕ) → raised_by y ≡ Some e → y ≡ ByRaise e
-raised_is ByExit e h = absurd (cc)
-raised_is (ByReturn v) e h = absurd (cc)
 raised_is (ByRaise x) e h = let same : x ≡ e = cc h in ap ByRaise same
+raised_is y e h = absurd (cc)
 
 abbrev IsThere : Option ℕ → Type 0
 IsThere None = ⊥

@@ -33,12 +33,12 @@ use Rattle.ctl_layout.specs.declared.copies.Back.{Back}
 use Rattle.ctl_layout.specs.declared.copies.Back.TheVariants as BackOf
 use Rattle.ctl_layout.specs.Values.{ActualCode, ValueCode, actuals_code, numbers_in, numbers_of, reserved_code, keeping_code, kept_code, back_to, backs_code, begins_code, by_copy, by_reference, by_value, copied_back, copies_code, copies_of, evaluates_code, function_call, goes_back, moved_to, copied, read, record_call_code, result_of, with_actuals}
 use Rattle.ctl_layout.proofs.Extensions.{both_true}
-use Rattle.ctl_emit.specs.Emitted.{taking_actuals}
-use Rattle.ctl_emit.proofs.EmittedCalls.{actuals_left, height_over, none_kept}
+use Rattle.ctl_emitter.specs.Emitted.{taking_actuals}
+use Rattle.ctl_emitter.proofs.EmittedCalls.{actuals_left, height_over, none_kept}
 use Rattle.ctl_gen.proofs.Formed.{Behind, Formed, both, none, one}
 use Rattle.ctl_gen.proofs.FormedAround.{Granted, IsNamed, granted_home, Surrounds, surrounds_over}
 use Rattle.ctl_gen.proofs.FormedParts.{Follows, IsBegun, IsFound, IsFoundAt, located_formed, part_formed}
-use Rattle.ctl_emit.proofs.Walked.{part_begun}
+use Rattle.ctl_emitter.proofs.Walked.{part_begun}
 use Rattle.ctl_gen.proofs.FormedTypes.{run_scalar}
 use Rattle.ctl_gen.proofs.FormedValues.{Fine, IsMade, Own, Usable, moved_formed, own_as, puts, read_own, usable_as, with_put}
 

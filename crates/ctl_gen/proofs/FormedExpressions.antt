@@ -33,7 +33,7 @@ use Rattle.ctl_layout.proofs.Layers.{access_given, actual_copied, actual_part, a
 use Rattle.ctl_layout.proofs.TreeLayers.{operator_roll}
 use Rattle.ctl_gen.proofs.Formed.{none}
 use Rattle.ctl_gen.proofs.FormedParts.{BeginsAt, IsBegun, IsFound, IsFoundAt, found_at, steps_found}
-use Rattle.ctl_emit.proofs.Walked.{copy_reaches, part_begun, value_dereferenced}
+use Rattle.ctl_emitter.proofs.Walked.{copy_reaches, part_begun, value_dereferenced}
 use Rattle.ctl_gen.proofs.FormedCalls.{GoodActual, GoodActuals, MayCall, MayNew, copy_good, function_own, good_as, kind_by, record_call_formed, reference_good, value_good}
 use Rattle.ctl_gen.proofs.FormedTypes.{IsAccessType, joins_plain, joins_scalar, number_of, number_scalar, run_scalar, takes_unary}
 use Rattle.ctl_gen.proofs.FormedValues.{Conditions, Fine, IsMade, Operating, Usable, access_usable, applied_own, chain_own, constant_fine, copied_own, designating_fine, fine_like, first_joins, given_own, new_own, next_condition, next_joins, next_operating, none_operating, read_own, short_own, usable_as, value_number, value_usable, discriminant_own}

@@ -50,7 +50,7 @@ use Rattle.ctl_gen.proofs.FormedCalls.{MayCall, MayNew, call_formed, named_level
 use Rattle.ctl_gen.proofs.FormedExpressions.{copied_found, name_found, source_found, actuals_good, has_formals, typed_fine}
 use Rattle.ctl_gen.proofs.FormedLines.{block_formed}
 use Rattle.ctl_gen.proofs.FormedParts.{IsFound, IsFoundAt, record_formed}
-use Rattle.ctl_emit.proofs.Walked.{part_begun}
+use Rattle.ctl_emitter.proofs.Walked.{part_begun}
 use Rattle.ctl_gen.proofs.FormedStatements.{MayDeclare, Stays, all_stay, allocate_formed, allocate_into_formed, assign_formed, assign_part_formed, copy_formed, deallocate_formed, declaration_formed, dropped_formed, for_stays, free_formed, free_part_formed, leaves_stay, leaves_when_stay, loop_stays, pool_formed, record_returned, returned_formed, tested_turns, valued_formed}
 use Rattle.ctl_gen.proofs.FormedTexts.{print_formed}
 use Rattle.ctl_gen.proofs.FormedTypes.{run_scalar}

@@ -23,7 +23,7 @@ use Rattle.ctl_layout.specs.Layout.{record_code, take_over_code}
 use Rattle.ctl_layout.proofs.Extensions.{both_true}
 use Rattle.ctl_gen.proofs.Formed.{Formed, both, none, one}
 use Rattle.ctl_gen.proofs.FormedAround.{Surrounds, IsNamed, MayHold, variable_there}
-use Rattle.ctl_emit.proofs.Walked.{Denoted, IsLed, behind_is, start_of, steps_before, steps_of}
+use Rattle.ctl_emitter.proofs.Walked.{Denoted, IsLed, behind_is, start_of, steps_before, steps_of}
 
 -- what stands before these steps: an access value where they begin with a dereference, else the part whose component they select
 abbrev before : List Step → ℕ → List Kind → List Kind

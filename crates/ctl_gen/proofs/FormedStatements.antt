@@ -30,7 +30,7 @@ use Rattle.ctl_gen.proofs.Formed.{both, both_at, Formed, FormedAt, has_end, lead
 use Rattle.ctl_gen.proofs.FormedAround.{Agrees, CanLeave, Surrounds, IsNamed, MayHold, cell_there, leave_behind, leaves_formed}
 use Rattle.ctl_gen.proofs.FormedLines.{loop_formed, test_formed, turns_formed}
 use Rattle.ctl_gen.proofs.FormedParts.{Follows, FollowsAt, IsBegun, IsFoundAt, located_formed, part_formed}
-use Rattle.ctl_emit.proofs.Walked.{part_begun, start_of}
+use Rattle.ctl_emitter.proofs.Walked.{part_begun, start_of}
 use Rattle.ctl_gen.proofs.FormedValues.{Usable, found, taken_slot}
 
 module _ (code : Code) where

@@ -36,7 +36,7 @@ use Rattle.ctl_layout.proofs.Extensions.{both_true}
 use Rattle.ctl_gen.proofs.Formed.{Formed, both, has_end, leads_at, none, one}
 use Rattle.ctl_gen.proofs.FormedAround.{Surrounds, IsCreatable, IsHoused, IsNamed, granted_home, granted_home_of, variable_there}
 use Rattle.ctl_gen.proofs.FormedParts.{Follows, FollowsAt, IsBegun, IsFound, located_formed, part_formed, read_fine}
-use Rattle.ctl_emit.proofs.Walked.{start_of, part_begun}
+use Rattle.ctl_emitter.proofs.Walked.{start_of, part_begun}
 use Rattle.ctl_gen.proofs.FormedTypes.{IsAccessType, IsLike, arithmetic_of, boolean_plain, cell_like, cell_of, equality_relates, is_relation, like_access, like_back, like_scalar, like_then, logical_of, number_of, number_plain, number_scalar, of_arithmetic, of_logical, of_relation, ordering_relates, relation_of, run_scalar, same_unless, unary_plain}
 
 -- Cells -------------------------------------------------------------------------------------------

@@ -21,7 +21,7 @@ use Rattle.ctl_code.specs.Windows.{height}
 use Rattle.ctl_code.specs.Table.{size_of, with_values}
 use Rattle.ctl_layout.specs.Parts.{OfRecord}
 use Rattle.ctl_layout.specs.Values.{ActualCode, actuals_code, evaluates_code, function_call, goes_back, moved_to, record_call_code, with_actuals}
-use Rattle.ctl_emit.proofs.EmittedCalls.{none_kept}
+use Rattle.ctl_emitter.proofs.EmittedCalls.{none_kept}
 use Rattle.ctl_gen.proofs.Known.{IsScalar}
 use Rattle.ctl_gen.proofs.Values.{scalar_cells}
 use Rattle.ctl_gen.proofs.Worlds.{Since}

@@ -22,7 +22,7 @@ use Rattle.ctl_gen.proofs.Known.{IsPlainType}
 use Rattle.ctl_gen.proofs.Sources.{Reads, read_by}
 use Rattle.ctl_gen.proofs.Parts.{OfCells, OfObject, RecordOperand, agree_part, find_by, found_at, word}
 use Rattle.ctl_gen.proofs.Begun.{Starts, part_then, record_taken}
-use Rattle.ctl_emit.proofs.Walked.{start_of, steps_before, steps_of}
+use Rattle.ctl_emitter.proofs.Walked.{start_of, steps_before, steps_of}
 use Rattle.ctl_gen.proofs.Worlds.{Since}
 use Rattle.ctl_gen.proofs.Setting.{IsSeen, Setting, tools_with}
 use Rattle.ctl_gen.proofs.Place.{Laid, laid_front}

@@ -37,7 +37,7 @@ use Rattle.ctl_layout.specs.Parts.{Start, OfVariable, OfValue, OfRecord, Reached
 use Rattle.ctl_layout.specs.Values.{ValueCode, given, given_by as start_by, reached_by, value_code}
 use Rattle.ctl_layout.proofs.TreeLayers.{reached_roll}
 use Rattle.ctl_gen.proofs.Known.{both_true}
-use Rattle.ctl_emit.proofs.Walked.{AreSome, IsLed, behind_is, start_of, steps_before, steps_of}
+use Rattle.ctl_emitter.proofs.Walked.{AreSome, IsLed, behind_is, start_of, steps_before, steps_of}
 use Rattle.ctl_gen.proofs.Place.{Laid}
 use Rattle.ctl_gen.proofs.Setting.{ArePlaced}
 use Rattle.ctl_gen.proofs.Entered.{IsAsLong}

@@ -38,7 +38,7 @@ use Rattle.ctl_gen.proofs.Cells.{by_code, here}
 use Rattle.ctl_gen.proofs.Place.{Laid, laid_front, laid_back}
 use Rattle.ctl_gen.proofs.Parts.{OfCells, OfObject, RecordOperand, agree_part, find_by, found_at, word}
 use Rattle.ctl_gen.proofs.Begun.{Starts, part_then}
-use Rattle.ctl_emit.proofs.Walked.{start_of, steps_before, steps_of}
+use Rattle.ctl_emitter.proofs.Walked.{start_of, steps_before, steps_of}
 use Rattle.ctl_gen.proofs.Finalize.{within_depth}
 use Rattle.ctl_gen.proofs.FinalizedParts.{Passed, tells}
 use Rattle.ctl_gen.proofs.FinalizedTarget.{target_runs}

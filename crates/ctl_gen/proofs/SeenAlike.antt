@@ -47,7 +47,7 @@ use Rattle.ctl_layout.proofs.TreeLayers.{actual_roll, operator_roll, reached_rol
 use Rattle.ctl_gen.proofs.FirstLines.{IsOver, copied_reached, no_cell, result_is}
 use Rattle.ctl_gen.proofs.Known.{both_true}
 use Rattle.ctl_gen.proofs.Place.{Laid, laid_back, laid_front}
-use Rattle.ctl_emit.proofs.Walked.{behind_is, part_begun, start_of}
+use Rattle.ctl_emitter.proofs.Walked.{behind_is, part_begun, start_of}
 
 -- Where a default is evaluated -------------------------------------------------------------------------
 

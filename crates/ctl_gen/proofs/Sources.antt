@@ -26,7 +26,7 @@ use Rattle.ctl_gen.proofs.Known.{both_true}
 use Rattle.ctl_gen.proofs.Follow.{add_none}
 use Rattle.ctl_gen.proofs.LastSteps.{nothing_more}
 use Rattle.ctl_gen.proofs.Parts.{begins_value, composite_leads, find_by, given_by, name_leads}
-use Rattle.ctl_emit.proofs.Walked.{copy_reaches, start_of, steps_before, steps_of}
+use Rattle.ctl_emitter.proofs.Walked.{copy_reaches, start_of, steps_before, steps_of}
 use Rattle.ctl_gen.proofs.Begun.{Starts}
 use Rattle.ctl_gen.proofs.Setting.{tools_with}
 

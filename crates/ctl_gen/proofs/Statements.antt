@@ -47,7 +47,7 @@ use Rattle.ctl_gen.proofs.PoolDeclared.{pool_does, root_is}
 use Rattle.ctl_gen.proofs.Copies.{copy_does}
 use Rattle.ctl_gen.proofs.Assign.{scalar_runs, valued_runs}
 use Rattle.ctl_gen.proofs.Expressions.{Value}
-use Rattle.ctl_emit.proofs.Walked.{part_begun}
+use Rattle.ctl_emitter.proofs.Walked.{part_begun}
 use Rattle.ctl_gen.proofs.Evaluated.{copied_means, value_means}
 use Rattle.ctl_gen.proofs.Branches.{Ends, arm_runs}
 use Rattle.ctl_gen.proofs.Loops.{leave_step}

@@ -4,7 +4,7 @@ ghost use Rattle.std.specs.Prelude.{◌≡◌, ◌⊎◌, ◌+◌, ◌++◌, [],
 ghost use Rattle.ctl_tree.specs.declared.fault.FaultCode.TheVariants.{LeftOut, Memory};
 ghost use Rattle.ctl_well_typed.specs.Programs.{WellTyped};
 ghost use Rattle.ctl_gen.specs.Correct.{Behaves};
-ghost use Rattle.ctl_emit.specs.Emitted.{appended};
+ghost use Rattle.ctl_emitter.specs.Emitted.{appended};
 ghost use Rattle.ctl_layout.specs.Run.{AreLinked, IsRun};
 ghost use Rattle.ctl_meaning.specs.Types.{total};
 ghost use Rattle.ctl_meaning.specs.Types as sizes;
@@ -25,7 +25,9 @@ use ctl_code::code::{
 };
 use ctl_code::homes::Homes;
 use ctl_code::least::least_homes;
-use ctl_emit::emit::Emitter;
+use ctl_emit::emit_defaults::defaults;
+use ctl_emit::emit_statements::body;
+use ctl_emitter::emit::Emitter;
 use ctl_layout::forms::run_default;
 use ctl_layout::right::constant;
 use ctl_program::program::{Checked, Subprogram};
@@ -100,7 +102,7 @@ fn tables_of(alloc: Global, program: &Checked) -> Result<Code, Fault>
     for subprogram in program.subprograms.as_slice() {
         let number = entries.len();
         entries.push(entry_of(&emitter, subprogram))?;
-        emitter.body(number, subprogram)?;
+        body(&mut emitter, number, subprogram)?;
     }
     let defaults = defaults_of(alloc, &mut emitter, program.records.as_slice())?;
     let records = records_of(alloc, program.records.as_slice())?;
@@ -194,7 +196,7 @@ fn defaults_of(
     for entry in records {
         let number = rows.len();
         let inherited = inherited_places(alloc, rows.as_slice(), entry.parent)?;
-        let places = emitter.defaults(number, entry, inherited)?;
+        let places = defaults(emitter, number, entry, inherited)?;
         rows.push(Defaults { places })?;
     }
     Ok(rows)

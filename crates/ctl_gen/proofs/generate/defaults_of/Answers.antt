@@ -3,8 +3,8 @@ use Rattle.std.proofs.lemmas.List.{drop_all, map-append}
 use Rattle.ctl_code.specs.declared.code.Defaults.{Defaults}
 use Rattle.ctl_layout.specs.Layout.{all_defaults, defaults_code, inherited_places, places_from, rows_from}
 use Rattle.ctl_layout.proofs.Turns.{turn_of}
-use Rattle.ctl_emit.specs.Emitted.{appended}
-use Rattle.ctl_emit.proofs.Emission.{standing_is}
+use Rattle.ctl_emitter.specs.Emitted.{appended}
+use Rattle.ctl_emitter.proofs.Emission.{standing_is}
 use Rattle.ctl_emit.proofs.EmittedDefaults.{next_row, next_type, none_appended}
 use Rattle.ctl_gen.proofs.generate.defaults_of.Goals as goal
 
@@ -14,7 +14,7 @@ loop-entry-preserved c =
     let i = c.loop-entry.entry-index in
     let r = c.entry-item.result in
     let e0 = c.loop-entry.emitter in
-    let e1 = c.defaults.new.self in
+    let e1 = c.defaults.new.emitter in
     let done = c.loop-entry.rows.items in
     let n = length done in
     let new = c.in_ok-places.places in

@@ -2,7 +2,7 @@
 use Rattle.std.proofs.Common.{◌≡◌, ◌++◌, [], drop, length, map}
 use Rattle.ctl_code.specs.declared.code.Defaults.{Defaults}
 use Rattle.ctl_layout.specs.Layout.{all_defaults, rows_from}
-use Rattle.ctl_emit.specs.Emitted.{appended}
+use Rattle.ctl_emitter.specs.Emitted.{appended}
 use Rattle.ctl_gen.proofs.generate.defaults_of.Given as goal
 
 abbrev pub invariant-loop-entry : goal.invariant-loop-entry

@@ -3,7 +3,7 @@ use Rattle.std.specs.Prelude.{slice_get}
 use Rattle.std.proofs.lemmas.List.{drop_all}
 use Rattle.ctl_code.specs.declared.code.Entry.{Entry}
 use Rattle.ctl_code.specs.declared.code.Instr.TheVariants.{Start}
-use Rattle.ctl_emit.specs.Emitted.{Emitted, appended, lined, one, stated}
+use Rattle.ctl_emitter.specs.Emitted.{Emitted, appended, lined, one, stated}
 use Rattle.ctl_layout.specs.Layout.{AreLayouts, all_defaults, bodies, body_code, entries_from, entry_at, home_of, operations_of, rows_from}
 use Rattle.ctl_layout.proofs.Turns.{turn_of}
 use Rattle.ctl_emit.proofs.EmittedBodies.{IsWhole, all_emitted, all_instructions, all_kinds, all_texts, behind_them, begun, begun_place, next_body, next_entry, nothing_stands}
@@ -29,7 +29,7 @@ loop-subprogram-preserved c =
     let i = c.loop-subprogram.subprogram-index in
     let s = c.subprogram-item.result in
     let e0 = c.loop-subprogram.emitter in
-    let e1 = c.body.new.self in
+    let e1 = c.body.new.emitter in
     let done = c.loop-subprogram.entries.items in
     let same = c.as_slice-subprogram-items.ensures in
     let within = subst (λ xs. i < length xs) same c.loop-subprogram-test.true in

@@ -1,6 +1,6 @@
 -- The bodies that are emitted, and those that are still to be emitted, make up the whole; and so do their entries.
 use Rattle.std.proofs.Common.{◌≡◌, ◌++◌, [], None, drop, length}
-use Rattle.ctl_emit.specs.Emitted.{stated}
+use Rattle.ctl_emitter.specs.Emitted.{stated}
 use Rattle.ctl_layout.specs.Layout.{bodies, entries_from}
 use Rattle.ctl_emit.proofs.EmittedBodies.{begun}
 use Rattle.ctl_gen.proofs.generate.tables_of.Given as goal

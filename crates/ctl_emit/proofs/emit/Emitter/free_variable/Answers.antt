@@ -1,7 +1,0 @@
-use Rattle.ctl_emit.proofs.Emission.{on_ok}
-use Rattle.ctl_emit.proofs.EmittedStatements.{variable_freed}
-use Rattle.ctl_emit.proofs.emit.Emitter.free_variable.Goals as goal
-
-pub returns : goal.returns
-returns c = on_ok _ _ c.fail_behind.result c.fail_behind.ensures (
-    variable_freed c.args.access c.out_to-out.result c.args.variable c.args.self.now c.put.new.self c.fail_behind.new.self c.out_to-out.ensures c.in_ok-put.ensures)

@@ -1,8 +1,0 @@
-use Rattle.std.proofs.Common.{ap, sym, ◌∙◌}
-use Rattle.ctl_emit.specs.Emitted.{lined}
-use Rattle.ctl_layout.specs.Layout.{item_code}
-use Rattle.ctl_emit.proofs.EmittedStatements.{no_item}
-use Rattle.ctl_emit.proofs.emit.Emitter.item.Goals as goal
-
-pub returns-in-Silent : goal.returns-in-Silent
-returns-in-Silent c = no_item c.args.self.now ∙ ap (λ x. lined (item_code x).code c.args.self.now) (sym c.in-Silent.is)

@@ -1,8 +1,0 @@
--- What is emitted, and what is still to be emitted, make up the whole.
-use Rattle.std.proofs.Common.{◌≡◌, drop, map}
-use Rattle.ctl_emit.specs.Emitted.{lined}
-use Rattle.ctl_layout.specs.Layout.{all_items, item_code}
-use Rattle.ctl_emit.proofs.emit.Emitter.items.Given as goal
-
-abbrev pub invariant-loop-item : goal.invariant-loop-item
-invariant-loop-item l = lined (all_items (map item_code (drop l.item-index l.items))).code l.self ≡ lined (all_items (map item_code l.items)).code l.fn.self

@@ -1,7 +1,0 @@
--- What has left, and what is still to leave, make up the whole.
-use Rattle.std.proofs.Common.{◌≡◌, ◌-◌}
-use Rattle.ctl_emit.proofs.EmittedCalls.{left}
-use Rattle.ctl_emit.proofs.emit.Emitter.leave_operands.Given as goal
-
-abbrev pub invariant-loop : goal.invariant-loop
-invariant-loop l = left (l.count - l.counter) l.self ≡ left l.count l.fn.self

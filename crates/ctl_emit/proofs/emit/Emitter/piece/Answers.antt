@@ -1,7 +1,0 @@
-use Rattle.std.proofs.Common.{◌∷◌, [], ap, sym, ◌∙◌}
-use Rattle.ctl_emit.specs.Emitted.{imaged}
-use Rattle.ctl_emit.proofs.EmittedTexts.{literal_emitted}
-use Rattle.ctl_emit.proofs.emit.Emitter.piece.Goals as goal
-
-pub returns-in-Text : goal.returns-in-Text
-returns-in-Text c = literal_emitted c.in-Text.field-0 c.args.self.now ∙ ap (λ p. imaged (p ∷ []) c.args.self.now) (sym c.in-Text.is)
