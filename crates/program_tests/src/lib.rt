@@ -1,8 +1,12 @@
-//! Tests of the crates `ctl_parse`, `ctl_resolve`, `ctl_job`, `ctl_sink`, `ctl_front` and `ctl_run` through their public calls.
+//! Tests of the crates that make up the program through their public calls, but for those of pools, of objects and of the machine.
 #![tactic(auto)]
 
 #[cfg(test)]
 mod forms;
+#[cfg(test)]
+mod jobs;
+#[cfg(test)]
+mod lex;
 #[cfg(test)]
 mod names;
 #[cfg(test)]
@@ -11,8 +15,11 @@ mod resolve;
 mod runs;
 #[cfg(test)]
 mod sinks;
-pub mod texts;
+#[cfg(test)]
+mod texts;
 #[cfg(test)]
 mod tokens;
+#[cfg(test)]
+mod traces;
 #[cfg(test)]
 mod words;
