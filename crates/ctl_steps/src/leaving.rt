@@ -31,8 +31,8 @@ use ctl_places::returning::concerns_record;
 use ctl_tree::event::Cause;
 use std::alloc::AllocError;
 
-/// Answers what comes behind a master, whose statements were completed so, where no finalization failed: an exit statement leads to the place
-/// behind a block, and the block's end to the next one; a function that reaches its end raises Program_Error (RM 6.5).
+/// Answers what comes behind a master, whose statements were completed so, where no finalization failed: what completes a loop leads to the
+/// place behind a block, and the block's end to the next one; a function that reaches its end raises Program_Error (RM 6.5).
 #[inline(always)]
 #[tactic(auto, unfolding(ctl_meaning::specs::Outcome::program_error))]
 pub fn mode_behind(after: After, completion: Completion) -> Mode
