@@ -9,6 +9,7 @@ ghost use Rattle.ctl_syntax.specs.declared.name.Suffix.TheVariants as s;
 use crate::copies::{identifier, leading};
 use crate::lists::room_for;
 use crate::names::{mark, used};
+use crate::pairs::paired;
 use crate::view::{Usage, View};
 use ctl_syntax::denoted::Use;
 use ctl_syntax::expression::Expression;
@@ -242,7 +243,7 @@ fn arguments(
     ensures { Names (spec.named_suffix (s.Arguments at first.now more.now)) view.old result view.new }
 {
     let first = expression(alloc, view, first)?;
-    let more = expressions(alloc, view, more.as_slice())?;
+    let (first, more) = paired(first, expressions(alloc, view, more.as_slice()))?;
     Ok(Suffix::Arguments(at, first, more))
 }
 

@@ -13,6 +13,7 @@ mod lists;
 pub mod names;
 pub mod notes;
 pub mod objects;
+mod pairs;
 pub mod parts;
 pub mod subprograms;
 pub mod table;

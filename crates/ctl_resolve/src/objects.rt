@@ -11,6 +11,7 @@ use crate::expressions::{expression, expression_or_none};
 use crate::lists::room_for;
 use crate::names::{mark, used};
 use crate::notes::cut;
+use crate::pairs::paired;
 use crate::view::{Stage, Usage, View};
 use ctl_syntax::denoted::{Definition, Use};
 use ctl_syntax::expression::Expression;
@@ -27,8 +28,8 @@ fn association(
 ) -> Result<Association<Use>, AllocError>
     ensures { Names (spec.association of.now) view.old result view.new }
 {
-    let value = expression(alloc, view, &of.value)?;
     let name = identifier_or_none(alloc, &of.name)?;
+    let value = expression(alloc, view, &of.value)?;
     Ok(Association { name, value })
 }
 
@@ -130,8 +131,9 @@ pub fn objects(
 ) -> Result<Objects<Definition, Use>, AllocError>
     ensures { Names (spec.objects of.now) view.old result view.new }
 {
-    let (mark, discriminants, value) = hidden_object_of(alloc, view, of)?;
-    let names = new_names(alloc, view, of.names.as_slice())?;
+    let parts = hidden_object_of(alloc, view, of)?;
+    let (parts, names) = paired(parts, new_names(alloc, view, of.names.as_slice()))?;
+    let (mark, discriminants, value) = parts;
     Ok(Objects {
         names,
         aliasing: of.aliasing,

@@ -1,9 +1,10 @@
 //! Items, statements, bodies and handlers (RM 3.11, 5.1, 6.3, 11.2).
 
-ghost use Rattle.std.specs.Prelude.{◌≡◌, [], ◌∷◌};
+ghost use Rattle.std.specs.Prelude.{◌≡◌, [], ◌∷◌, IfOk};
 ghost use Rattle.ctl_resolve.specs.Naming.{Names, each};
 ghost use Rattle.ctl_resolve.specs.Declarations as declarations;
 ghost use Rattle.ctl_resolve.specs.Parts as spec;
+ghost use Rattle.ctl_syntax.specs.declared.item.ItemKind.TheVariants as k;
 ghost use Rattle.ctl_syntax.specs.declared.item.Statement.TheVariants as s;
 
 use crate::declarations::{hide, new_name, new_names};
@@ -13,6 +14,7 @@ use crate::lists::room_for;
 use crate::names::mark;
 use crate::notes::{behind_body, cut, enter_master, enter_region, leave, set_stage};
 use crate::objects::{instance, objects, storage_pool};
+use crate::pairs::paired;
 use crate::subprograms::{begun, declaration, heading};
 use crate::type_definitions::full_type;
 use crate::types::{incomplete, note_order};
@@ -136,9 +138,21 @@ fn body_item(
     let around = enter_master(view)?;
     let heading = heading(alloc, view, of, definition)?;
     set_stage(view, number, Stage::Complete);
-    let part = body(alloc, view, part.get())?;
+    let both = paired(heading, body(alloc, view, part.get()))?;
     leave(view, around);
     behind_body(view);
+    let (heading, part) = both;
+    completed(alloc, heading, part)
+}
+
+/// Makes the item of a heading and its body.
+fn completed(
+    alloc: Global,
+    heading: Specification<Definition, Use>,
+    part: Body<Definition, Use>,
+) -> Result<ItemKind<Definition, Use, Boxed<Body<Definition, Use>>>, AllocError>
+    ensures { IfOk result (λ kind. kind ≡ k.Body heading part) }
+{
     let part = Boxed::new(alloc, part)?;
     Ok(ItemKind::Body(heading, part))
 }
@@ -172,7 +186,7 @@ fn statement(
         Statement::Null(at) => Ok(Statement::Null(*at)),
         Statement::Assignment(at, target, value) => {
             let target = name(alloc, view, target)?;
-            let value = expression(alloc, view, value)?;
+            let (target, value) = paired(target, expression(alloc, view, value))?;
             Ok(Statement::Assignment(*at, target, value))
         }
         Statement::Call(at, of) => {
@@ -217,8 +231,9 @@ fn conditional(
     ensures { Names (spec.statement (s.If at first.now more.now others.now)) view.old result view.new }
 {
     let first = guarded(alloc, view, first)?;
-    let more = branches(alloc, view, more.as_slice())?;
-    let others = statements(alloc, view, others.as_slice())?;
+    let arms = paired(first, branches(alloc, view, more.as_slice()))?;
+    let (arms, others) = paired(arms, statements(alloc, view, others.as_slice()))?;
+    let (first, more) = arms;
     Ok(Statement::If(at, first, more, others))
 }
 
@@ -248,7 +263,7 @@ fn while_loop(
     ensures { Names (spec.statement (s.While at condition.now all.now)) view.old result view.new }
 {
     let condition = expression(alloc, view, condition)?;
-    let repeated = statements(alloc, view, all.as_slice())?;
+    let (condition, repeated) = paired(condition, statements(alloc, view, all.as_slice()))?;
     Ok(Statement::While(at, condition, repeated))
 }
 
@@ -266,9 +281,11 @@ fn counting(
 ) -> Result<Statement<Definition, Use>, AllocError>
     ensures { Names (spec.statement (s.For at id.now direction low.now high.now all.now)) view.old result view.new }
 {
-    let (low, high) = bounds(alloc, view, id, low, high)?;
-    let (parameter, repeated) = repeated(alloc, view, id, all.as_slice())?;
-    Ok(Statement::For(at, parameter, direction, low, high, repeated))
+    let range = bounds(alloc, view, id, low, high)?;
+    let (range, repeated) = paired(range, repeated(alloc, view, id, all.as_slice()))?;
+    let (low, high) = range;
+    let (parameter, statements) = repeated;
+    Ok(Statement::For(at, parameter, direction, low, high, statements))
 }
 
 /// Resolves a block (RM 5.6).
@@ -301,9 +318,9 @@ fn bounds(
     let count = view.table.count();
     hide(alloc, view, id)?;
     let low = expression(alloc, view, low)?;
-    let high = expression(alloc, view, high)?;
+    let range = paired(low, expression(alloc, view, high))?;
     cut(view, count);
-    Ok((low, high))
+    Ok(range)
 }
 
 /// Declares the parameter of a loop, and resolves the statements that are repeated (RM 5.5).
@@ -333,7 +350,8 @@ fn guarded(
     ensures { Names (spec.named_branch of.now) view.old result view.new }
 {
     let condition = expression(alloc, view, &of.condition)?;
-    let statements = statements(alloc, view, of.statements.as_slice())?;
+    let statements = statements(alloc, view, of.statements.as_slice());
+    let (condition, statements) = paired(condition, statements)?;
     Ok(Branch {
         condition,
         statements,
@@ -382,7 +400,8 @@ fn handler(
     ensures { Names (spec.named_handler of.now) view.old result view.new }
 {
     let choices = choices(alloc, view, &of.choices)?;
-    let statements = statements(alloc, view, of.statements.as_slice())?;
+    let statements = statements(alloc, view, of.statements.as_slice());
+    let (choices, statements) = paired(choices, statements)?;
     Ok(Handler {
         span: of.span,
         choices,

@@ -26,9 +26,9 @@ fn component(
 ) -> Result<Components<Use>, AllocError>
     ensures { Names (spec.component of.now) view.old result view.new }
 {
+    let names = identifiers(alloc, of.names.as_slice())?;
     let mark = mark(alloc, view, Usage::Plain, &of.mark)?;
     let default = expression_or_none(alloc, view, &of.default)?;
-    let names = identifiers(alloc, of.names.as_slice())?;
     Ok(Components {
         names,
         mark,

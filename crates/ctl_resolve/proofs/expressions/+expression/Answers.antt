@@ -1,4 +1,6 @@
 use Rattle.std.proofs.Common.{arith, sym, ap, ◌∙◌, ◌+◌, [], drop}
+use Rattle.ctl_syntax.specs.declared.denoted.Use.{Use}
+use Rattle.ctl_syntax.specs.declared.expression.Expression.{Expression}
 use Rattle.ctl_syntax.specs.declared.expression.Expression.TheVariants as x
 use Rattle.ctl_resolve.specs.Naming.{each}
 use Rattle.ctl_resolve.specs.Expressions.{expression, named_operand, named_suffix, used, leading}
@@ -44,8 +46,11 @@ suffix-returns-in-Arguments t c = rw c.in-Arguments.is c.arguments.ensures
 
 pub arguments-returns : goal.arguments-returns
 arguments-returns t c =
-    arguments c.args.at c.args.first.now c.args.more.now c.args.view.now c.expression.new.view c.expressions.new.view c.in_ok-first.first c.in_ok-more.more c.in_ok-first.ensures
-    (ap (λ ys. each expression [] ys c.expression.new.view) (sym c.as_slice.ensures) ∙ c.in_ok-more.ensures)
+    let v1 = c.expression.new.view in
+    let both = c.in_ok-first-2.ensures (each expression [] c.as_slice.result.now) v1 c.expressions.new.view c.expressions.ensures in
+    arguments c.args.at c.args.first.now c.args.more.now c.args.view.now v1 c.expressions.new.view c.in_ok-first-2.first c.in_ok-first-2.more
+    (c.in_ok-first.ensures ∙ ap (λ (x : Expression Use). (x, v1)) (sym both.0))
+    (ap (λ ys. each expression [] ys v1) (sym c.as_slice.ensures) ∙ both.1)
 
 pub expressions-loop-one-preserved : goal.expressions-loop-one-preserved
 expressions-loop-one-preserved t c =

@@ -15,7 +15,9 @@ Within = Mark Use × List (Association Use) × Option (Expression Use)
 pub returns : goal.returns
 returns c =
     let o = c.args.of.now in
-    let inside : Within = (c.in_ok-mark.mark, c.in_ok-mark.discriminants, c.in_ok-mark.value) in
+    let v1 = c.hidden_object_of.new.view in
+    let inside : Within = c.in_ok-parts-2.parts in
+    let both = c.in_ok-parts-2.ensures (new_names c.as_slice.result.now) v1 c.new_names.new.view c.new_names.ensures in
     let named : Within → List Definition → Naming (Objects Definition Use) = λ x ds. pure (record { names = ds; aliasing = o.aliasing; constancy = o.constancy; mark = x.0; discriminants = x.1; value = x.2 }) in
-    ap (then_by (λ x. new_names o.names >>= named x)) c.in_ok-mark.ensures
-    ∙ ap (then_by (named inside)) (ap (λ ids. new_names ids c.hidden_object_of.new.view) (sym c.as_slice.ensures) ∙ c.in_ok-names.ensures)
+    ap (then_by (λ x. new_names o.names >>= named x)) (c.in_ok-parts.ensures ∙ ap (λ (x : Within). (x, v1)) (sym both.0))
+    ∙ ap (then_by (named inside)) (ap (λ ids. new_names ids v1) (sym c.as_slice.ensures) ∙ both.1)

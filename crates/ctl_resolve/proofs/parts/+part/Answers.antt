@@ -1,8 +1,12 @@
-use Rattle.std.proofs.Common.{arith, sym, [], ap, ◌∙◌, ◌+◌, drop, map}
+use Rattle.std.proofs.Common.{List, arith, sym, [], ap, ◌∙◌, ◌+◌, drop, map}
+use Rattle.ctl_syntax.specs.declared.denoted.Definition.{Definition}
+use Rattle.ctl_syntax.specs.declared.denoted.Use.{Use}
+use Rattle.ctl_syntax.specs.declared.expression.Expression.{Expression}
 use Rattle.ctl_syntax.specs.declared.name.Identifier.{Identifier}
 use denote.Param.Weighed.{at_most}
 use Rattle.ctl_syntax.specs.declared.item.Body.{out-Body}
 use Rattle.ctl_syntax.specs.declared.item.Branch.{Branch}
+use Rattle.ctl_syntax.specs.declared.item.Choices.{Choices}
 use Rattle.ctl_syntax.specs.declared.item.Statement.{Statement}
 use Rattle.ctl_resolve.specs.Naming.{each, changed, leave}
 use Rattle.ctl_resolve.specs.Parts.{item_of, statement, named_branch, named_handler, note_choices, looped}
@@ -11,6 +15,9 @@ use Rattle.ctl_resolve.proofs.StatementDepths.{deepness, depth_of_branch, first_
 use Rattle.ctl_resolve.proofs.StatementParts.{conditional, endless, while_true, guarding, handling, looping}
 use Rattle.ctl_resolve.proofs.Each.{turn}
 use Rattle.ctl_resolve.proofs.parts.+part.Goals as goal
+
+abbrev Named_branch : Type 0
+Named_branch = Branch (Statement Definition Use) Use
 
 pub items-loop-one-preserved : goal.items-loop-one-preserved
 items-loop-one-preserved t c =
@@ -54,13 +61,20 @@ body-returns t c =
 
 pub guarded-returns : goal.guarded-returns
 guarded-returns t c =
-    guarding c.args.of.now c.args.view.now c.expression.new.view c.statements.new.view c.in_ok-condition.condition c.in_ok-statements.statements c.in_ok-condition.ensures
-    (ap (λ ys. each statement [] ys c.expression.new.view) (sym c.as_slice.ensures) ∙ c.in_ok-statements.ensures)
+    let v1 = c.expression.new.view in
+    let both = c.in_ok-condition-2.ensures (each statement [] c.as_slice.result.now) v1 c.statements-statements.new.view c.statements-statements.ensures in
+    guarding c.args.of.now c.args.view.now v1 c.statements-statements.new.view c.in_ok-condition-2.condition c.in_ok-condition-2.statements
+    (c.in_ok-condition.ensures ∙ ap (λ (x : Expression Use). (x, v1)) (sym both.0))
+    (ap (λ ys. each statement [] ys v1) (sym c.as_slice.ensures) ∙ both.1)
 
 pub handler-returns : goal.handler-returns
 handler-returns t c =
-    handling c.args.of.now c.args.view.now c.choices.new.view c.statements.new.view c.in_ok-choices.choices c.in_ok-statements.statements c.in_ok-choices.ensures
-    (ap (λ ys. each statement [] ys c.choices.new.view) (sym c.as_slice.ensures) ∙ c.in_ok-statements.ensures)
+    let v1 = c.choices.new.view in
+    let read = c.before.in_ok-choices-2 in
+    let both = read.ensures (each statement [] c.as_slice.result.now) v1 c.statements-statements.new.view c.statements-statements.ensures in
+    handling c.args.of.now c.args.view.now v1 c.statements-statements.new.view read.choices read.statements
+    (c.in_ok-choices.ensures ∙ ap (λ (x : Choices Use). (x, v1)) (sym both.0))
+    (ap (λ ys. each statement [] ys v1) (sym c.as_slice.ensures) ∙ both.1)
 
 pub repeated-returns : goal.repeated-returns
 repeated-returns t c =
@@ -100,9 +114,15 @@ branches-guarded-requires t c =
 
 pub conditional-returns : goal.conditional-returns
 conditional-returns t c =
-    conditional c.args.at c.args.first.now c.args.more.now c.args.others.now c.args.view.now c.guarded.new.view c.branches.new.view c.statements.new.view c.in_ok-first.first c.in_ok-more.more c.in_ok-others.others c.in_ok-first.ensures
-    (ap (λ ys. each named_branch [] ys c.guarded.new.view) (sym c.as_slice.ensures) ∙ c.in_ok-more.ensures)
-    (ap (λ ys. each statement [] ys c.branches.new.view) (sym c.as_slice-2.ensures) ∙ c.in_ok-others.ensures)
+    let v1 = c.guarded.new.view in
+    let v2 = c.branches.new.view in
+    let arms = c.in_ok-arms-2.arms in
+    let first = c.in_ok-arms.ensures (each named_branch [] c.as_slice.result.now) v1 v2 c.branches.ensures in
+    let last = c.in_ok-arms-2.ensures (each statement [] c.as_slice-2.result.now) v2 c.statements.new.view c.statements.ensures in
+    conditional c.args.at c.args.first.now c.args.more.now c.args.others.now c.args.view.now v1 v2 c.statements.new.view arms.0 arms.1 c.in_ok-arms-2.others
+    (c.in_ok-first.ensures ∙ ap (λ (x : Named_branch). (x, v1)) (sym (ap (λ (a : Named_branch × List Named_branch). a.0) last.0 ∙ first.0)))
+    (ap (λ ys. each named_branch [] ys v1) (sym c.as_slice.ensures) ∙ first.1 ∙ ap (λ (a : Named_branch × List Named_branch). (a.1, v2)) (sym last.0))
+    (ap (λ ys. each statement [] ys v2) (sym c.as_slice-2.ensures) ∙ last.1)
 
 pub endless-returns : goal.endless-returns
 endless-returns t c =
@@ -111,5 +131,8 @@ endless-returns t c =
 
 pub while_loop-returns : goal.while_loop-returns
 while_loop-returns t c =
-    while_true c.args.at c.args.condition.now c.args.all.now c.args.view.now c.expression.new.view c.statements.new.view c.in_ok-condition.condition c.in_ok-repeated.repeated c.in_ok-condition.ensures
-    (ap (λ ys. each statement [] ys c.expression.new.view) (sym c.as_slice.ensures) ∙ c.in_ok-repeated.ensures)
+    let v1 = c.expression.new.view in
+    let both = c.in_ok-condition-2.ensures (each statement [] c.as_slice.result.now) v1 c.statements.new.view c.statements.ensures in
+    while_true c.args.at c.args.condition.now c.args.all.now c.args.view.now v1 c.statements.new.view c.in_ok-condition-2.condition c.in_ok-condition-2.repeated
+    (c.in_ok-condition.ensures ∙ ap (λ (x : Expression Use). (x, v1)) (sym both.0))
+    (ap (λ ys. each statement [] ys v1) (sym c.as_slice.ensures) ∙ both.1)
