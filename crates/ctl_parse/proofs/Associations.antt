@@ -1,29 +1,26 @@
 -- Names in front of lists, and associations.
-use Rattle.std.proofs.Common.{◌≡◌, ℕ, Bool, true, false, cond, List, [], ◌∷◌, map, Option, Some, None, Ok, Err, refl, sym, ap, subst, ◌∙◌, ◌⊎◌, inl, inr, rules}
+use Rattle.std.proofs.Common.{◌≡◌, ℕ, Bool, true, false, cond, List, [], ◌∷◌, map, Option, Some, None, Ok, Err, refl, sym, ap, ◌∙◌, ◌⊎◌, inl, inr, rules}
 use Rattle.std.specs.Prelude.{◌&&◌, ◌==◌, MatchOption, length}
 use Rattle.ctl_tree.specs.declared.span.Span.{Span}
-use Rattle.ctl_syntax.specs.declared.expression.Expression.{Expression, out-Expression, roll-Expression, roll-out-Expression, fold-roll-Expression}
-use Rattle.ctl_syntax.specs.declared.expression.Expression.TheOpen.{Expression-F}
+use Rattle.ctl_syntax.specs.declared.expression.Expression.{Expression}
 use Rattle.ctl_syntax.specs.declared.expression.Expression.TheVariants as e
 use Rattle.ctl_syntax.specs.declared.item.Choices.TheVariants as choice
 use Rattle.ctl_syntax.specs.declared.name.Mark.{Mark}
 use Rattle.ctl_syntax.specs.declared.name.Name.{Name}
-use Rattle.ctl_syntax.specs.declared.operators.UnaryOperator.TheVariants as unary
 use Rattle.ctl_syntax.specs.declared.name.Suffix.{Suffix}
 use Rattle.ctl_parse.specs.Parts.{choices_node, named_node}
-use Rattle.ctl_parse.proofs.Views.{view_chain, view_name}
+use Rattle.ctl_parse.proofs.Views.{view_name}
 use Rattle.ctl_tree.specs.declared.token.Kind.TheVariants as kinds
 use Rattle.ctl_tree.specs.declared.token.Token.{Token}
 use Rattle.ctl_syntax.specs.declared.name.Identifier.{Identifier}
-use Rattle.ctl_grammar.specs.Form.{Node, none, at, pair, tag, Form, word, act, when, ◌▸◌, starts}
+use Rattle.ctl_grammar.specs.Form.{Node, none, pair, Form, word, act, when, ◌▸◌, starts}
 use Rattle.ctl_grammar.specs.Grammar.{apart, association, expression}
-use Rattle.ctl_grammar.specs.Label as labels
-use Rattle.ctl_grammar.specs.Nodes.{first, second, part_2, row_of, is_bare, is_bare_kind, is_none, tagged_part, association_of, bare_of}
+use Rattle.ctl_grammar.specs.Nodes.{first, second, row_of, is_bare, is_none, association_of, bare_of}
 use Rattle.ctl_grammar.specs.Reading.{Read, ◌>>=◌, begins, read}
 use Rattle.ctl_parse.specs.declared.cursor.Parser.{Parser}
 use Rattle.ctl_parse.specs.Kept.{kept}
 use Rattle.ctl_parse.specs.Reads.{Reads}
-use Rattle.ctl_parse.specs.View.{identifier_node, mark_node, suffix_node, is_adding, is_signed, is_same_place, chain_node, view}
+use Rattle.ctl_parse.specs.View.{identifier_node, mark_node, suffix_node, view}
 use Rattle.ctl_parse.proofs.Steps.{same_parts, kept_first, kept_second}
 use Rattle.ctl_parse.proofs.Forms.{inside, making_where, not_empty}
 use Rattle.ctl_parse.proofs.Keeping.{kept_association, kept_bare}
@@ -100,32 +97,3 @@ name_is_bare p n = ap is_bare (view_name p n) ∙ row_is_none n.suffixes
 
 pub name_bare_of : (p : Span) (n : Name Identifier (Expression Identifier)) → identifier_node n.first ≡ bare_of (view (e.Name p n))
 name_bare_of p n = ap bare_of (sym (view_name p n))
-
-unnamed_sum : (own : Bool) (s t v more : Node) → is_bare_kind (cond own (tag labels.Sum (pair s (pair t more))) (tag labels.Sum (pair none (pair v more)))) ≡ false
-unnamed_sum true s t v more = refl
-unnamed_sum false s t v more = refl
-
-unnamed_chain : (adding : Bool) (place v more : Node) → is_bare_kind (chain_node adding place v more) ≡ false
-unnamed_chain true place v more = unnamed_sum (is_signed v && is_same_place place (first v)) (first (tagged_part (second v))) (part_2 (tagged_part (second v))) v more
-unnamed_chain false place v more = refl
-
-abbrev Unnamed : Expression Identifier → Type 0
-Unnamed x = is_bare (view x) ≡ false
-
-unnamed_layer : (x : Expression Identifier) (l : _) → roll-Expression Identifier l ≡ x → ((p : Span) (n : Name Identifier (Expression Identifier)) → x ≡ e.Name p n → ⊥) → Unnamed x
-unnamed_layer x (Expression-F.Logical p o a b more) is h = subst Unnamed is (rw fold-roll-Expression refl)
-unnamed_layer x (Expression-F.Relation p o a b) is h = subst Unnamed is (rw fold-roll-Expression refl)
-unnamed_layer x (Expression-F.Chain p a o more) is h = subst Unnamed (sym (e.rolls-Chain p a o more) ∙ is) (ap is_bare (view_chain p a o more) ∙ unnamed_chain (is_adding o.operator) (at p) (view a) _)
-unnamed_layer x (Expression-F.Unary p unary.Plus a) is h = subst Unnamed is (rw fold-roll-Expression refl)
-unnamed_layer x (Expression-F.Unary p unary.Minus a) is h = subst Unnamed is (rw fold-roll-Expression refl)
-unnamed_layer x (Expression-F.Unary p unary.Abs a) is h = subst Unnamed is (rw fold-roll-Expression refl)
-unnamed_layer x (Expression-F.Unary p unary.Not a) is h = subst Unnamed is (rw fold-roll-Expression refl)
-unnamed_layer x (Expression-F.Number p m) is h = subst Unnamed is (rw fold-roll-Expression refl)
-unnamed_layer x (Expression-F.String p s) is h = subst Unnamed is (rw fold-roll-Expression refl)
-unnamed_layer x (Expression-F.Null p) is h = subst Unnamed is (rw fold-roll-Expression refl)
-unnamed_layer x (Expression-F.Name p n) is h = absurd (h p n (sym is ∙ e.rolls-Name p n))
-unnamed_layer x (Expression-F.Parentheses p a) is h = subst Unnamed is (rw fold-roll-Expression refl)
-unnamed_layer x (Expression-F.New p handle mark value) is h = subst Unnamed is (rw fold-roll-Expression refl)
-
-pub unnamed : (x : Expression Identifier) → ((p : Span) (n : Name Identifier (Expression Identifier)) → x ≡ e.Name p n → ⊥) → is_bare (view x) ≡ false
-unnamed x h = unnamed_layer x (out-Expression Identifier x) (roll-out-Expression Identifier x) h

@@ -41,8 +41,14 @@ fn bare_name(expression: Expression<Identifier>) -> Option<Identifier>
     ensures { MatchOption result (is_bare (view expression) ≡ false) (λ i. is_bare (view expression) ≡ true → identifier_node i ≡ bare_of (view expression)) }
 {
     match expression {
-        Expression::Name(_, Name { first, suffixes: _ }) => Some(first),
-        _ => None,
+        Expression::Name(_, Name { first, suffixes }) => {
+            drop(suffixes);
+            Some(first)
+        }
+        other => {
+            drop(other);
+            None
+        }
     }
 }
 

@@ -4,6 +4,7 @@ ghost use Rattle.std.specs.Prelude.{◌≡◌, MatchOption, Some, true, false, n
 ghost use Rattle.ctl_grammar.specs.Form.{none, starts, act, alt};
 ghost use Rattle.ctl_grammar.specs.Grammar.{second_word, joiner, relational, sign, adding, multiplying, number, string, null, selection, spot, identifier, attribute, attributes, is_among, known, suffix};
 ghost use Rattle.ctl_grammar.specs.Nodes.{alone, all_of_access, attribute_of, selector_of};
+ghost use Rattle.ctl_syntax.specs.declared.name.Suffix.TheVariants as suffixes;
 ghost use Rattle.ctl_parse.specs.Kept.{spelled_attribute};
 ghost use Rattle.ctl_parse.specs.Reads.{Reads, sees};
 ghost use Rattle.ctl_parse.specs.View.{arithmetic_label, attribute_label, is_adding, relational_label, sign_node, signs, suffix_node, view};
@@ -250,11 +251,19 @@ impl<'a> Parser<'a> {
     }
 
     /// Reads an identifier that is that of an attribute of the subset (RM 3.5).
-    #[tactic(auto, unfolding(ctl_grammar::specs::Grammar::known), using(crate::proofs::Views::spelled))]
     fn named_attribute(&mut self) -> Suffix<Expression<Identifier>>
         ensures { Reads (act attribute_of (known attributes)) none self.old (suffix_node view result) self.new }
     {
-        let refused = Suffix::Attribute(NOWHERE, Attribute::Access);
+        let (span, attribute) = self.attribute_here();
+        Suffix::Attribute(span, attribute)
+    }
+
+    /// Reads the identifier of an attribute, and answers its place and which it is.
+    #[tactic(auto, unfolding(ctl_grammar::specs::Grammar::known), using(crate::proofs::Views::spelled))]
+    fn attribute_here(&mut self) -> (Span, Attribute)
+        ensures { Reads (act attribute_of (known attributes)) none self.old (suffix_node view (suffixes.Attribute result.0 result.1)) self.new }
+    {
+        let refused = (NOWHERE, Attribute::Access);
         if self.fault.is_some() {
             return refused;
         }
@@ -263,7 +272,7 @@ impl<'a> Parser<'a> {
                 match attribute_named(token.text.as_bytes()) {
                     Some(attribute) => {
                         self.rest = rest;
-                        Suffix::Attribute(token.span, attribute)
+                        (token.span, attribute)
                     }
                     None => {
                         self.fault = Some(Refused::Token(Reason::LeftOut));

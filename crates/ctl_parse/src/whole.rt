@@ -126,6 +126,9 @@ pub fn parse(alloc: Global, tokens: &[Token]) -> Result<Written, Fault>
     let tree = parser.whole();
     match parser.fault {
         None => Ok(tree),
-        Some(refused) => Err(fault_of(refused, parser.rest, tokens)),
+        Some(refused) => {
+            drop(tree);
+            Err(fault_of(refused, parser.rest, tokens))
+        }
     }
 }
