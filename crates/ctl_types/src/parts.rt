@@ -369,9 +369,9 @@ fn block(
 {
     let inside = inside_block(around, draft)?;
     let outer = enter_master(alloc, draft);
-    let judged = master(alloc, body, place, inside, draft)?;
+    let judged = master(alloc, body, place, inside, draft);
     leave_master(outer, draft);
-    match judged {
+    match judged? {
         Some(master) => Ok(Some(Stmt::Block(Boxed::new(alloc, master)?))),
         None => Ok(None),
     }
@@ -522,10 +522,10 @@ fn subprogram_body(
         specification.formals.as_slice(),
         draft,
     )?;
-    let judged = master(alloc, body, place, inside, draft)?;
+    let judged = master(alloc, body, place, inside, draft);
     leave_returns(returning, specification.name.identifier.span, giving, draft);
     leave_master(outer, draft);
-    Ok(judged)
+    judged
 }
 
 /// Judges the handlers of a body (RM 11.2).
@@ -574,13 +574,9 @@ fn handler(
     ensures { Judges (spec.handler place around (part.handler_of handler.now)) draft.old result draft.new }
 {
     let choices = choices_of(alloc, place, &handler.choices, draft)?;
-    let body = sequence(
-        alloc,
-        handler.statements.as_slice(),
-        in_handler(around),
-        draft,
-    )?;
-    match choices.zip(body) {
+    let statements = handler.statements.as_slice();
+    let body = sequence(alloc, statements, in_handler(around), draft);
+    match paired_with(choices, body)? {
         Some((choices, body)) => Ok(Some(checked::Handler { choices, body })),
         None => Ok(None),
     }

@@ -60,9 +60,9 @@ fn main_judged(alloc: Global, tree: &Named, draft: &mut Draft) -> Result<Option<
 {
     let around = inside(outside(), Giving::Nothing, draft)?;
     let outer = enter_master(alloc, draft);
-    let judged = master(alloc, &tree.body, tree.span, around, draft)?;
+    let judged = master(alloc, &tree.body, tree.span, around, draft);
     leave_master(outer, draft);
-    Ok(judged)
+    judged
 }
 
 /// Answers what is known before the text, and the first broken rule on names and the first use clause of what is no package, if there are
@@ -99,9 +99,11 @@ fn verdict(alloc: Global, place: Span, draft: Draft) -> Result<Result<Checked, F
     ensures { IfOk result (λ verdict. verdict ≡ spec.verdict place draft) }
 {
     if let Some(fault) = draft.notes.early {
+        drop(draft);
         return Ok(Err(fault));
     }
     if let Some(fault) = draft.notes.fault {
+        drop(draft);
         return Ok(Err(fault));
     }
     match checked_of(alloc, draft)? {
