@@ -1,10 +1,8 @@
-//! Tests of the crates that make up the program through their public calls, but for those of pools, of objects and of the machine.
+//! Tests of the crates that make up the program through their public calls, but for those of jobs, of pools, of objects and of the machine.
 #![tactic(auto)]
 
 #[cfg(test)]
 mod forms;
-#[cfg(test)]
-mod jobs;
 #[cfg(test)]
 mod lex;
 #[cfg(test)]
@@ -15,8 +13,7 @@ mod resolve;
 mod runs;
 #[cfg(test)]
 mod sinks;
-#[cfg(test)]
-mod texts;
+pub mod texts;
 #[cfg(test)]
 mod tokens;
 #[cfg(test)]

@@ -1,6 +1,5 @@
 //! Jobs on source texts, with readers and writers that fail.
 
-use crate::texts::{EMPTY, TWO_OBJECTS, TWO_OBJECTS_OUTPUT, TWO_OBJECTS_SERVED, TWO_OBJECTS_TRACE};
 use ctl_frames::outcome::Outcome;
 use ctl_job::{Job, UsageFault};
 use ctl_run::run::run_source;
@@ -15,6 +14,9 @@ use ctl_tree::fault::Fault;
 use ctl_tree::request::{Order, Show};
 use ctl_tree::text::Text;
 use linked_list_allocator::LocalHeap;
+use program_tests::texts::{
+    EMPTY, TWO_OBJECTS, TWO_OBJECTS_OUTPUT, TWO_OBJECTS_SERVED, TWO_OBJECTS_TRACE,
+};
 use std::alloc::{AllocError, Global};
 use std::io;
 use std::io::{Read, Write};
