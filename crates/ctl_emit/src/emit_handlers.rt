@@ -32,12 +32,12 @@ pub(crate) fn handled(emitter: &mut Emitter, master: &Master) -> Result<(), Allo
 
 /// Emits the end of statements that are handled, which skips their handlers, and these.
 #[cycle(emit)]
-fn skipped_handlers(emitter: &mut Emitter, handlers: &[Handler]) -> Result<(), AllocError>
-    ensures { OnOk result (emitter.new ≡ stated (skipped_handlers (map spec.handler_code handlers.now)) None emitter.old) }
+fn skipped_handlers(emitter: &mut Emitter, all: &[Handler]) -> Result<(), AllocError>
+    ensures { OnOk result (emitter.new ≡ stated (skipped_handlers (map spec.handler_code all.now)) None emitter.old) }
 {
     let end = emitter.place();
     emitter.put(Instr::Skip(0))?;
-    crate::emit_handlers::handlers(emitter, handlers, end)?;
+    handlers(emitter, all, end)?;
     let length = emitter.behind(end);
     emitter.set(end, Instr::Skip(length));
     Ok(())
@@ -50,8 +50,8 @@ fn handlers(emitter: &mut Emitter, handlers: &[Handler], end: usize) -> Result<(
     requires { end ≤ length emitter.old.instructions }
     ensures { OnOk result (emitter.new ≡ stated (further_handlers (length emitter.old.instructions - end) (map spec.handler_code handlers.now)) None emitter.old) }
 {
-    for handler in handlers {
-        crate::emit_handlers::handler(emitter, handler)?;
+    for one in handlers {
+        handler(emitter, one)?;
         let back = emitter.since(end);
         emitter.put(Instr::Back(back))?;
     }

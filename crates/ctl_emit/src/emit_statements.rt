@@ -57,8 +57,8 @@ pub(crate) fn master(emitter: &mut Emitter, master: &Master) -> Result<(), Alloc
 fn items(emitter: &mut Emitter, items: &[Item]) -> Result<(), AllocError>
     ensures { OnOk result (emitter.new ≡ lined (spec.all_items (map spec.item_code items.now)).code emitter.old) }
 {
-    for item in items {
-        crate::emit_statements::item(emitter, item)?;
+    for one in items {
+        item(emitter, one)?;
     }
     Ok(())
 }
@@ -229,8 +229,8 @@ pub(crate) fn statements(
     requires { ForSome landing (λ at. at ≤ length emitter.old.instructions) }
     ensures { OnOk result (emitter.new ≡ stated (spec.all (map spec.statement_code statements.now)) landing emitter.old) }
 {
-    for statement in statements {
-        crate::emit_statements::statement(emitter, statement, landing)?;
+    for one in statements {
+        statement(emitter, one, landing)?;
     }
     Ok(())
 }
@@ -257,8 +257,8 @@ fn statement(
         Stmt::RaiseAgain => emitter.put(Instr::RaiseAgain),
         Stmt::Return(value) => leave_body(emitter, value),
         Stmt::Call(procedure, actuals) => emitter.call(*procedure, actuals.as_slice()),
-        Stmt::If(arms, others) => {
-            let end = crate::emit_statements::arms(emitter, arms.as_slice(), landing)?;
+        Stmt::If(branches, others) => {
+            let end = arms(emitter, branches.as_slice(), landing)?;
             statements(emitter, others.as_slice(), landing)?;
             skip_from(emitter, end);
             Ok(())
@@ -691,15 +691,15 @@ fn for_loop(
 
 /// Emits a block: its entry says how long it is, which is known at its end; behind it stands what an exit statement out of it leads to.
 #[cycle(emit)]
-fn block(emitter: &mut Emitter, master: &Master, landing: Option<usize>) -> Result<(), AllocError>
+fn block(emitter: &mut Emitter, inside: &Master, landing: Option<usize>) -> Result<(), AllocError>
     requires { ForSome landing (λ at. at ≤ length emitter.old.instructions) }
-    ensures { OnOk result (emitter.new ≡ stated (spec.block (spec.master_code master.now)) landing emitter.old) }
+    ensures { OnOk result (emitter.new ≡ stated (spec.block (spec.master_code inside.now)) landing emitter.old) }
 {
-    let (slots, length) = (master.slots, 0);
+    let (slots, length) = (inside.slots, 0);
     let head = emitter.place();
     emitter.put(Instr::Enter { slots, length })?;
     emitter.enter(Kind::Block(slots))?;
-    crate::emit_statements::master(emitter, master)?;
+    master(emitter, inside)?;
     emitter.leave();
     let length = emitter.behind(head);
     emitter.set(head, Instr::Enter { slots, length });

@@ -23,25 +23,25 @@ use Rattle.ctl_emit.proofs.+emit.Goals as goal
 
 -- Statements in turn --------------------------------------------------------------------------------
 
-pub emit_statements::statements-loop-statement-preserved : goal.emit_statements::statements-loop-statement-preserved
-emit_statements::statements-loop-statement-preserved t c =
+pub emit_statements::statements-loop-one-preserved : goal.emit_statements::statements-loop-one-preserved
+emit_statements::statements-loop-one-preserved t c =
     let whole = c.args.statements.now in
-    let i = c.loop-statement.statement-index in
-    let x = c.statement-item.result in
-    let e0 = c.loop-statement.emitter in
+    let i = c.loop-one.one-index in
+    let x = c.one-item.result in
+    let e0 = c.loop-one.emitter in
     let e1 = c.statement.new.emitter in
-    let within = c.loop-statement.invariant.1 in (
+    let within = c.loop-one.invariant.1 in (
       next_statement (statement_code x) (map statement_code (drop (i + 1) whole)) c.args.landing e0 e1 within c.in_ok-statement.ensures
-          ∙ turn_of (λ xs. stated (all (map statement_code xs)) c.args.landing e0) whole i x c.loop-statement-test.true c.statement-item.is
-          ∙ c.loop-statement.invariant.0,
+          ∙ turn_of (λ xs. stated (all (map statement_code xs)) c.args.landing e0) whole i x c.loop-one-test.true c.one-item.is
+          ∙ c.loop-one.invariant.0,
       statement_within (statement_code x) c.args.landing e0 e1 within c.in_ok-statement.ensures,
     )
 
 pub emit_statements::statements-returns : goal.emit_statements::statements-returns
 emit_statements::statements-returns t c =
-    no_statement c.args.landing c.loop-statement.emitter
-    ∙ ap (λ xs. stated (all (map statement_code xs)) c.args.landing c.loop-statement.emitter) (sym (drop_all c.loop-statement.statement-index c.args.statements.now c.loop-statement-test.false))
-    ∙ c.loop-statement.invariant.0
+    no_statement c.args.landing c.loop-one.emitter
+    ∙ ap (λ xs. stated (all (map statement_code xs)) c.args.landing c.loop-one.emitter) (sym (drop_all c.loop-one.one-index c.args.statements.now c.loop-one-test.false))
+    ∙ c.loop-one.invariant.0
 
 -- Each statement ------------------------------------------------------------------------------------
 
@@ -97,8 +97,8 @@ emit_statements::statement-returns-in_ok-statements-in-If t c =
     let e0 = c.args.emitter.now in
     let e1 = c.arms.new.emitter in
     let e2 = c.statements.new.emitter in
-    statement_emitted _ (branches (map arm_code i.arms) (all (map statement_code i.others))) l e0 c.skip_from.new.emitter (layer_of _ (i.is ∙ sym (rolls-If i.arms i.others)))
-    (branches_emitted (map arm_code i.arms) (all (map statement_code i.others)) l e0 e1 e2 c.skip_from.new.emitter c.in_ok-end-in-If.end c.requires
+    statement_emitted _ (branches (map arm_code i.branches) (all (map statement_code i.others))) l e0 c.skip_from.new.emitter (layer_of _ (i.is ∙ sym (rolls-If i.branches i.others)))
+    (branches_emitted (map arm_code i.branches) (all (map statement_code i.others)) l e0 e1 e2 c.skip_from.new.emitter c.in_ok-end-in-If.end c.requires
     (c.in_ok-end-in-If.ensures.emitted ∙ ap (λ xs. stated (open_arms (map arm_code xs)) l e0) c.as_slice-in-If.ensures)
     (c.in_ok-statements-in-If.ensures ∙ ap (λ xs. stated (all (map statement_code xs)) l e1) c.as_slice-in-If-2.ensures)
     (c.in_ok-end-in-If.ensures.end ∙ ap (λ xs. first_end l (map arm_code xs) e0) c.as_slice-in-If.ensures)
@@ -312,10 +312,10 @@ emit_statements::for_loop-statements-requires t c = (omega (arith, c.decreases),
 
 pub emit_statements::block-returns : goal.emit_statements::block-returns
 emit_statements::block-returns t c = on_ok _ _ c.exit_to.result c.exit_to.ensures (
-    let slots = (out-Master c.args.master.now).slots in
+    let slots = (out-Master c.args.inside.now).slots in
     let e4 = c.leave.new.self in
-    block_emitted slots (master_code c.args.master.now) c.args.landing c.place-head.result c.args.emitter.now c.put.new.self c.enter.new.self c.master.new.emitter e4 c.set.new.self c.exit_to.new.emitter c.requires
-    (sym (ap (λ (m : MasterCode). m.slots) (master_is c.args.master.now))) c.place-head.ensures c.in_ok-put.ensures c.in_ok-enter.ensures c.in_ok-master.ensures c.leave.ensures
+    block_emitted slots (master_code c.args.inside.now) c.args.landing c.place-head.result c.args.emitter.now c.put.new.self c.enter.new.self c.master.new.emitter e4 c.set.new.self c.exit_to.new.emitter c.requires
+    (sym (ap (λ (m : MasterCode). m.slots) (master_is c.args.inside.now))) c.place-head.ensures c.in_ok-put.ensures c.in_ok-enter.ensures c.in_ok-master.ensures c.leave.ensures
     (c.set.ensures ∙ ap (λ n. set_at c.place-head.result (InstrOf.Enter slots n) e4) c.behind-length.ensures))
 
 pub emit_statements::master-returns : goal.emit_statements::master-returns
@@ -331,29 +331,29 @@ emit_statements::master-returns t c = on_ok _ _ c.put.result c.put.ensures (λ e
 
 -- Handlers ------------------------------------------------------------------------------------------
 
-pub emit_handlers::handlers-loop-handler-preserved : goal.emit_handlers::handlers-loop-handler-preserved
-emit_handlers::handlers-loop-handler-preserved t c =
+pub emit_handlers::handlers-loop-one-preserved : goal.emit_handlers::handlers-loop-one-preserved
+emit_handlers::handlers-loop-one-preserved t c =
     let whole = c.args.handlers.now in
-    let i = c.loop-handler.handler-index in
-    let x = c.handler-item.result in
-    let e0 = c.loop-handler.emitter in
+    let i = c.loop-one.one-index in
+    let x = c.one-item.result in
+    let e0 = c.loop-one.emitter in
     let e1 = c.handler.new.emitter in
     let back = c.since-back.result in
     let first = c.in_ok-handler.ensures in
-    let lt = c.loop-handler.invariant.1 in (
+    let lt = c.loop-one.invariant.1 in (
       next_handler (handler_code x) (map handler_code (drop (i + 1) whole)) e0 e1 c.put.new.self c.args.end back lt first c.since-back.ensures c.in_ok-put.ensures
-          ∙ turn_of (λ xs. stated (further_handlers (length e0.instructions - c.args.end) (map handler_code xs)) None e0) whole i x c.loop-handler-test.true c.handler-item.is
-          ∙ c.loop-handler.invariant.0,
+          ∙ turn_of (λ xs. stated (further_handlers (length e0.instructions - c.args.end) (map handler_code xs)) None e0) whole i x c.loop-one-test.true c.one-item.is
+          ∙ c.loop-one.invariant.0,
       end_before (one_handler (handler_code x)) (InstrOf.Back back) None e0 e1 c.put.new.self c.args.end lt first c.in_ok-put.ensures,
     )
 
 pub emit_handlers::handlers-returns : goal.emit_handlers::handlers-returns
 emit_handlers::handlers-returns t c = on_ok _ _ c.put-2.result c.put-2.ensures (λ e.
-    let e0 = c.loop-handler.emitter in
+    let e0 = c.loop-one.emitter in
     let back = length e0.instructions - c.args.end in
     no_handler back e0 c.put-2.new.self e
-    ∙ ap (λ xs. stated (further_handlers back (map handler_code xs)) None e0) (sym (drop_all c.loop-handler.handler-index c.args.handlers.now c.loop-handler-test.false))
-    ∙ c.loop-handler.invariant.0)
+    ∙ ap (λ xs. stated (further_handlers back (map handler_code xs)) None e0) (sym (drop_all c.loop-one.one-index c.args.handlers.now c.loop-one-test.false))
+    ∙ c.loop-one.invariant.0)
 
 pub emit_handlers::skipped_handlers-handlers-requires : goal.emit_handlers::skipped_handlers-handlers-requires
 emit_handlers::skipped_handlers-handlers-requires t c = (omega (arith, c.decreases), end_at (InstrOf.Skip 0) c.args.emitter.now c.put.new.self c.place-end.result c.place-end.ensures c.in_ok-put.ensures)
@@ -362,7 +362,7 @@ pub emit_handlers::skipped_handlers-returns : goal.emit_handlers::skipped_handle
 emit_handlers::skipped_handlers-returns t c =
     let end = c.place-end.result in
     let e2 = c.handlers.new.emitter in
-    skipped_emitted (map handler_code c.args.handlers.now) end c.args.emitter.now c.put.new.self e2 c.set.new.self c.place-end.ensures c.in_ok-put.ensures c.in_ok-handlers.ensures
+    skipped_emitted (map handler_code c.args.all.now) end c.args.emitter.now c.put.new.self e2 c.set.new.self c.place-end.ensures c.in_ok-put.ensures c.in_ok-handlers.ensures
     (c.set.ensures ∙ ap (λ n. set_at end (InstrOf.Skip n) e2) c.behind-length.ensures)
 
 pub emit_handlers::handler-returns-in-Others : goal.emit_handlers::handler-returns-in-Others

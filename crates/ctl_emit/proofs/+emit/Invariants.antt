@@ -5,9 +5,9 @@ use Rattle.ctl_layout.specs.Layout.{all, arm_code, handler_code, statement_code}
 use Rattle.ctl_emitter.proofs.Emission.{IsWithin}
 use Rattle.ctl_emit.proofs.+emit.Given as goal
 
-abbrev pub invariant-emit_statements::statements-loop-statement : goal.invariant-emit_statements::statements-loop-statement
-invariant-emit_statements::statements-loop-statement l =
-    (stated (all (map statement_code (drop l.statement-index l.statements))) l.landing l.emitter ≡ stated (all (map statement_code l.statements)) l.landing l.fn.emitter)
+abbrev pub invariant-emit_statements::statements-loop-one : goal.invariant-emit_statements::statements-loop-one
+invariant-emit_statements::statements-loop-one l =
+    (stated (all (map statement_code (drop l.one-index l.statements))) l.landing l.emitter ≡ stated (all (map statement_code l.statements)) l.landing l.fn.emitter)
     × IsWithin l.landing l.emitter
 
 abbrev pub invariant-emit_statements::further_arms-loop-arm : goal.invariant-emit_statements::further_arms-loop-arm
@@ -16,9 +16,9 @@ invariant-emit_statements::further_arms-loop-arm l =
     × IsWithin l.landing l.emitter
     × (l.end ≤ length l.emitter.instructions)
 
-abbrev pub invariant-emit_handlers::handlers-loop-handler : goal.invariant-emit_handlers::handlers-loop-handler
-invariant-emit_handlers::handlers-loop-handler l =
-    (stated (further_handlers (length l.emitter.instructions - l.end) (map handler_code (drop l.handler-index l.handlers))) None l.emitter ≡ stated (further_handlers (length l.fn.emitter.instructions - l.end) (map handler_code l.handlers)) None l.fn.emitter)
+abbrev pub invariant-emit_handlers::handlers-loop-one : goal.invariant-emit_handlers::handlers-loop-one
+invariant-emit_handlers::handlers-loop-one l =
+    (stated (further_handlers (length l.emitter.instructions - l.end) (map handler_code (drop l.one-index l.handlers))) None l.emitter ≡ stated (further_handlers (length l.fn.emitter.instructions - l.end) (map handler_code l.handlers)) None l.fn.emitter)
     × (l.end ≤ length l.emitter.instructions)
 
 -- Each call goes down the statement, or at one size to a function of lower rank.

@@ -6,17 +6,17 @@ use Rattle.ctl_layout.proofs.Turns.{turn_of}
 use Rattle.ctl_emit.proofs.EmittedStatements.{next_item, no_item}
 use Rattle.ctl_emit.proofs.emit_statements.items.Goals as goal
 
-pub loop-item-preserved : goal.loop-item-preserved
-loop-item-preserved c =
+pub loop-one-preserved : goal.loop-one-preserved
+loop-one-preserved c =
     let all = c.args.items.now in
-    let i = c.loop-item.item-index in
-    let x = c.item-item.result in
-    next_item (item_code x) (map item_code (drop (i + 1) all)) c.loop-item.emitter c.item.new.emitter c.in_ok-item.ensures
-    ∙ turn_of (λ xs. lined (all_items (map item_code xs)).code c.loop-item.emitter) all i x c.loop-item-test.true c.item-item.is
-    ∙ c.loop-item.invariant
+    let i = c.loop-one.one-index in
+    let x = c.one-item.result in
+    next_item (item_code x) (map item_code (drop (i + 1) all)) c.loop-one.emitter c.item.new.emitter c.in_ok-item.ensures
+    ∙ turn_of (λ xs. lined (all_items (map item_code xs)).code c.loop-one.emitter) all i x c.loop-one-test.true c.one-item.is
+    ∙ c.loop-one.invariant
 
 pub returns : goal.returns
 returns c =
-    no_item c.loop-item.emitter
-    ∙ ap (λ xs. lined (all_items (map item_code xs)).code c.loop-item.emitter) (sym (drop_all c.loop-item.item-index c.args.items.now c.loop-item-test.false))
-    ∙ c.loop-item.invariant
+    no_item c.loop-one.emitter
+    ∙ ap (λ xs. lined (all_items (map item_code xs)).code c.loop-one.emitter) (sym (drop_all c.loop-one.one-index c.args.items.now c.loop-one-test.false))
+    ∙ c.loop-one.invariant
