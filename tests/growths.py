@@ -11,13 +11,14 @@ makes of the C text below and the loader puts before libc. Where there is no gcc
 instead, in rising steps: that refuses the growths that take pages.
 
 One line for each run that ends otherwise; the last line is `N passed, M failed`."""
+import functools
+import multiprocessing
 import os
 import resource
 import shutil
 import subprocess
 import sys
 import tempfile
-from concurrent.futures import ThreadPoolExecutor
 
 from answers import tell
 
@@ -87,6 +88,10 @@ def counted(counter, command, first, last):
         return done, int(count.read() or 0)
 
 
+def counted_in(counter, command, run):
+    return counted(counter, command, *run)
+
+
 def is_usual(done, whole):
     return (done.returncode, done.stdout, done.stderr) == (whole.returncode, whole.stdout, whole.stderr)
 
@@ -108,8 +113,9 @@ def refused_in_turn(counter, command):
     if count == 0 or whole.returncode == 5:
         yield f"{command}: {count} growths were counted: {whole}"
     runs = [(place, last) for place in places for last in (place, sys.maxsize)]
-    with ThreadPoolExecutor(os.cpu_count()) as pool:
-        for (place, last), (done, came) in zip(runs, pool.map(lambda run: counted(counter, command, *run), runs)):
+    with multiprocessing.Pool() as pool:
+        answers = pool.imap(functools.partial(counted_in, counter, command), runs, chunksize=16)
+        for (place, last), (done, came) in zip(runs, answers):
             is_asked_again = last == place and came > count and is_usual(done, whole)
             is_so = is_asked_again or is_refusal(done, whole)
             yield None if is_so else f"{command}: growths {place} to {last} of {count}: {done}"

@@ -134,6 +134,12 @@ TEXTS = [
     (ITEM + "a\xe9", 1, 1, 20),
     (ITEM + "a, Z, a_1_B, abs_x, xabs, absx, elseif : Integer := 0 + 1_0; begin null; end Main;", ACCEPTED, 0, 0),
     (ITEM + "N : Integer := 123456789012345678; begin null; end Main;", 34, 1, 34),
+    # the first fault of the form, of names, of types
+    ("procedure Main is begin null; end Main", 10, 1, 39),
+    ("procedure Main is A, B : Integer; begin A := B; end Main;", ACCEPTED, 0, 0),
+    ("procedure Main is begin A := 1; end Main;", 20, 1, 25),
+    ("procedure Main is B : Boolean := 1; begin X := 1; end Main;", 20, 1, 43),
+    ("procedure Main is B : Boolean := 1; begin null; end Main;", 30, 1, 34),
     # strings
     ('"a', 3, 1, 1),
     ('"a""b"', 10, 1, 1),

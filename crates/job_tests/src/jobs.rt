@@ -1,22 +1,14 @@
-//! Jobs on source texts, with readers and writers that fail.
+//! Jobs on source texts, with readers and writers that fail and heaps that are too small.
 
+use crate::texts::{EMPTY, TWO_OBJECTS, TWO_OBJECTS_OUTPUT, TWO_OBJECTS_TRACE};
 use ctl_frames::outcome::Outcome;
-use ctl_job::{Job, UsageFault};
+use ctl_job::Job;
 use ctl_run::run::run_source;
-use ctl_serve::report::{Picks, say, say_end};
-use ctl_serve::status::{Status, status_of_end};
-use ctl_serve::{
-    Reading, RunFault, Summary, put_run, refuse_file, refuse_words, run_into, serve, serve_into,
-};
+use ctl_serve::{Reading, RunFault, Summary, put_run, run_into, serve, serve_into};
 use ctl_sink::{Sink, Through};
-use ctl_tree::ending::{End, Stop};
 use ctl_tree::fault::Fault;
 use ctl_tree::request::{Order, Show};
-use ctl_tree::text::Text;
 use linked_list_allocator::LocalHeap;
-use program_tests::texts::{
-    EMPTY, TWO_OBJECTS, TWO_OBJECTS_OUTPUT, TWO_OBJECTS_SERVED, TWO_OBJECTS_TRACE,
-};
 use std::alloc::{AllocError, Global};
 use std::io;
 use std::io::{Read, Write};
@@ -111,130 +103,9 @@ fn serve_on<R: Read + Drop, W: Write, E: Write>(
     serve(alloc, job, &mut Reading::new(source), &mut sink, err)
 }
 
-/// The status of a job on a text, what it printed and what it said, with bars between them.
-fn served(alloc: Global, job: Job, source: &str) -> Result<String, Fail> {
-    let mut out = Vec::new(alloc);
-    let mut err = Vec::new(alloc);
-    let status = serve_on(alloc, job, source.as_bytes(), &mut out, &mut err);
-    let out = String::from_utf8(out).map_err(|_| "no text")?;
-    let err = String::from_utf8(err).map_err(|_| "no text")?;
-    Ok(format!(in alloc; "{status}|{out}|{err}")?)
-}
-
-/// Says whether the status of a job on a text, what it printed and what it said are as wanted.
-fn is_served(alloc: Global, job: Job, source: &str, wanted: &str) -> Result<bool, Fail> {
-    let shown = served(alloc, job, source)?;
-    Ok(shown.as_str() == wanted)
-}
-
-/// What is shown of a run, its limit, its text, and its status with what it printed and said.
-const RUNS: [(Show, u64, &str, &str); 6] = [
-    (Show::Output, 1000, EMPTY, "0||"),
-    (Show::Output, 1000, TWO_OBJECTS, "0|i\nin\nb\na\nout\n|"),
-    (Show::Trace, 1000, TWO_OBJECTS, TWO_OBJECTS_SERVED),
-    (Show::Output, 0, TWO_OBJECTS, "4||adactl: step limit\n"),
-    (
-        Show::Trace,
-        0,
-        EMPTY,
-        "4|end limit\n|adactl: picks none\nadactl: step limit\n",
-    ),
-    (Show::Trace, 9, "", "2||adactl: 1:1: 10 UNEXPECTED\n"),
-];
-
-#[test]
-fn runs_end_with_their_status_and_lines(rt: HostRuntime) -> Result<(), Fail> {
-    for (show, steps, source, wanted) in RUNS {
-        let job = run_job(rt.alloc(), show, steps);
-        assert!(rt; is_served(rt.alloc(), job, source, wanted)?, "at {wanted}");
-    }
-    Ok(())
-}
-
-#[test]
-fn checks_end_with_their_status_and_lines(rt: HostRuntime) -> Result<(), Fail> {
-    for (source, wanted) in [(EMPTY, "0|ok\n|"), ("", "2||adactl: 1:1: 10 UNEXPECTED\n")] {
-        let job = check_job(rt.alloc());
-        assert!(rt; is_served(rt.alloc(), job, source, wanted)?, "at {wanted}");
-    }
-    Ok(())
-}
-
-/// Says whether an end has this status and is told by this line.
-fn is_told(alloc: Global, end: &End, status: Status, line: &str) -> bool {
-    let mut err = Vec::new(alloc);
-    say_end(&mut err, end);
-    status_of_end(end) == status && err.as_slice() == line.as_bytes()
-}
-
-/// An end of each kind by the status that it has.
-fn end_with(raised: Text, status: Status) -> End {
-    match status {
-        Status::Done => End::Done,
-        Status::Raised => End::Raised(raised),
-        Status::Stopped => End::Stopped(Stop::BadAddress),
-        Status::StepLimit => End::StepLimit,
-        _ => End::HostMemory,
-    }
-}
-
-const TOLD: [(Status, &str); 5] = [
-    (Status::Done, ""),
-    (Status::Raised, "adactl: raised Constraint_Error\n"),
-    (Status::Stopped, "adactl: stopped BAD_ADDRESS\n"),
-    (Status::StepLimit, "adactl: step limit\n"),
-    (Status::HostMemory, "adactl: host memory\n"),
-];
-
-#[test]
-fn each_end_has_its_status_and_line(rt: HostRuntime) -> Result<(), Fail> {
-    for (status, line) in TOLD {
-        let raised = Text::from_slice(rt.alloc(), b"Constraint_Error")?;
-        let end = end_with(raised, status);
-        assert!(rt; is_told(rt.alloc(), &end, status, line), "at {line}");
-    }
-    Ok(())
-}
-
-/// Says whether picks are told by this line.
-fn are_told(alloc: Global, picks: &[u64], line: &str) -> bool {
-    let mut err = Vec::new(alloc);
-    let picks = Picks(picks);
-    say(&mut err, format_args!("picks {picks}"));
-    err.as_slice() == line.as_bytes()
-}
-
-#[test]
-fn picks_are_numbers_with_commas(rt: HostRuntime) {
-    assert!(rt; are_told(rt.alloc(), &[], "adactl: picks none\n"));
-    assert!(rt; are_told(rt.alloc(), &[1], "adactl: picks 1\n"));
-    assert!(rt; are_told(rt.alloc(), &[1, 0, 12], "adactl: picks 1,0,12\n"));
-}
-
 /// Says whether what was said is this line.
 fn is_said(err: &[u8], line: &str) -> bool {
     err == line.as_bytes()
-}
-
-#[test]
-fn other_words_have_status_64(rt: HostRuntime) {
-    let mut err = Vec::new(rt.alloc());
-    let status = refuse_words(UsageFault::Usage, &mut err);
-    assert!(rt; status == 64 && err.as_slice().starts_with(b"usage: adactl check FILE\n"));
-}
-
-#[test]
-fn words_that_find_no_room_have_status_5(rt: HostRuntime) {
-    let mut err = Vec::new(rt.alloc());
-    let status = refuse_words(UsageFault::Memory, &mut err);
-    assert!(rt; status == 5 && is_said(&err, "adactl: host memory\n"));
-}
-
-#[test]
-fn a_file_that_is_not_opened_has_status_74(rt: HostRuntime) {
-    let mut err = Vec::new(rt.alloc());
-    let status = refuse_file(&mut err);
-    assert!(rt; status == 74 && is_said(&err, "adactl: read failed\n"));
 }
 
 /// A limit of steps that no test comes to.
@@ -394,20 +265,6 @@ fn a_text_that_has_no_room_is_not_put(rt: HostRuntime) -> Result<(), Fail> {
     Ok(())
 }
 
-/// Says whether a job on the empty text, whose writer takes two bytes, ends with a failed write and its line.
-fn fails_to_write(alloc: Global, job: Job) -> bool {
-    let mut out = Limited::new(alloc, 9, 2);
-    let mut err = Vec::new(alloc);
-    let status = serve_on(alloc, job, EMPTY.as_bytes(), &mut out, &mut err);
-    status == 74 && is_said(&err, "adactl: write failed\n")
-}
-
-#[test]
-fn failed_writes_have_status_74(rt: HostRuntime) {
-    assert!(rt; fails_to_write(rt.alloc(), check_job(rt.alloc())));
-    assert!(rt; fails_to_write(rt.alloc(), run_job(rt.alloc(), Show::Trace, 1000)));
-}
-
 /// Says whether a job whose flush fails ends with a failed write and its line, and had passed on this text.
 fn fails_to_flush(alloc: Global, job: Job, text: &str) -> bool {
     let mut out = Limited::new(alloc, 9, 10_000);
@@ -456,24 +313,6 @@ fn status_of_failed(alloc: Global) -> Option<u8> {
 #[test]
 fn a_sink_that_had_failed_is_told(rt: HostRuntime) {
     assert!(rt; matches!(status_of_failed(rt.alloc()), Some(74)));
-}
-
-/// The status of a run whose error output takes nothing, where its trace is whole.
-fn status_of_silent(alloc: Global) -> Option<u8> {
-    let mut out = Vec::new(alloc);
-    let mut err = Limited::new(alloc, 9, 0);
-    let job = run_job(alloc, Show::Trace, 1000);
-    let status = serve_on(alloc, job, TWO_OBJECTS.as_bytes(), &mut out, &mut err);
-    if out.as_slice() == TWO_OBJECTS_TRACE.as_bytes() {
-        Some(status)
-    } else {
-        None
-    }
-}
-
-#[test]
-fn a_closed_error_output_harms_nothing(rt: HostRuntime) {
-    assert!(rt; matches!(status_of_silent(rt.alloc()), Some(0)));
 }
 
 /// The status of a check of blanks without end, or of a reader that fails, where it is told by this line.

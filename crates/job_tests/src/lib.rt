@@ -1,5 +1,7 @@
-//! Tests of the crate `ctl_serve` through its public calls.
+//! Tests of `ctl_serve` and `ctl_output` through their public calls.
 #![tactic(auto)]
 
 #[cfg(test)]
 mod jobs;
+#[cfg(test)]
+mod texts;

@@ -1,6 +1,6 @@
 //! What tokens hold, and the longest text. Which texts are refused, and where, `tests/refused.py` asks of the program.
 
-use crate::texts::is_fault;
+use crate::faults::is_fault;
 use ctl_lex::tokens;
 use ctl_tree::fault::{Fault, FaultCode};
 use ctl_tree::token::{Kind, Token};

@@ -1,19 +1,12 @@
-//! Tests of the crates that make up the program through their public calls, but for those of jobs, of pools, of objects and of the machine.
+//! Tests of the crates that make up the program through their public calls, where no text and no command line reaches what is tested.
 #![tactic(auto)]
 
 #[cfg(test)]
-mod forms;
+mod faults;
 #[cfg(test)]
 mod lex;
 #[cfg(test)]
-mod names;
-#[cfg(test)]
-mod resolve;
-#[cfg(test)]
-mod runs;
-#[cfg(test)]
 mod sinks;
-pub mod texts;
 #[cfg(test)]
 mod tokens;
 #[cfg(test)]

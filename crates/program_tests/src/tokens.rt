@@ -1,12 +1,13 @@
 //! Lists of tokens, also such as no text gives. Which texts are refused, and where, `tests/refused.py` asks of the program.
 
-use crate::forms::fault_of;
-use crate::texts::is_fault;
-use ctl_tree::fault::FaultCode;
+use crate::faults::is_fault;
+use ctl_parse::parse;
+use ctl_tree::fault::{Fault, FaultCode};
 use ctl_tree::span::Span;
 use ctl_tree::text::Text;
 use ctl_tree::token::{Kind, Token};
 use std::alloc::{AllocError, Global};
+use std::mem::forget;
 use std::test::Fail;
 
 /// The kinds of the tokens of a procedure that does nothing, and of its end mark.
@@ -35,6 +36,18 @@ fn tokens_of(alloc: Global, kinds: &[Kind]) -> Result<Vec<Token>, AllocError> {
         })?;
     }
     Ok(tokens)
+}
+
+/// The fault of these tokens, or none where they have a tree.
+// The tree is not let go of, since to prove that takes longer than all else here.
+fn fault_of(alloc: Global, tokens: &[Token]) -> Option<Fault> {
+    match parse(alloc, tokens) {
+        Ok(tree) => {
+            forget(tree);
+            None
+        }
+        Err(fault) => Some(fault),
+    }
 }
 
 #[test]
