@@ -1,9 +1,10 @@
 //! Runs that are shown by what they print, which is put as they go.
 
-ghost use Rattle.std.specs.Prelude.{◌≡◌, ◌≤◌, ◌+◌, ◌-◌, ◌^◌, ◌↔◌, [], true, false, IfOk, IfErr, IsErrOf, MatchResult, OnErr, OnOk};
+ghost use Rattle.std.specs.Prelude.{◌≡◌, ◌≤◌, ◌+◌, ◌-◌, ◌^◌, ◌↔◌, [], List, ℕ, true, false, IfOk, IfErr, IsErrOf, MatchResult, OnErr, OnOk};
 ghost use Rattle.std.specs.Io.KnownBytes.{Appends};
 ghost use Rattle.ctl_sink.specs.Prefix.{AppendsPart};
 ghost use Rattle.ctl_machine.specs.Machine.{shown_between};
+ghost use Rattle.ctl_verdict.specs.Compiled.{IsCodeOf};
 ghost use Rattle.ctl_verdict.specs.Verdict.{IsFaultOf, IsFaultless};
 ghost use Rattle.ctl_text.specs.Texts.{output_of, printed_by};
 ghost use Rattle.ctl_output.specs.Refusals.{IsRefusal, IsRefusalWith, IsRefusedFor, WantsMemory};
@@ -19,6 +20,7 @@ use ctl_sink::{PutFault, Sink, put_all};
 use ctl_tree::event::Event;
 use ctl_tree::fault::Fault;
 use ctl_tree::request::Order;
+use ctl_valid::valid::ValidCode;
 use ctl_verdict::compile::compile_source;
 use std::alloc::Global;
 
@@ -85,6 +87,33 @@ fn run_machine<S: Sink>(machine: &mut Machine, limit: u64, sink: &mut S) -> Resu
     Ok(())
 }
 
+/// Runs the code of a source text by at most `steps` machine steps, and puts what it prints into a sink that has not failed, as `run_into`
+/// does.
+fn run_code<S: Sink>(
+    alloc: Global,
+    code: &ValidCode,
+    order: Order,
+    steps: u64,
+    sink: &mut S,
+) -> Result<Summary, RunFault>
+    requires { S.has_failed sink.old ≡ false }
+    ensures ok { (source : List ℕ) → IsCodeOf source code.now → IfOk result (WritesWhole source order steps Output (S.taken sink.old) (S.taken sink.new)) }
+    ensures write { (source : List ℕ) → IsCodeOf source code.now → IsErrOf result Write → WritesPart source order steps Output (S.taken sink.old) (S.taken sink.new) }
+    ensures refused { IfErr result (λ fault. IsRefusal fault → sink.new ≡ sink.old) }
+    ensures failed { (S.has_failed sink.new ≡ true) ↔ IsErrOf result Write }
+    ensures memory { IfErr result WantsMemory }
+{
+    let Ok(mut machine) = Machine::new(alloc, code, order) else {
+        return Err(RunFault::Refused(Fault::memory()));
+    };
+    let printed = run_machine(&mut machine, steps, sink);
+    let outcome = machine.finish();
+    match printed {
+        Ok(()) => Ok(Summary::from(outcome)),
+        Err(_) => Err(RunFault::Write),
+    }
+}
+
 /// Runs a source text by at most `steps` machine steps, and puts what it prints into a sink that has not failed, as `run_into` does.
 pub(crate) fn run_printing<S: Sink>(
     alloc: Global,
@@ -103,13 +132,5 @@ pub(crate) fn run_printing<S: Sink>(
     ensures faultless { IsFaultless source.now → IfErr result WantsMemory }
 {
     let code = compile_source(alloc, source)?;
-    let Ok(mut machine) = Machine::new(alloc, &code, order) else {
-        return Err(RunFault::Refused(Fault::memory()));
-    };
-    let printed = run_machine(&mut machine, steps, sink);
-    let outcome = machine.finish();
-    match printed {
-        Ok(()) => Ok(Summary::from(outcome)),
-        Err(_) => Err(RunFault::Write),
-    }
+    run_code(alloc, &code, order, steps, sink)
 }
