@@ -88,10 +88,6 @@ def counted(counter, command, first, last):
         return done, int(count.read() or 0)
 
 
-def counted_in(counter, command, run):
-    return counted(counter, command, *run)
-
-
 def is_usual(done, whole):
     return (done.returncode, done.stdout, done.stderr) == (whole.returncode, whole.stdout, whole.stderr)
 
@@ -114,7 +110,7 @@ def refused_in_turn(counter, command):
         yield f"{command}: {count} growths were counted: {whole}"
     runs = [(place, last) for place in places for last in (place, sys.maxsize)]
     with multiprocessing.Pool() as pool:
-        answers = pool.imap(functools.partial(counted_in, counter, command), runs, chunksize=16)
+        answers = pool.starmap(functools.partial(counted, counter, command), runs, chunksize=16)
         for (place, last), (done, came) in zip(runs, answers):
             is_asked_again = last == place and came > count and is_usual(done, whole)
             is_so = is_asked_again or is_refusal(done, whole)
