@@ -26,10 +26,13 @@ steps_rule = record (new_rule (codes "steps")) { long = Some (codes "steps"); pa
 abbrev pub check_app : App
 check_app = with_rule (new_app (codes "check")) file_rule
 
+-- run FILE [--trace]
+abbrev pub tracing_app : App
+tracing_app = with_rule (with_rule (new_app (codes "run")) file_rule) trace_rule
+
 -- run FILE [--trace] [--order ORDER] [--steps N]
 abbrev pub run_app : Bor (List (Bor Text)) → App
-run_app names =
-    with_rule (with_rule (with_rule (with_rule (new_app (codes "run")) file_rule) trace_rule) (order_rule names)) steps_rule
+run_app names = with_rule (with_rule tracing_app (order_rule names)) steps_rule
 
 -- what stands before the subcommands: nothing; one of them has to follow, and `help` is none
 abbrev pub top_app : App
