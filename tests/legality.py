@@ -1,10 +1,10 @@
 #!/usr/bin/env python3
-"""Texts for every rule of legality, judged by the program of `crates/judge`.
+"""Texts for every rule of legality, checked by a built adactl.
 
-    legality.py [JUDGE] [--try] [--only WORD]
+    legality.py PATH_OF_ADACTL [--only WORD]
 
-JUDGE is the built program, `crates/judge/out/judge` where it is left out. `--try` judges by one `rt try` of the crate
-in its place, which needs no build. `--only` takes the files whose names have this word.
+`--only` takes the files whose names have this word. A text is legal where it is accepted, and where it is left out: that is said only
+of a text that breaks no rule.
 
 A file `legality/NN_name.txt` has the cases of the rule with the number NN. A case is a line `-- what it shows`, and its text up to
 the next such line at a line's beginning. The mark ▸ stands just before the character where the fault is told, and is no
@@ -19,15 +19,17 @@ One line for each case that is judged otherwise; the last line is `N passed, M f
 import argparse
 import os
 import re
-import subprocess
 import sys
 import tempfile
 
-from answers import LIMIT, fault_told, tell
+from answers import FAULTS, answer, fault_told, tell
 
 HERE = os.path.dirname(os.path.abspath(__file__))
 
-JUDGE_FOLDER = os.path.join(HERE, "..", "crates", "judge")
+# what is said of a legal text
+LEGAL = "legal"
+
+LEFT_OUT = f"12 {FAULTS[12]}"
 
 MARK = "▸"
 
@@ -55,10 +57,10 @@ class Case:
 
     def complaint(self, said):
         """What differs in this answer, or None."""
-        wanted = "ok"
+        wanted = LEGAL
         if self.fault is not None:
             number, line, column = self.fault
-            wanted = fault_told(line, column, number)
+            wanted = f"adactl: {fault_told(line, column, number)}"
         if self.is_open:
             return f"{self.name}: {said!r}, as it should be" if said == wanted else None
         return None if said == wanted else f"{self.name}: {said!r}, not {wanted!r}"
@@ -85,41 +87,24 @@ def cases_of(file):
                 lines.append(line)
 
 
-def answers_of(judge, texts):
-    """What the built program says of each text."""
-    for text in texts:
-        try:
-            done = subprocess.run([judge], input=text.encode(), capture_output=True, timeout=LIMIT)
-            yield done.stdout.decode(errors="replace").strip()
-        except subprocess.TimeoutExpired:
-            yield f"no answer in {LIMIT} seconds"
-
-
-def tried_answers(texts):
-    """What one `rt try` of the crate says of each text."""
-    with tempfile.TemporaryDirectory() as folder:
-        for number, text in enumerate(texts):
-            with open(os.path.join(folder, f"{number:05}"), "w", encoding="utf-8") as file:
-                file.write(text)
-        done = subprocess.run(["rt", "try", "--steps", "1", "--cases", folder], cwd=JUDGE_FOLDER, capture_output=True)
-        output = done.stdout.decode(errors="replace")
-    said = dict(re.findall(r"^== (\d{5})\n(.*)$", output, re.MULTILINE))
-    if not said:
-        print(output + done.stderr.decode(errors="replace"))
-    return [said.get(f"{number:05}", "no answer") for number in range(len(texts))]
+def verdict(adactl, path, text):
+    """What adactl says of a text, which it reads from this file: LEGAL, or the fault."""
+    with open(path, "w", encoding="utf-8") as file:
+        file.write(text)
+    status, said = answer(adactl, path)
+    return LEGAL if status == 0 or said.endswith(LEFT_OUT) else said
 
 
 def main():
     parser = argparse.ArgumentParser(description=__doc__, formatter_class=argparse.RawDescriptionHelpFormatter)
-    parser.add_argument("judge", nargs="?", default=os.path.join(JUDGE_FOLDER, "out", "judge"))
-    parser.add_argument("--try", dest="tried", action="store_true")
+    parser.add_argument("adactl")
     parser.add_argument("--only", default="")
     words = parser.parse_args()
     files = sorted(file for file in os.listdir(os.path.join(HERE, "legality")) if words.only in file)
-    cases = [case for file in files for case in cases_of(file)]
-    texts = [case.text for case in cases]
-    answers = tried_answers(texts) if words.tried else answers_of(words.judge, texts)
-    return tell(case.complaint(said) for case, said in zip(cases, answers))
+    with tempfile.TemporaryDirectory() as folder:
+        path = os.path.join(folder, "main.adb")
+        cases = (case for file in files for case in cases_of(file))
+        return tell(case.complaint(verdict(words.adactl, path, case.text)) for case in cases)
 
 
 if __name__ == "__main__":
