@@ -37,6 +37,12 @@ pub fn program_of(alloc: Global, source: &[u8]) -> Result<Checked, Fault>
     check(alloc, &tree, broken.names, broken.uses)
 }
 
+/// Drops a resolved tree.
+// What a drop of so large a value does is long to prove. Who calls this by name does not prove it again.
+pub fn drop_tree(tree: Named) {
+    drop(tree);
+}
+
 /// Answers the tree of a source text with what its names denote, or its first fault of lexis or grammar (1 to 13). MEMORY comes only where
 /// the host refused memory.
 pub fn resolved_of(alloc: Global, source: &[u8]) -> Result<Named, Fault>

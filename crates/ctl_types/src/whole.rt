@@ -125,6 +125,12 @@ fn elaborated(
     verdict(alloc, tree.span, draft)
 }
 
+/// Drops a checked program.
+// What a drop of so large a value does is long to prove. Who calls this by name does not prove it again.
+pub fn drop_program(program: Checked) {
+    drop(program);
+}
+
 /// Answers the checked program of a resolved tree, or its first fault, where the resolver's first broken rules on names and on use clauses
 /// are given; or that memory was refused.
 pub fn check(

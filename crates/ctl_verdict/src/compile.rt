@@ -9,6 +9,7 @@ ghost use Rattle.ctl_verdict.specs.Verdict.{IsFaultOf, IsFaultless};
 use crate::verdict::check_source;
 use ctl_gen::generate::generate;
 use ctl_tree::fault::Fault;
+use ctl_types::whole::drop_program;
 use ctl_valid::valid::ValidCode;
 use std::alloc::Global;
 
@@ -23,5 +24,7 @@ pub fn compile_source(alloc: Global, source: &[u8]) -> Result<ValidCode, Fault>
     ensures compiled { IfOk result (λ code. IsCodeOf source.now code) }
 {
     let program = check_source(alloc, source)?;
-    generate(alloc, &program)
+    let code = generate(alloc, &program);
+    drop_program(program);
+    code
 }
