@@ -104,3 +104,18 @@ returns-in-KeepPart c = told c.args.code.now c.args.place c.args.instr.now _ c.i
 
 pub returns-in-CopyBackPart : goal.returns-in-CopyBackPart
 returns-in-CopyBackPart c = told c.args.code.now c.args.place c.args.instr.now _ c.is_copy_back_part_fine.result c.in-CopyBackPart.is (c.is_copy_back_part_fine.ensures c.in-CopyBackPart.record c.in-CopyBackPart.position)
+
+pub returns-in-Leave : goal.returns-in-Leave
+returns-in-Leave c = told c.args.code.now c.args.place c.args.instr.now _ c.is_at_end.result c.in-Leave.is c.is_at_end.ensures
+
+pub returns-in-DeclarePool : goal.returns-in-DeclarePool
+returns-in-DeclarePool c = told c.args.code.now c.args.place c.args.instr.now _ c.is_pool_fine.result c.in-DeclarePool.is c.is_pool_fine.ensures
+
+pub returns-in-Gather : goal.returns-in-Gather
+returns-in-Gather c = told c.args.code.now c.args.place c.args.instr.now _ c.is_gather_fine.result c.in-Gather.is c.is_gather_fine.ensures
+
+pub returns-in-Assign : goal.returns-in-Assign
+returns-in-Assign c = told c.args.code.now c.args.place c.args.instr.now _ c.is_assign_fine.result c.in-Assign.is c.is_assign_fine.ensures
+
+pub returns-in-Select : goal.returns-in-Select
+returns-in-Select c = told c.args.code.now c.args.place c.args.instr.now _ c.selects.result c.in-Select.is c.selects.ensures
