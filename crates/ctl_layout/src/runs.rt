@@ -602,9 +602,7 @@ fn statement(statement: &Stmt, table: &Table, masters: usize) -> Result<bool, Al
         }
         Stmt::Loop(body) => statements(body.as_slice(), table, masters),
         Stmt::While(test, body) => guarded(body.as_slice(), test, table, masters),
-        Stmt::For(_, _, low, high, body) => {
-            counted(body.as_slice(), low, high, table, masters)
-        }
+        Stmt::For(_, _, low, high, body) => { counted(body.as_slice(), low, high, table, masters) }
         Stmt::Block(inside) => master(inside.get(), table, masters),
         Stmt::Free(_, name) => Ok(is_freed(name, table)),
         Stmt::LibraryAllocate(pool, address, size, alignment) => {
@@ -633,12 +631,7 @@ fn statements(statements: &[Stmt], table: &Table, masters: usize) -> Result<bool
 
 /// Tells whether statements are run, inside so many masters, and the value that stands before them.
 #[cycle(statements)]
-fn guarded(
-    body: &[Stmt],
-    test: &Expr,
-    table: &Table,
-    masters: usize,
-) -> Result<bool, AllocError>
+fn guarded(body: &[Stmt], test: &Expr, table: &Table, masters: usize) -> Result<bool, AllocError>
     ensures { IfOk result (λ runs. runs ≡ ((values.value_code test.now).runs table.now.records.now && (spec.all (map spec.statement_code body.now)).runs (among table.now.records.now masters))) }
 {
     if !value(test, table) {

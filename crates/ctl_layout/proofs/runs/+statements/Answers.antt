@@ -1,10 +1,10 @@
-use Rattle.std.proofs.Common.{◌≡◌, List, Bool, true, false, IfOk, refl, ap, sym, subst, ◌∙◌, map, option_map, ◌⊎◌, inl, inr}
+use Rattle.std.proofs.Common.{◌≡◌, ℕ, List, Bool, true, false, IfOk, refl, ap, sym, subst, ◌∙◌, map, option_map, ◌⊎◌, inl, inr}
 use Rattle.std.specs.Prelude.{◌&&◌, Result}
 use Rattle.ctl_program.specs.declared.expression.Actual.{Actual}
 use Rattle.ctl_program.specs.declared.statement.Master.{Master}
 use Rattle.ctl_program.specs.declared.statement.Piece.{Piece}
 use Rattle.ctl_program.specs.declared.statement.Stmt.{Stmt}
-use Rattle.ctl_program.specs.declared.statement.Stmt.TheVariants.{Put, PutLine, rolls-Assign, rolls-AssignRecord, rolls-Block, rolls-Call, rolls-Exit, rolls-For, rolls-Free, rolls-LibraryAllocate, rolls-LibraryDeallocate, rolls-Loop, rolls-Nothing, rolls-Put, rolls-PutLine, rolls-Return, rolls-While}
+use Rattle.ctl_program.specs.declared.statement.Stmt.TheVariants.{NewLine, Null, Put, PutLine, Raise, RaiseAgain, rolls-Assign, rolls-AssignRecord, rolls-Block, rolls-Call, rolls-Exit, rolls-For, rolls-Free, rolls-LibraryAllocate, rolls-LibraryDeallocate, rolls-Loop, rolls-NewLine, rolls-Nothing, rolls-Null, rolls-Put, rolls-PutLine, rolls-Raise, rolls-RaiseAgain, rolls-Return, rolls-While}
 use Rattle.ctl_layout.specs.Around.{Site, among, deeper}
 use Rattle.ctl_layout.specs.Texts.{pieces_are_run}
 use Rattle.ctl_layout.specs.Values.{actual_code, actuals_run, value_code, reached_by, sourced}
@@ -24,6 +24,16 @@ told_by x code site r is same = subst (λ (c : StatementCode). IfOk r (λ runs. 
 printed : (x : Stmt) (ps : List Piece) (site : Site) (runs : Bool) → (x ≡ Put ps) ⊎ (x ≡ PutLine ps) → runs ≡ pieces_are_run site.records ps → runs ≡ (statement_code x).runs site
 printed x ps site runs (inl is) same = told x (print false ps) site runs (layer_of _ (is ∙ sym (rolls-Put ps))) same
 printed x ps site runs (inr is) same = told x (print true ps) site runs (layer_of _ (is ∙ sym (rolls-PutLine ps))) same
+
+-- what is run wherever it stands
+plain : (x : Stmt) (site : Site) → (x ≡ Null) ⊎ ((x ≡ NewLine) ⊎ (((e : ℕ) × (x ≡ Raise e)) ⊎ (x ≡ RaiseAgain))) → true ≡ (statement_code x).runs site
+plain x site (inl is) = told x _ site true (layer_of _ (is ∙ sym rolls-Null)) refl
+plain x site (inr (inl is)) = told x _ site true (layer_of _ (is ∙ sym rolls-NewLine)) refl
+plain x site (inr (inr (inl (e, is)))) = told x _ site true (layer_of _ (is ∙ sym (rolls-Raise e))) refl
+plain x site (inr (inr (inr is))) = told x _ site true (layer_of _ (is ∙ sym rolls-RaiseAgain)) refl
+
+pub statement-returns-in-Null : goal.statement-returns-in-Null
+statement-returns-in-Null t c = plain _ (among c.args.table.now.records.now c.args.masters) c.in-Null.is
 
 pub statement-returns-in-Assign : goal.statement-returns-in-Assign
 statement-returns-in-Assign t c =
