@@ -23,9 +23,9 @@ one_more P xs n x here holds before i y lt there =
 pub each : {X : Type 0} (P : ℕ → X → Type 0) (ys xs : List X) (n : ℕ) → ys ≡ xs → length ys ≤ n → ((i : ℕ) (y : X) → i < n → slice_get xs i ≡ Some y → P i y)
     → IsTrue true ↔ ((i : ℕ) (y : X) → slice_get xs i ≡ Some y → P i y)
 each P ys xs n same end before = (
-      λ t i y there. let within = slice_get_within ys i y (subst (λ zs. slice_get zs i ≡ Some y) (sym same) there) in before i y (omega (arith, within)) there,
-      λ h. refl,
-    )
+  λ t i y there. let within = slice_get_within ys i y (subst (λ zs. slice_get zs i ≡ Some y) (sym same) there) in before i y (omega (arith, within)) there,
+  λ h. refl,
+)
 
 -- one of which it does not hold
 pub one_fails : {X : Type 0} (P : ℕ → X → Type 0) (xs : List X) (n : ℕ) (x : X) → slice_get xs n ≡ Some x → (P n x → IsTrue false)
