@@ -602,7 +602,7 @@ fn statement(statement: &Stmt, table: &Table, masters: usize) -> Result<bool, Al
         }
         Stmt::Loop(body) => statements(body.as_slice(), table, masters),
         Stmt::While(test, body) => guarded(body.as_slice(), test, table, masters),
-        Stmt::For(_, _, low, high, body) => { counted(body.as_slice(), low, high, table, masters) }
+        Stmt::For(_, _, low, high, body) => counted(body.as_slice(), low, high, table, masters),
         Stmt::Block(inside) => master(inside.get(), table, masters),
         Stmt::Free(_, name) => Ok(is_freed(name, table)),
         Stmt::LibraryAllocate(pool, address, size, alignment) => {
