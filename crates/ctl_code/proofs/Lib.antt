@@ -1,3 +1,4 @@
+pub mod Each
 pub mod Elements
 pub mod Actuals
 pub mod Fitting

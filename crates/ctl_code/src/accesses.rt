@@ -12,6 +12,7 @@ use crate::fine::{has, is_operand, is_part, leads_on};
 use crate::homes::Declaration;
 use crate::kinds::Kind;
 use crate::layouts::is_declarable;
+use crate::tables::{access_home, operations_at};
 use crate::types::is_scalar;
 use ctl_program::types::{Ty, Var};
 
@@ -30,7 +31,7 @@ fn is_known(code: &Code, of: Ty) -> bool
     ensures { IsTrue result ↔ IsKnown code.now of }
 {
     match of {
-        Ty::Record(record) => code.records.get(record).is_some(),
+        Ty::Record(record) => operations_at(code, record).is_some(),
         _ => true,
     }
 }
@@ -40,7 +41,7 @@ fn is_known(code: &Code, of: Ty) -> bool
 fn is_allocable(code: &Code, masters: usize, access: usize, of: Ty) -> bool
     ensures { IsTrue result ↔ IsAllocable code.now masters access of }
 {
-    match code.accesses.get(access) {
+    match access_home(code, access) {
         Some(home) => {
             1 <= home.collection.level
                 && home.collection.level <= masters
@@ -77,7 +78,7 @@ fn may_have_variable(code: &Code, place: usize, variable: Option<Var>) -> bool
 fn has_collection(code: &Code, place: usize, access: usize) -> bool
     ensures { IsTrue result ↔ HasCollection code.now (stack_at code.now.kinds place) access }
 {
-    match code.accesses.get(access) {
+    match access_home(code, access) {
         Some(home) => {
             has_variable(code, place, home.collection) && may_have_variable(code, place, home.pool)
         }
@@ -89,7 +90,7 @@ fn has_collection(code: &Code, place: usize, access: usize) -> bool
 fn is_gathered(code: &Code, place: usize, access: usize) -> bool
     ensures { IsTrue result ↔ IsGathered code.now access (stack_at code.now.kinds place) }
 {
-    match code.accesses.get(access) {
+    match access_home(code, access) {
         Some(home) => {
             home.collection.level == code.kinds.depth_at(place)
                 && code.kinds.owns_slot(place, home.collection.slot)
@@ -210,7 +211,7 @@ pub(crate) fn is_new_copy_in_fine(
     ensures { IsTrue result ↔ IsFine code.now place (I.NewCopyIn «record» ty at) (stack_at code.now.kinds place) }
 {
     is_scalar(ty)
-        && code.records.get(record).is_some()
+        && operations_at(code, record).is_some()
         && code.kinds.has_numbers(place, ADDRESS_NUMBERS)
         && has(code, place, ADDRESS_NUMBERS, Kind::RecordValue)
         && code.kinds.height_at(place, ADDRESS_NUMBERS + 1) == at

@@ -8,6 +8,7 @@ ghost use Rattle.ctl_code.specs.Windows.{HasHome, HasHomeOf, IsWithin};
 use crate::code::{Code, Initial, Layout};
 use crate::homes::Declaration;
 use crate::layouts::default_of;
+use crate::tables::operations_at;
 use ctl_program::types::Ty;
 
 /// Tells whether each master around a declaration stands around an instruction with as many slots.
@@ -62,7 +63,7 @@ fn is_operation_within(code: &Code, number: usize, operation: Option<usize>) -> 
 pub(crate) fn are_operations_within(code: &Code, number: usize) -> bool
     ensures { IsTrue result ↔ AreOperationsWithin code.now number }
 {
-    match code.records.get(number) {
+    match operations_at(code, number) {
         Some(operations) => {
             is_operation_within(code, number, operations.initialize)
                 && is_operation_within(code, number, operations.finalize)

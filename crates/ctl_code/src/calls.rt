@@ -13,6 +13,7 @@ use crate::fine::{has, is_bare, is_operand, leads_on, puts_operand};
 use crate::homes::Declaration;
 use crate::kinds::Kind;
 use crate::layouts::is_in_scope;
+use crate::tables::entry_at;
 use crate::types::is_scalar;
 use ctl_program::operators::SubprogramKind;
 use ctl_program::types::Ty;
@@ -187,7 +188,7 @@ fn is_same_subprogram(kind: SubprogramKind, other: SubprogramKind) -> bool
 pub(crate) fn has_formals(code: &Code, kind: SubprogramKind, number: usize, count: usize) -> bool
     ensures { IsTrue result ↔ HasFormals code.now kind number count }
 {
-    match code.entries.get(number) {
+    match entry_at(code, number) {
         Some(entry) => is_same_subprogram(entry.kind, kind) && count <= entry.slots,
         None => false,
     }

@@ -210,13 +210,9 @@ impl Kinds {
     pub fn is_default(&self, place: usize, masters: usize) -> bool
         ensures { IsTrue result ↔ ((level : ℕ) × (number : ℕ) × (level ≤ masters) × (slice_get self.now place ≡ Some (Default level number ∷ []))) }
     {
-        match self.before.get(place) {
-            Some(stack) => match self.stacks.top(*stack) {
-                Some((Kind::Default { level, .. }, below)) => level <= masters
-                    && self.stacks.top(below).is_none(),
-                _ => false,
-            },
-            None => false,
+        match self.alone_at(place) {
+            Some(Kind::Default { level, .. }) => level <= masters,
+            _ => false,
         }
     }
 
@@ -224,11 +220,19 @@ impl Kinds {
     pub fn default_at(&self, place: usize) -> Option<usize>
         ensures { MatchOption result ((level number : ℕ) → slice_get self.now place ≡ Some (Default level number ∷ []) → ⊥) (λ number. (level : ℕ) × (slice_get self.now place ≡ Some (Default level number ∷ []))) }
     {
+        match self.alone_at(place) {
+            Some(Kind::Default { number, .. }) => Some(number),
+            _ => None,
+        }
+    }
+
+    /// Answers what alone stands before the instruction at a place of the table; None where nothing does, or more.
+    fn alone_at(&self, place: usize) -> Option<Kind>
+        ensures { MatchOption result ((kind : Kind) → slice_get self.now place ≡ Some (kind ∷ []) → ⊥) (λ kind. slice_get self.now place ≡ Some (kind ∷ [])) }
+    {
         match self.before.get(place) {
             Some(stack) => match self.stacks.top(*stack) {
-                Some((Kind::Default { number, .. }, below)) if self.stacks.top(below).is_none() => {
-                    Some(number)
-                }
+                Some((kind, below)) if self.stacks.top(below).is_none() => Some(kind),
                 _ => None,
             },
             None => None,

@@ -11,6 +11,7 @@ ghost use Rattle.ctl_code.specs.Valid.{AreBegunBy, AreEvaluated, AreInScope, IsE
 
 use crate::around::{are_initials_within, are_operations_within};
 use crate::code::{Begun, Code, Initial, Layout, Parts};
+use crate::tables::{entry_at, operations_at};
 
 /// How many storage units a value of an elementary type takes (RM 13.3).
 const SCALAR_SIZE: usize = 8;
@@ -22,7 +23,7 @@ pub(crate) fn is_in_scope(code: &Code, masters: usize, number: Option<usize>) ->
     let Some(number) = number else {
         return true;
     };
-    match code.entries.get(number) {
+    match entry_at(code, number) {
         Some(entry) => entry.level <= masters,
         None => false,
     }
@@ -200,7 +201,7 @@ fn are_told_apart(code: &Code, layout: &Layout) -> bool
 fn are_in_scope(code: &Code, masters: usize, number: usize) -> bool
     ensures { IsTrue result ↔ AreInScope code.now masters number }
 {
-    match code.records.get(number) {
+    match operations_at(code, number) {
         Some(operations) => {
             is_in_scope(code, masters, operations.initialize)
                 && is_in_scope(code, masters, operations.finalize)
@@ -214,7 +215,7 @@ fn are_in_scope(code: &Code, masters: usize, number: usize) -> bool
 fn is_storage_in_scope(code: &Code, masters: usize, number: usize) -> bool
     ensures { IsTrue result ↔ IsStorageInScope code.now masters number }
 {
-    match code.records.get(number) {
+    match operations_at(code, number) {
         Some(operations) => {
             is_in_scope(code, masters, operations.allocate)
                 && is_in_scope(code, masters, operations.deallocate)

@@ -15,6 +15,7 @@ use crate::code::{Code, Initial, Instr, Layout};
 use crate::homes::{Declaration, Homes};
 use crate::kinds::MasterAt;
 use crate::layouts::default_of;
+use crate::tables::access_home;
 use ctl_program::types::{Ty, Var};
 use std::alloc::{AllocError, Global};
 
@@ -162,7 +163,7 @@ fn keep_collection(
 ) -> Result<bool, AllocError>
     ensures { IfOk result (λ raised. Raises (λ counts. HasCollection (with_counts counts code.now) (stack_at code.now.kinds place) access) homes.old homes.new raised) }
 {
-    let Some(home) = code.accesses.get(access) else {
+    let Some(home) = access_home(code, access) else {
         return Ok(false);
     };
     let first = keep_variable(code, homes, place, home.collection)?;

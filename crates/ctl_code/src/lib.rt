@@ -14,6 +14,7 @@ mod layouts;
 pub mod least;
 mod pools;
 mod stacks;
+mod tables;
 pub mod template;
 mod types;
 pub mod validate;
