@@ -1,6 +1,6 @@
 //! Whether this version runs each construct of a checked program.
 
-ghost use Rattle.std.specs.Prelude.{◌≡◌, ◌&&◌, ℕ, List, [], ◌∷◌, is_some, map, option_map, slice_get, IfOk, None, Some};
+ghost use Rattle.std.specs.Prelude.{◌≡◌, ℕ, List, [], ◌∷◌, is_some, map, option_map, slice_get, IfOk, None, Some};
 ghost use Rattle.ctl_program.specs.declared.types.RecordType.{RecordType};
 ghost use Rattle.ctl_program.specs.declared.types.Var.{Var};
 ghost use Rattle.ctl_layout.specs.Around.{among, deeper};
@@ -594,15 +594,17 @@ fn statement(statement: &Stmt, table: &Table, masters: usize) -> Result<bool, Al
         Stmt::Exit(condition) => Ok(is_exit(condition, table)),
         Stmt::Return(value) => Ok(is_return(value, table)),
         Stmt::Call(_, actuals) => Ok(are_actuals(actuals.as_slice(), table)),
-        Stmt::If(arms, otherwise) => {
-            if !conditional(arms.as_slice(), table, masters)? {
-                return Ok(false);
-            }
-            statements(otherwise.as_slice(), table, masters)
-        }
+        Stmt::If(arms, otherwise) => Ok(
+            conditional(arms.as_slice(), table, masters)?
+                && statements(otherwise.as_slice(), table, masters)?,
+        ),
         Stmt::Loop(body) => statements(body.as_slice(), table, masters),
-        Stmt::While(test, body) => guarded(body.as_slice(), test, table, masters),
-        Stmt::For(_, _, low, high, body) => counted(body.as_slice(), low, high, table, masters),
+        Stmt::While(test, body) => {
+            Ok(value(test, table) && statements(body.as_slice(), table, masters)?)
+        }
+        Stmt::For(_, _, low, high, body) => Ok(
+            value(low, table) && value(high, table) && statements(body.as_slice(), table, masters)?,
+        ),
         Stmt::Block(inside) => master(inside.get(), table, masters),
         Stmt::Free(_, name) => Ok(is_freed(name, table)),
         Stmt::LibraryAllocate(pool, address, size, alignment) => {
@@ -629,41 +631,13 @@ fn statements(statements: &[Stmt], table: &Table, masters: usize) -> Result<bool
     Ok(true)
 }
 
-/// Tells whether statements are run, inside so many masters, and the value that stands before them.
-#[cycle(statements)]
-fn guarded(body: &[Stmt], test: &Expr, table: &Table, masters: usize) -> Result<bool, AllocError>
-    ensures { IfOk result (λ runs. runs ≡ ((values.value_code test.now).runs table.now.records.now && (spec.all (map spec.statement_code body.now)).runs (among table.now.records.now masters))) }
-{
-    if !value(test, table) {
-        return Ok(false);
-    }
-    statements(body, table, masters)
-}
-
-/// Tells whether statements are run, inside so many masters, and the bounds that stand before them.
-#[cycle(statements)]
-fn counted(
-    body: &[Stmt],
-    low: &Expr,
-    high: &Expr,
-    table: &Table,
-    masters: usize,
-) -> Result<bool, AllocError>
-    ensures { IfOk result (λ runs. runs ≡ ((values.value_code low.now).runs table.now.records.now && ((values.value_code high.now).runs table.now.records.now && (spec.all (map spec.statement_code body.now)).runs (among table.now.records.now masters)))) }
-{
-    if !value(low, table) {
-        return Ok(false);
-    }
-    guarded(body, high, table, masters)
-}
-
 /// Tells whether an arm is run, inside so many masters.
 #[cycle(statements)]
 #[tactic(auto, unfolding(crate::specs::Layout::statement_code, crate::specs::Layout::arm_code))]
 fn arm(arm: &Arm, table: &Table, masters: usize) -> Result<bool, AllocError>
     ensures { IfOk result (λ runs. runs ≡ spec.arms_run (spec.arm_code arm.now ∷ []) (among table.now.records.now masters)) }
 {
-    guarded(arm.body.as_slice(), &arm.test, table, masters)
+    Ok(value(&arm.test, table) && statements(arm.body.as_slice(), table, masters)?)
 }
 
 /// Tells whether arms are run, inside so many masters.
@@ -695,10 +669,7 @@ fn has_choice(choices: &Choices) -> bool
 fn handler(handler: &Handler, table: &Table, masters: usize) -> Result<bool, AllocError>
     ensures { IfOk result (λ runs. runs ≡ spec.handlers_run (spec.handler_code handler.now ∷ []) (among table.now.records.now masters)) }
 {
-    if !has_choice(&handler.choices) {
-        return Ok(false);
-    }
-    statements(handler.body.as_slice(), table, masters)
+    Ok(has_choice(&handler.choices) && statements(handler.body.as_slice(), table, masters)?)
 }
 
 /// Tells whether handlers are run, inside so many masters.
@@ -722,11 +693,9 @@ fn master(inside: &Master, table: &Table, around: usize) -> Result<bool, AllocEr
     ensures { IfOk result (λ runs. runs ≡ (spec.master_code inside.now).inside.runs (deeper (among table.now.records.now around))) }
 {
     let masters = around.checked_add(1).ok_or(AllocError)?;
-    if !items(table, inside.items.as_slice()) {
-        return Ok(false);
-    }
-    if !statements(inside.body.as_slice(), table, masters)? {
-        return Ok(false);
-    }
-    handlers(inside.handlers.as_slice(), table, masters)
+    Ok(
+        items(table, inside.items.as_slice())
+            && statements(inside.body.as_slice(), table, masters)?
+            && handlers(inside.handlers.as_slice(), table, masters)?,
+    )
 }
