@@ -1,5 +1,7 @@
--- What is judged from two parts.
-use Rattle.std.proofs.Common.{◌≡◌, refl, sym, ap, ◌∙◌, Option, Some, None}
+-- What is judged from two parts, and what stands behind the first actual.
+use Rattle.std.proofs.Common.{arith, ◌≡◌, refl, sym, ap, ◌∙◌, true, List, [], ◌∷◌, length, Option, Some, None}
+use Rattle.std.proofs.lemmas.Bool.{eqb-true}
+use Rattle.std.specs.Bool.{◌==◌}
 use Rattle.std.specs.Option.{option_zip}
 use Rattle.ctl_typing.specs.Judgement.{Judging, with_known, ◌>>=◌, paired, beside, both, following, then_beside}
 
@@ -19,3 +21,8 @@ zipped_then p q f n m k a b r s first second zip is = both_then p q f n m k a r 
 -- of which the second is judged by what is known of the first
 pub following_then : {S A B C : Type 0} (p : Judging S A) (g : Option A → Judging S B) (f : A × B → Judging S C) (n m k : S) (a : Option A) (b : Option B) → p n ≡ (a, m) → g a m ≡ (b, k) → (following p g >>= f) n ≡ with_known f (paired a (b, k))
 following_then p g f n m k a b first second = ap (with_known f) (ap (then_beside g) first ∙ ap (paired a) second)
+
+-- a first actual alone
+pub none_more : {A : Type 0} (xs : List A) → (length xs == 0) ≡ true → xs ≡ []
+none_more [] h = refl
+none_more (x ∷ xs) h = absurd (omega (arith, eqb-true (length (x ∷ xs)) 0 h))

@@ -1,17 +1,12 @@
-use Rattle.std.proofs.Common.{arith, ◌≡◌, refl, sym, ap, ◌∙◌, true, List, [], ◌∷◌, length, map, Some}
-use Rattle.std.proofs.lemmas.Bool.{eqb-true}
-use Rattle.std.specs.Bool.{◌==◌}
+use Rattle.std.proofs.Common.{sym, ap, ◌∙◌, ◌∷◌, map, Some}
 use Rattle.std.specs.Option.{option_copied}
 use Rattle.std.specs.List.{slice_get}
 use Rattle.ctl_typing.specs.Typing.{sense}
 use Rattle.ctl_typing.specs.declared.table.Entry.TheVariants as entry
 use Rattle.ctl_typing.proofs.Stages.{judged_as}
 use Rattle.ctl_statements.specs.Statements as spec
+use Rattle.ctl_statements.proofs.Stages.{none_more}
 use Rattle.ctl_statements.proofs.calls.declared_with.Goals as goal
-
-none_more : {A : Type 0} (xs : List A) → (length xs == 0) ≡ true → xs ≡ []
-none_more [] h = refl
-none_more (x ∷ xs) h = absurd (omega (arith, eqb-true (length (x ∷ xs)) 0 h))
 
 pub returns-in-Some-Subprogram : goal.returns-in-Some-Subprogram
 returns-in-Some-Subprogram c =
