@@ -1,1 +1,2 @@
 pub mod Profiles
+mod Yielded

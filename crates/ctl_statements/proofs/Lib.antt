@@ -1,1 +1,2 @@
+mod Stages
 pub mod Threes

@@ -218,7 +218,9 @@ fn library_allocate(
     let written = pool_and_variable(alloc, tables, ty, pool, address, notes)?;
     let measures = measures(alloc, tables, size, alignment, notes)?;
     match written.zip(measures) {
-        Some(((pool, address), (size, alignment))) => {
+        Some((written, measures)) => {
+            let (pool, address) = written;
+            let (size, alignment) = measures;
             Ok(Some(Stmt::LibraryAllocate(pool, address, size, alignment)))
         }
         None => Ok(None),
@@ -240,7 +242,9 @@ fn library_deallocate(
 {
     let read = pool_and_address(alloc, tables, ty, pool, address, notes)?;
     match paired_with(read, measures(alloc, tables, size, alignment, notes))? {
-        Some(((pool, address), (size, alignment))) => {
+        Some((read, measures)) => {
+            let (pool, address) = read;
+            let (size, alignment) = measures;
             Ok(Some(Stmt::LibraryDeallocate(pool, address, size, alignment)))
         }
         None => Ok(None),

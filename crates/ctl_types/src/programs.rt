@@ -1,14 +1,16 @@
 //! The checked program, of what was checked.
 
-ghost use Rattle.std.specs.Prelude.{◌≡◌, IfOk, reverse, slice_get};
+ghost use Rattle.std.specs.Prelude.{◌≡◌, IfOk, option_map, reverse, slice_get};
+ghost use Rattle.std.specs.Option.{option_zip};
 ghost use Rattle.ctl_types.specs.Elaboration as spec;
 ghost use Rattle.ctl_types.specs.Parts as part;
 
 use ctl_draft::draft::{Draft, Routine};
 use ctl_program::program::{Checked, Subprogram};
 use ctl_program::types::{AccessType, Component, RecordType, Var};
+use ctl_tree::text::Text;
 use ctl_typing::operators::appended;
-use ctl_typing::table::{AccessEntry, Designated, RecordEntry, RecordState};
+use ctl_typing::table::{AccessEntry, Designated, RecordEntry, RecordState, Tables};
 use sqlite_items::Items;
 use std::alloc::{AllocError, Global};
 
@@ -182,25 +184,79 @@ fn components_known(
     components_of(alloc, turned(alloc, components)?)
 }
 
-/// Makes the program of what was checked, where all is known.
-pub fn checked_of(alloc: Global, draft: Draft) -> Result<Option<Checked>, AllocError>
-    ensures { IfOk result (λ program. program ≡ spec.checked_of draft) }
+/// Makes the record types of the program, where the components of each are known.
+fn records_known(
+    alloc: Global,
+    tables: &Tables,
+    components: Items<Option<Items<Component>>>,
+) -> Result<Option<Items<RecordType>>, AllocError>
+    ensures { IfOk result (λ types. types ≡ option_map (spec.record_types tables.now.records tables.now.states.records) (spec.components_known components)) }
 {
-    let tables = draft.tables;
-    let Some(accesses) = access_types(alloc, tables.states.accesses.as_slice())? else {
-        return Ok(None);
-    };
-    let Some(subprograms) = subprograms(alloc, draft.subprograms)? else {
-        return Ok(None);
-    };
-    let Some(components) = components_known(alloc, draft.components)? else {
+    let Some(components) = components_known(alloc, components)? else {
         return Ok(None);
     };
     let entries = tables.records.as_slice();
     let states = tables.states.records.as_slice();
-    let records = record_types(alloc, entries, states, components)?;
+    Ok(Some(record_types(alloc, entries, states, components)?))
+}
+
+/// Makes the record types and the subprograms of the program, where all of them are known.
+fn members(
+    alloc: Global,
+    tables: &Tables,
+    components: Items<Option<Items<Component>>>,
+    routines: Items<Routine>,
+) -> Result<Option<(Items<RecordType>, Items<Subprogram>)>, AllocError>
+    ensures { IfOk result (λ all. all ≡ option_zip (option_map (spec.record_types tables.now.records tables.now.states.records) (spec.components_known components)) (spec.subprograms routines)) }
+{
+    let records = records_known(alloc, tables, components)?;
+    let subprograms = subprograms(alloc, routines)?;
+    Ok(records.zip(subprograms))
+}
+
+/// Makes the types and the subprograms of the program, where all of them are known; the tables go in one place.
+fn all_known(
+    alloc: Global,
+    tables: Tables,
+    components: Items<Option<Items<Component>>>,
+    routines: Items<Routine>,
+) -> Result<Option<((Items<RecordType>, Items<Subprogram>), Items<AccessType>)>, AllocError>
+    ensures { IfOk result (λ all. all ≡ option_zip (option_zip (option_map (spec.record_types tables.records tables.states.records) (spec.components_known components)) (spec.subprograms routines)) (spec.access_types tables.states.accesses)) }
+{
+    let members = members(alloc, &tables, components, routines);
+    let accesses = access_types(alloc, tables.states.accesses.as_slice());
+    drop(tables);
+    let members = members?;
+    Ok(members.zip(accesses?))
+}
+
+/// Keeps of a draft what a program is made of, and lets go of the rest.
+fn kept(
+    draft: Draft,
+) -> (
+    (Tables, Items<Text>),
+    (Items<Option<Items<Component>>>, Items<Routine>),
+)
+    ensures { result ≡ ((draft.tables, draft.exceptions), (draft.components, draft.subprograms)) }
+{
+    let tables = (draft.tables, draft.exceptions);
+    (tables, (draft.components, draft.subprograms))
+}
+
+/// Makes the program of what was checked, where all is known.
+pub fn checked_of(alloc: Global, draft: Draft) -> Result<Option<Checked>, AllocError>
+    ensures { IfOk result (λ program. program ≡ spec.checked_of draft) }
+{
+    let (tables, made) = kept(draft);
+    let (tables, exceptions) = tables;
+    let (components, routines) = made;
+    let Some(all) = all_known(alloc, tables, components, routines)? else {
+        return Ok(None);
+    };
+    let (members, accesses) = all;
+    let (records, subprograms) = members;
     Ok(Some(Checked {
-        exceptions: draft.exceptions,
+        exceptions,
         records,
         accesses,
         subprograms,

@@ -1,0 +1,14 @@
+-- What an item gives, of what was done before.
+use Rattle.std.proofs.Common.{◌≡◌, sym, ap, ◌∙◌, Result, Ok, Err}
+use Rattle.std.specs.Result.{IfOk}
+use Rattle.ctl_typing.specs.Judgement.{Yields}
+
+-- where its layers are made last
+pub yielded : {S A E : Type 0} (f : S → A × S) (a : A) (old new : S) (r : Result A E) → f old ≡ (a, new) → IfOk r (λ x. x ≡ a) → Yields f old r new
+yielded f a old new (Ok x) done is = done ∙ ap (λ y. (y, new)) (sym is)
+yielded f a old new (Err e) done is = tt
+
+-- where another gives the same from a later state
+pub yielded_as : {S A E : Type 0} (f g : S → A × S) (old mid new : S) (r : Result A E) → f old ≡ g mid → Yields g mid r new → Yields f old r new
+yielded_as f g old mid new (Ok a) same done = same ∙ done
+yielded_as f g old mid new (Err e) same done = tt
