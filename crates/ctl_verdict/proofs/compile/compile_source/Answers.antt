@@ -27,7 +27,7 @@ returns-clause-compiled c =
     let program = c.in_ok-program.program in
     let verdict = verdict_of source program c.in_ok-program.ensures in
     let typed = well_typed source program (answer_of source (Ok program) program verdict refl) in
-    is_code_of source program c.generate.result verdict c.generate.ensures.layout c.generate.ensures.behaves (runs_of source (Ok program) program verdict refl) (linked_of program typed)
+    is_code_of source program c.generate-code.result verdict c.generate-code.ensures.layout c.generate-code.ensures.behaves (runs_of source (Ok program) program verdict refl) (linked_of program typed)
 
 -- the check refuses the text for its fault, or for want of memory
 
@@ -53,15 +53,15 @@ returns-clause-faultless c = λ text.
     let source = c.args.source.now in
     let program = c.in_ok-program.program in
     let verdict = verdict_of source program c.in_ok-program.ensures in
-    c.generate.ensures.memory (runs_of source (Ok program) program verdict refl) (well_typed source program (answer_of source (Ok program) program verdict refl))
+    c.generate-code.ensures.memory (runs_of source (Ok program) program verdict refl) (well_typed source program (answer_of source (Ok program) program verdict refl))
 
 pub returns-clause-refused : goal.returns-clause-refused
 returns-clause-refused c =
     let source = c.args.source.now in
     let program = c.in_ok-program.program in
     let verdict = verdict_of source program c.in_ok-program.ensures in
-    IfErr-weaker c.generate.result IsMemory (λ fault. IsFaultOf source fault ⊎ IsMemory fault) (λ fault h. inr h)
-    (c.generate.ensures.memory (runs_of source (Ok program) program verdict refl) (well_typed source program (answer_of source (Ok program) program verdict refl)))
+    IfErr-weaker c.generate-code.result IsMemory (λ fault. IsFaultOf source fault ⊎ IsMemory fault) (λ fault h. inr h)
+    (c.generate-code.ensures.memory (runs_of source (Ok program) program verdict refl) (well_typed source program (answer_of source (Ok program) program verdict refl)))
 
 pub returns-clause-faulty : goal.returns-clause-faulty
 returns-clause-faulty c = λ fault has. absurd (not_accepted c.args.source.now fault c.in_ok-program.program has c.in_ok-program.ensures)
