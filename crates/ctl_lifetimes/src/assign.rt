@@ -246,7 +246,7 @@ fn resume_taking(
         end_assignment(engine, code, record, Value::Saved, stopped);
         return Ok(());
     }
-    let base = engine.next_window(code);
+    let base = engine.window() + code.kinds.height_at(place, 0);
     let doubles = double_part(engine, newest)?;
     engine.prepare_finalization(code, base)?;
     let assignment = Assignment {

@@ -173,7 +173,8 @@ fn finalize_layer(
 /// Takes out the newest layer of the newest master, which is left so, or closes the master with what it owned, where nothing that is
 /// owned below this place is a layer (RM 7.6.1). A layer is finalized if some part of it is controlled; else it stays as it is, and
 /// closes, if it is a pool (RM 13.11). Unchanged where memory is refused.
-#[inline(never)]
+// Into each place that leaves a master, where most of how it is left is known.
+#[inline(always)]
 pub fn next_layer(
     engine: &mut Engine,
     code: &Code,
