@@ -330,28 +330,28 @@ instance = act (λ v. pair (first v) (part_2 v)) (behind kinds.New ▸ nest Asso
 
 -- ---- statements
 
-unfoldable pub null_statement : Form
+abbrev pub null_statement : Form
 null_statement = act (λ v. pair (first v) (tag labels.NullStatement none)) (spot kinds.Null ▸ word kinds.Semicolon)
 
-unfoldable pub named_statement : Form
+abbrev pub named_statement : Form
 named_statement = act (λ v. assignment_of (first v) (part_2 v)) (name ▸ optional_value ▸ word kinds.Semicolon)
 
-unfoldable pub exit_condition : Form
+abbrev pub exit_condition : Form
 exit_condition = alt (act (λ v. pair none (second v)) (word kinds.When ▸ expression)) empty
 
-unfoldable pub exit_statement : Form
+abbrev pub exit_statement : Form
 exit_statement = act (λ v. pair (first v) (tag labels.Exit (part_2 v))) (spot kinds.Exit ▸ exit_condition ▸ word kinds.Semicolon)
 
-unfoldable pub returned : Form
+abbrev pub returned : Form
 returned = alt (act (λ v. pair none v) expression) empty
 
-unfoldable pub return_statement : Form
+abbrev pub return_statement : Form
 return_statement = act (λ v. pair (first v) (tag labels.Return (part_2 v))) (spot kinds.Return ▸ returned ▸ word kinds.Semicolon)
 
-unfoldable pub raised : Form
+abbrev pub raised : Form
 raised = alt (act (λ v. pair none v) dotted) empty
 
-unfoldable pub raise_statement : Form
+abbrev pub raise_statement : Form
 raise_statement = act (λ v. pair (first v) (tag labels.Raise (part_2 v))) (spot kinds.Raise ▸ raised ▸ word kinds.Semicolon)
 
 unfoldable pub while_scheme : Form

@@ -208,7 +208,7 @@ impl<'a> Parser<'a> {
     }
 
     /// Tells whether a statement is next.
-    #[tactic(auto, unfolding(ctl_grammar::specs::Grammar::statement, ctl_grammar::specs::Grammar::null_statement, ctl_grammar::specs::Grammar::named_statement, ctl_grammar::specs::Grammar::exit_statement, ctl_grammar::specs::Grammar::return_statement, ctl_grammar::specs::Grammar::raise_statement, ctl_grammar::specs::Grammar::name, ctl_grammar::specs::Grammar::identifier))]
+    #[tactic(auto, unfolding(ctl_grammar::specs::Grammar::statement, ctl_grammar::specs::Grammar::name, ctl_grammar::specs::Grammar::identifier))]
     pub(crate) fn at_statement(&self) -> bool
         ensures { result ≡ sees (starts statement) self.now }
     {

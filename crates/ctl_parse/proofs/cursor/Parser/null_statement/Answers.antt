@@ -1,5 +1,4 @@
 use Rattle.ctl_grammar.specs.Form.{none, pair, tag}
-use Rattle.ctl_grammar.specs.Grammar.{null_statement}
 use Rattle.ctl_grammar.specs.Label as labels
 use Rattle.ctl_grammar.specs.Nodes.{first}
 use Rattle.ctl_parse.proofs.Keeping.{paired}
@@ -9,5 +8,4 @@ use Rattle.std.proofs.Common.{refl}
 use Rattle.ctl_parse.proofs.cursor.Parser.null_statement.Goals as goal
 
 pub returns : goal.returns
-unfolding null_statement
 returns c = being (view_pass _) (making (λ v. pair (first v) (tag labels.NullStatement none)) (λ v. paired (kept_first v) refl) (then c.mark-span.ensures c.skip.ensures))

@@ -1,5 +1,4 @@
 use Rattle.ctl_grammar.specs.Form.{pair, tag}
-use Rattle.ctl_grammar.specs.Grammar.{return_statement}
 use Rattle.ctl_grammar.specs.Label as labels
 use Rattle.ctl_grammar.specs.Nodes.{first, part_2}
 use Rattle.ctl_parse.proofs.Keeping.{kept_part_2, paired}
@@ -9,5 +8,4 @@ use Rattle.std.proofs.Common.{ap}
 use Rattle.ctl_parse.proofs.cursor.Parser.return_statement.Goals as goal
 
 pub returns : goal.returns
-unfolding return_statement
 returns c = being (view_return _ _) (making (λ v. pair (first v) (tag labels.Return (part_2 v))) (λ v. paired (kept_first v) (ap (tag labels.Return) (kept_part_2 v))) (then c.mark-span.ensures (then c.returned-value.ensures c.skip.ensures)))
