@@ -76,6 +76,7 @@ impl<'a> Parser<'a> {
 
     /// Reads a statement.
     #[cycle(statements)]
+    #[tactic(auto, using(crate::proofs::Steps::choosing, crate::proofs::Steps::passing), unfolding(ctl_grammar::specs::Grammar::statement, ctl_grammar::specs::Grammar::name, ctl_grammar::specs::Grammar::identifier))]
     fn statement(&mut self) -> Statement<Identifier, Identifier>
         ensures { Reads statement none self.old (view_statement result) self.new }
     {

@@ -32,38 +32,6 @@ pub statements-returns : goal.statements-returns
 unfolding statements statement name identifier
 statements-returns t c = gathered c.more.invariant (sym c.at_statement.ensures ∙ c.more-test.false)
 
-pub statement-returns-then-next_is : goal.statement-returns-then-next_is
-unfolding statement name identifier
-statement-returns-then-next_is t c = choosing (sym c.next_is.ensures ∙ c.if-next_is.true) (c.null_statement.ensures)
-
-pub statement-returns-then-next_is-2 : goal.statement-returns-then-next_is-2
-unfolding statement name identifier
-statement-returns-then-next_is-2 t c = passing (sym c.next_is.ensures ∙ c.if-next_is.false) (choosing (sym c.next_is-else-next_is.ensures ∙ c.if-next_is-2.true) (c.named_statement.ensures))
-
-pub statement-returns-then-next_is-3 : goal.statement-returns-then-next_is-3
-unfolding statement name identifier
-statement-returns-then-next_is-3 t c = passing (sym c.next_is.ensures ∙ c.if-next_is.false) (passing (sym c.next_is-else-next_is.ensures ∙ c.if-next_is-2.false) (choosing (sym c.next_is-else-next_is-2.ensures ∙ c.if-next_is-3.true) (c.exit_statement.ensures)))
-
-pub statement-returns-then-next_is-4 : goal.statement-returns-then-next_is-4
-unfolding statement name identifier
-statement-returns-then-next_is-4 t c = passing (sym c.next_is.ensures ∙ c.if-next_is.false) (passing (sym c.next_is-else-next_is.ensures ∙ c.if-next_is-2.false) (passing (sym c.next_is-else-next_is-2.ensures ∙ c.if-next_is-3.false) (choosing (sym c.next_is-else-next_is-3.ensures ∙ c.if-next_is-4.true) (c.return_statement.ensures))))
-
-pub statement-returns-then-next_is-5 : goal.statement-returns-then-next_is-5
-unfolding statement name identifier
-statement-returns-then-next_is-5 t c = passing (sym c.next_is.ensures ∙ c.if-next_is.false) (passing (sym c.next_is-else-next_is.ensures ∙ c.if-next_is-2.false) (passing (sym c.next_is-else-next_is-2.ensures ∙ c.if-next_is-3.false) (passing (sym c.next_is-else-next_is-3.ensures ∙ c.if-next_is-4.false) (choosing (sym c.next_is-else-next_is-4.ensures ∙ c.if-next_is-5.true) (c.raise_statement.ensures)))))
-
-pub statement-returns-then-next_is-6 : goal.statement-returns-then-next_is-6
-unfolding statement name identifier
-statement-returns-then-next_is-6 t c = passing (sym c.next_is.ensures ∙ c.if-next_is.false) (passing (sym c.next_is-else-next_is.ensures ∙ c.if-next_is-2.false) (passing (sym c.next_is-else-next_is-2.ensures ∙ c.if-next_is-3.false) (passing (sym c.next_is-else-next_is-3.ensures ∙ c.if-next_is-4.false) (passing (sym c.next_is-else-next_is-4.ensures ∙ c.if-next_is-5.false) (choosing (sym c.next_is-else-next_is-5.ensures ∙ c.if-next_is-6.true) (c.conditional.ensures))))))
-
-pub statement-returns-then-at_repetition : goal.statement-returns-then-at_repetition
-unfolding statement name identifier
-statement-returns-then-at_repetition t c = passing (sym c.next_is.ensures ∙ c.if-next_is.false) (passing (sym c.next_is-else-next_is.ensures ∙ c.if-next_is-2.false) (passing (sym c.next_is-else-next_is-2.ensures ∙ c.if-next_is-3.false) (passing (sym c.next_is-else-next_is-3.ensures ∙ c.if-next_is-4.false) (passing (sym c.next_is-else-next_is-4.ensures ∙ c.if-next_is-5.false) (passing (sym c.next_is-else-next_is-5.ensures ∙ c.if-next_is-6.false) (choosing (sym c.at_repetition.ensures ∙ c.if-at_repetition.true) (c.repetition.ensures)))))))
-
-pub statement-returns-else-at_repetition : goal.statement-returns-else-at_repetition
-unfolding statement name identifier
-statement-returns-else-at_repetition t c = passing (sym c.next_is.ensures ∙ c.if-next_is.false) (passing (sym c.next_is-else-next_is.ensures ∙ c.if-next_is-2.false) (passing (sym c.next_is-else-next_is-2.ensures ∙ c.if-next_is-3.false) (passing (sym c.next_is-else-next_is-3.ensures ∙ c.if-next_is-4.false) (passing (sym c.next_is-else-next_is-4.ensures ∙ c.if-next_is-5.false) (passing (sym c.next_is-else-next_is-5.ensures ∙ c.if-next_is-6.false) (passing (sym c.at_repetition.ensures ∙ c.if-at_repetition.false) (c.block.ensures)))))))
-
 pub conditional-returns-then-open : goal.conditional-returns-then-open
 conditional-returns-then-open t c = nesting c.next_is-is_next.ensures (c.open.ensures.opened c.if-open.true) c.in_conditional-inside.ensures c.close.ensures.left (ap (λ r. r.now) c.close.ensures.rest) c.close.ensures.fault
 
