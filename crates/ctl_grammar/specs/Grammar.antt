@@ -378,8 +378,12 @@ end_if = act (λ v. none) (word kinds.End ▸ word kinds.If ▸ word kinds.Semic
 unfoldable pub end_loop : Form
 end_loop = act (λ v. none) (word kinds.End ▸ word kinds.Loop ▸ word kinds.Semicolon)
 
+-- a statement that holds no other (5.1)
+unfoldable pub simple_statement : Form
+simple_statement = alt null_statement (alt named_statement (alt exit_statement (alt return_statement raise_statement)))
+
 unfoldable pub statement : Form
-statement = alt (null_statement) (alt (named_statement) (alt (exit_statement) (alt (return_statement) (alt (raise_statement) (alt (nest Conditional) (alt (nest Repetition) (nest Block)))))))
+statement = alt simple_statement (alt (nest Conditional) (alt (nest Repetition) (nest Block)))
 
 unfoldable pub statements : Form
 statements = statement ▸ many statement

@@ -1,6 +1,6 @@
 use Rattle.ctl_grammar.proofs.Late.{function_here, function_past, procedure_here, procedure_past, specification_here, specification_past}
 use Rattle.ctl_grammar.specs.Form.{at, leaf, none, pair, tag, written}
-use Rattle.ctl_grammar.specs.Grammar.{behind, behind_is, behind_name, body, branch, branches, clause, completed, completed_function, completed_procedure, completed_specification, completion, declared, end_name, function, function_item, handled, handler, handler_list, handlers, identifier, identifiers, instance, item, name, named_item, next_branch, otherwise, overriding_item, part, procedure_item, statement, statements, type_item}
+use Rattle.ctl_grammar.specs.Grammar.{behind, behind_is, behind_name, body, branch, branches, clause, completed, completed_function, completed_procedure, completed_specification, completion, declared, end_name, function, function_item, handled, handler, handler_list, handlers, identifier, identifiers, instance, item, name, named_item, next_branch, otherwise, overriding_item, part, procedure_item, simple_statement, statement, statements, type_item}
 use Rattle.ctl_grammar.specs.Label as labels
 use Rattle.ctl_grammar.specs.Nodes.{behind_2, behind_3, first, identifier_of, no, or_else, part_2, part_2_letters, part_3, part_5, procedure_of, row_of, second, yes}
 use Rattle.ctl_grammar.specs.Reading.{read}
@@ -17,19 +17,19 @@ use Rattle.std.proofs.Common.{ap, map, refl, subst, sym, ◌∙◌}
 use Rattle.ctl_parse.proofs.cursor.Parser.+statements.Goals as goal
 
 pub statements-more-init : goal.statements-more-init
-unfolding statements statement name identifier
+unfolding statements statement simple_statement name identifier
 statements-more-init t c = beginning_pushed view_statement c.statement-first.ensures (subst (λ b. Appends b c.statement-first.result c.push.new.all c.statement-first.new.self c.push.new.self) c.new-all.ensures c.push.ensures)
 
 pub statements-more-smaller : goal.statements-more-smaller
-unfolding statements statement name identifier
+unfolding statements statement simple_statement name identifier
 statements-more-smaller t c = smaller refl (sym c.at_statement.ensures ∙ c.more-test.true) c.statement-next.ensures c.push-in-more.ensures
 
 pub statements-more-preserved : goal.statements-more-preserved
-unfolding statements statement name identifier
+unfolding statements statement simple_statement name identifier
 statements-more-preserved t c = gathering view_statement c.more.invariant refl (sym c.at_statement.ensures ∙ c.more-test.true) c.statement-next.ensures c.push-in-more.ensures
 
 pub statements-returns : goal.statements-returns
-unfolding statements statement name identifier
+unfolding statements statement simple_statement name identifier
 statements-returns t c = gathered c.more.invariant (sym c.at_statement.ensures ∙ c.more-test.false)
 
 pub conditional-returns-then-open : goal.conditional-returns-then-open
