@@ -50,7 +50,7 @@ use Rattle.ctl_statements.specs.Statements as simple
 use Rattle.ctl_well_typed.specs.Setting.{LoopParameter, loop_parameter, Frames, Names, Setting, InView}
 use Rattle.ctl_well_typed.specs.Expressions.{Typed, left_out, given}
 use Rattle.ctl_well_typed.specs.Statements as rule
-use Rattle.ctl_well_typed.specs.Statements.{inside_loop, inside_handler, Done, DoneEach, GuardedEach, HandledEach, Raised, Chosen}
+use Rattle.ctl_well_typed.specs.Statements.{Done, DoneEach, GuardedEach, HandledEach, Raised, Chosen}
 use Rattle.ctl_sound.specs.Known.{IfSome, All, Gives}
 use Rattle.ctl_sound.specs.Sound.{Sound}
 use Rattle.ctl_sound.proofs.Known.{next}
