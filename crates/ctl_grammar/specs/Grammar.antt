@@ -6,6 +6,7 @@ use Rattle.ctl_syntax.specs.declared.operators.LogicalOperator.{LogicalOperator}
 use Rattle.ctl_syntax.specs.declared.operators.LogicalOperator.TheVariants as operators
 use Rattle.ctl_grammar.specs.Spelling.{same_name}
 use Rattle.ctl_grammar.specs.Form.{none, pair, tag, Nest, Enclosed, Arguments, Handle, Formals, Associations, Conditional, Repetition, Block, Body, BareBody, Known, Ends, Form, word, keep, tested, empty, within, alt, when, many, act, late, nest, ◌▸◌}
+use Rattle.ctl_grammar.specs.Label.{Label}
 use Rattle.ctl_grammar.specs.Label as labels
 use Rattle.ctl_grammar.specs.Nodes.{alone, first, second, part_2, part_3, part_4, part_5, behind_2, behind_3, behind_4, behind_5, place, letters, or_else, identifier_of, yes, no, number_of, string_of, null_of, name_of, parentheses_of, unary_of, product_of, sum_of, relation_of, logical_of, allocator_of, selector_of, all_of_access, arguments_of, access_of, attribute_of, is_bare, association_of, assignment_of, procedure_of, part_2_letters}
 
@@ -330,29 +331,33 @@ instance = act (λ v. pair (first v) (part_2 v)) (behind kinds.New ▸ nest Asso
 
 -- ---- statements
 
-unfoldable pub null_statement : Form
+abbrev pub null_statement : Form
 null_statement = act (λ v. pair (first v) (tag labels.NullStatement none)) (spot kinds.Null ▸ word kinds.Semicolon)
 
-unfoldable pub named_statement : Form
+abbrev pub named_statement : Form
 named_statement = act (λ v. assignment_of (first v) (part_2 v)) (name ▸ optional_value ▸ word kinds.Semicolon)
 
-unfoldable pub exit_condition : Form
+-- a transfer of control: its word, and what may stand behind it
+abbrev pub transfer : Label → Kind → Form → Form
+transfer label leading rest = act (λ v. pair (first v) (tag label (part_2 v))) (spot leading ▸ rest ▸ word kinds.Semicolon)
+
+abbrev pub exit_condition : Form
 exit_condition = alt (act (λ v. pair none (second v)) (word kinds.When ▸ expression)) empty
 
-unfoldable pub exit_statement : Form
-exit_statement = act (λ v. pair (first v) (tag labels.Exit (part_2 v))) (spot kinds.Exit ▸ exit_condition ▸ word kinds.Semicolon)
+abbrev pub exit_statement : Form
+exit_statement = transfer labels.Exit kinds.Exit exit_condition
 
-unfoldable pub returned : Form
+abbrev pub returned : Form
 returned = alt (act (λ v. pair none v) expression) empty
 
-unfoldable pub return_statement : Form
-return_statement = act (λ v. pair (first v) (tag labels.Return (part_2 v))) (spot kinds.Return ▸ returned ▸ word kinds.Semicolon)
+abbrev pub return_statement : Form
+return_statement = transfer labels.Return kinds.Return returned
 
-unfoldable pub raised : Form
+abbrev pub raised : Form
 raised = alt (act (λ v. pair none v) dotted) empty
 
-unfoldable pub raise_statement : Form
-raise_statement = act (λ v. pair (first v) (tag labels.Raise (part_2 v))) (spot kinds.Raise ▸ raised ▸ word kinds.Semicolon)
+abbrev pub raise_statement : Form
+raise_statement = transfer labels.Raise kinds.Raise raised
 
 unfoldable pub while_scheme : Form
 while_scheme = act (λ v. pair (first v) (tag labels.While (second v))) (spot kinds.While ▸ expression)
@@ -373,8 +378,12 @@ end_if = act (λ v. none) (word kinds.End ▸ word kinds.If ▸ word kinds.Semic
 unfoldable pub end_loop : Form
 end_loop = act (λ v. none) (word kinds.End ▸ word kinds.Loop ▸ word kinds.Semicolon)
 
+-- a statement that holds no other (5.1)
+unfoldable pub simple_statement : Form
+simple_statement = alt null_statement (alt named_statement (alt exit_statement (alt return_statement raise_statement)))
+
 unfoldable pub statement : Form
-statement = alt (null_statement) (alt (named_statement) (alt (exit_statement) (alt (return_statement) (alt (raise_statement) (alt (nest Conditional) (alt (nest Repetition) (nest Block)))))))
+statement = alt simple_statement (alt (nest Conditional) (alt (nest Repetition) (nest Block)))
 
 unfoldable pub statements : Form
 statements = statement ▸ many statement

@@ -26,5 +26,5 @@ pub fn is_left_out(kind: Kind) -> bool
     ensures { result ≡ is_left_out kind }
 {
     let code = code_of(kind);
-    67 <= code && code <= 97
+    code_of(Kind::Abort) <= code && code < code_of(Kind::Finish)
 }

@@ -5,18 +5,22 @@ use Rattle.ctl_tree.specs.declared.token.Token.{Token}
 use Rattle.ctl_grammar.specs.declared.refused.Refused.{Refused}
 use Rattle.ctl_grammar.specs.declared.refused.Refused.TheVariants as refused
 use Rattle.ctl_grammar.specs.declared.refused.Reason.TheVariants.{TooDeep}
-use Rattle.ctl_grammar.specs.Form.{Node, none, pair, Form, within, when, act, late, ◌▸◌, starts}
-use Rattle.ctl_grammar.specs.Grammar.{apart}
-use Rattle.ctl_grammar.specs.Nodes.{second}
+use Rattle.ctl_tree.specs.declared.token.Kind.{Kind}
+use Rattle.ctl_tree.specs.declared.token.Kind.TheVariants.{Semicolon}
+use Rattle.ctl_grammar.specs.Form.{Node, none, pair, tag, Form, word, within, when, act, late, ◌▸◌, starts}
+use Rattle.ctl_grammar.specs.Grammar.{apart, spot, transfer}
+use Rattle.ctl_grammar.specs.Label.{Label}
+use Rattle.ctl_grammar.specs.Nodes.{first, second, part_2}
 use Rattle.ctl_grammar.specs.Reading.{Read, ◌>>=◌, begins, read, reader, nowhere, is_read, is_ahead, starts_too_deep}
 use Rattle.ctl_parse.specs.declared.cursor.Parser.{Parser}
-use Rattle.ctl_parse.specs.Kept.{kept, kept_read}
+use Rattle.ctl_parse.specs.Kept.{kept, kept_parts, kept_read}
 use Rattle.ctl_parse.specs.Reads.{Reads, Gave, Goes, Bounded, Bounds, Foreseen, is_sound, sees}
 use Rattle.ctl_parse.specs.declared.depth.Heading.{Heading}
 use Rattle.ctl_parse.specs.declared.depth.Heading.TheVariants as headings
 use Rattle.ctl_parse.specs.Heading.{head_of}
 use Rattle.ctl_grammar.proofs.Late.{start_alike, start_of_function_alike, start_of_procedure_alike}
-use Rattle.ctl_parse.proofs.Steps.{same_parts, second_gave, making, kept_second, staying}
+use Rattle.ctl_parse.proofs.Keeping.{kept_part_2, paired}
+use Rattle.ctl_parse.proofs.Steps.{same_parts, second_gave, being, making, then, kept_first, kept_second, staying}
 
 -- ---- what was read before does not matter
 
@@ -63,6 +67,11 @@ inside {f} {g} {env} {other} {p} {q} {r} {a} {b} pick same h k = record {
 -- what stands apart from what was read before
 pub setting : {f : Form} {env : Node} {p q : Parser} {a : Node} → Reads f none p a q → Reads (apart f) env p a q
 setting {f} {env} {p} {q} {a} h = making second kept_second (inside (λ v. none) (λ v e left ts. refl) (staying p) h)
+
+-- ---- transfers of control
+
+pub transferring : {label : Label} {leading : Kind} {rest : Form} {p q r s : Parser} {place v w : Node} → ((n : Node) → kept_parts label n ≡ n) → w ≡ pair place (tag label v) → Reads (spot leading) none p place q → Reads rest none q v r → Reads (word Semicolon) none r none s → Reads (transfer label leading rest) none p w s
+transferring {label} whole is h i j = being is (making (λ v. pair (first v) (tag label (part_2 v))) (λ v. paired (kept_first v) (ap (tag label) (whole (kept (part_2 v)) ∙ kept_part_2 v))) (then h (then i j)))
 
 -- ---- what is there if what was read before allows it
 

@@ -4,7 +4,6 @@ use Rattle.std.specs.Prelude.{MatchOption}
 use Rattle.ctl_tree.specs.declared.span.Span.{Span}
 use Rattle.ctl_syntax.specs.declared.name.Identifier.{Identifier}
 use Rattle.ctl_syntax.specs.declared.name.Mark.{Mark}
-use Rattle.ctl_syntax.specs.declared.name.Name.{Name}
 use Rattle.ctl_syntax.specs.declared.expression.Expression.{Expression}
 use Rattle.ctl_syntax.specs.declared.item.Body.{Body, roll-Body, fold-roll-Body, fold_out-Body}
 use Rattle.ctl_syntax.specs.declared.item.Branch.{Branch}
@@ -13,40 +12,28 @@ use Rattle.ctl_syntax.specs.declared.item.Handler.{Handler}
 use Rattle.ctl_syntax.specs.declared.item.Item.{Item, roll-Item, fold-roll-Item}
 use Rattle.ctl_syntax.specs.declared.item.ItemKind.{ItemKind}
 use Rattle.ctl_syntax.specs.declared.item.ItemKind.TheVariants as item
-use Rattle.ctl_syntax.specs.declared.item.Statement.{Statement, fold_out-Statement}
+use Rattle.ctl_syntax.specs.declared.item.Statement.{Statement, out-Statement, map-Statement, fold_out-Statement}
+use Rattle.ctl_syntax.specs.declared.item.Statement.TheOpen.{Statement-F}
 use Rattle.ctl_syntax.specs.declared.item.Statement.TheVariants as s
-use Rattle.ctl_syntax.specs.declared.item.Statement.TheViews.{outs-Null, outs-Exit, outs-Return, outs-Raise, outs-RaiseAgain, outs-Assignment, outs-Call, outs-If, outs-Loop, outs-While, outs-For, outs-Block}
+use Rattle.ctl_syntax.specs.declared.item.Statement.TheViews.{outs-If, outs-Loop, outs-While, outs-For, outs-Block}
 use Rattle.ctl_grammar.specs.Form.{Node, none, pair, tag, at}
 use Rattle.ctl_grammar.specs.Label as labels
 use Rattle.ctl_grammar.specs.Nodes.{first, second, row_of}
 use Rattle.ctl_parse.specs.Kept.{aspect_part, completed_part}
 use Rattle.ctl_parse.specs.Parts.{view_statement, view_item, view_body, item_kind_node, aspect_node, branch_node, handler_node, choices_node, direction_node, completed_node, statement_step, body_step, item_step}
 use Rattle.ctl_parse.specs.Reads.{Builds, Refuses}
-use Rattle.ctl_parse.specs.View.{view, identifier_node, mark_node, name_node, optional}
+use Rattle.ctl_parse.specs.View.{view, identifier_node, mark_node, optional}
 use Rattle.ctl_parse.specs.declared.cursor.Parser.{Parser}
 use Rattle.ctl_parse.proofs.Parts.{built, unbuilt}
 use Rattle.ctl_parse.proofs.Views.{map_same, mapped}
 
-pub view_pass : (p : Span) → view_statement (s.Null p) ≡ pair (at p) (tag labels.NullStatement none)
-view_pass p = rw (fold_out-Statement, outs-Null p) refl
+-- one layer of a statement, with what each statement, body and item in it stands for
+abbrev viewed : Statement-F Identifier Identifier (Statement Identifier Identifier) (Body Identifier Identifier) (Item Identifier Identifier) → Statement-F Identifier Identifier Node Node Node
+viewed y = map-Statement Identifier Identifier (Statement Identifier Identifier) (Body Identifier Identifier) (Item Identifier Identifier) Node Node Node view_statement view_body view_item y
 
-pub view_exit : (p : Span) (x : Option (Expression Identifier)) → view_statement (s.Exit p x) ≡ pair (at p) (tag labels.Exit (optional view x))
-view_exit p x = rw (fold_out-Statement, outs-Exit p x) refl
-
-pub view_return : (p : Span) (x : Option (Expression Identifier)) → view_statement (s.Return p x) ≡ pair (at p) (tag labels.Return (optional view x))
-view_return p x = rw (fold_out-Statement, outs-Return p x) refl
-
-pub view_raise : (p : Span) (m : Mark Identifier) → view_statement (s.Raise p m) ≡ pair (at p) (tag labels.Raise (pair none (mark_node m)))
-view_raise p m = rw (fold_out-Statement, outs-Raise p m) refl
-
-pub view_raise_again : (p : Span) → view_statement (s.RaiseAgain p) ≡ pair (at p) (tag labels.Raise none)
-view_raise_again p = rw (fold_out-Statement, outs-RaiseAgain p) refl
-
-pub view_assignment : (p : Span) (n : Name Identifier (Expression Identifier)) (x : Expression Identifier) → view_statement (s.Assignment p n x) ≡ pair (at p) (tag labels.Assignment (pair (name_node view n) (view x)))
-view_assignment p n x = rw (fold_out-Statement, outs-Assignment p n x) refl
-
-pub view_call : (p : Span) (n : Name Identifier (Expression Identifier)) → view_statement (s.Call p n) ≡ pair (at p) (tag labels.Call (name_node view n))
-view_call p n = rw (fold_out-Statement, outs-Call p n) refl
+-- a statement, by its layer
+pub view_layer : (x : Statement Identifier Identifier) {y : Statement-F Identifier Identifier (Statement Identifier Identifier) (Body Identifier Identifier) (Item Identifier Identifier)} → out-Statement Identifier Identifier x ≡ y → view_statement x ≡ statement_step (viewed y)
+view_layer x is = fold_out-Statement Identifier Identifier Node Node Node statement_step body_step item_step x ∙ ap (λ y. statement_step (viewed y)) is
 
 pub view_of_item : (p : Span) (k : ItemKind Identifier Identifier (Body Identifier Identifier)) → view_item (roll-Item Identifier Identifier (record { span = p; kind = k })) ≡ pair (at p) (item_kind_node view_body k)
 view_of_item p (item.Declaration x) = rw fold-roll-Item refl

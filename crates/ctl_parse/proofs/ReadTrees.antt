@@ -26,7 +26,8 @@ use Rattle.ctl_parse.specs.Kept.{kept_program}
 use Rattle.ctl_parse.specs.Parts.{branch_node, handler_node, item_kind_node, direction_node, view_statement, view_body, view_item, context_node, tree_node}
 use Rattle.ctl_parse.specs.Read.{size, row_in, read_optional, read_expression, read_branch, read_handler, read_statement_below, read_body_below, read_item_below, read_body, read_context, read_tree, SpellsOneTree}
 use Rattle.ctl_parse.specs.View.{optional, identifier_node, name_node, view}
-use Rattle.ctl_parse.proofs.PartViews.{view_pass, view_assignment, view_call, view_exit, view_return, view_raise, view_raise_again, view_if, view_loop, view_while, view_for, view_block, view_of_body, view_of_item}
+use Rattle.ctl_syntax.specs.declared.item.Statement.TheViews.{outs-Null, outs-Assignment, outs-Call, outs-Exit, outs-Return, outs-Raise, outs-RaiseAgain}
+use Rattle.ctl_parse.proofs.PartViews.{view_layer, view_if, view_loop, view_while, view_for, view_block, view_of_body, view_of_item}
 use Rattle.ctl_parse.proofs.ReadExpressions.{row_back, whole_row_back, whole_option_back, whole_name_back, mark_back, expression_back}
 use Rattle.ctl_parse.proofs.ReadItems.{choices_back, context_back, direction_back, kind_back}
 
@@ -123,13 +124,13 @@ module _ (n : ℕ) (h : (x : Statement Identifier Identifier) → StatementBack 
         ap (s.Block p) (g b inside)
 
     statement_by_layer : (x : Statement Identifier Identifier) (l : _) → roll-Statement Identifier Identifier l ≡ x → StatementBack (suc n) x
-    statement_by_layer x (Statement-F.Null p) is = subst (StatementBack (suc n)) (sym (s.rolls-Null p) ∙ is) (seen n (s.Null p) _ (view_pass p) (λ k. refl))
-    statement_by_layer x (Statement-F.Assignment p m y) is = subst (StatementBack (suc n)) (sym (s.rolls-Assignment p m y) ∙ is) (seen n (s.Assignment p m y) _ (view_assignment p m y) (assignment_back p m y))
-    statement_by_layer x (Statement-F.Call p m) is = subst (StatementBack (suc n)) (sym (s.rolls-Call p m) ∙ is) (seen n (s.Call p m) _ (view_call p m) (λ k. ap (s.Call p) (whole_name_back m)))
-    statement_by_layer x (Statement-F.Exit p y) is = subst (StatementBack (suc n)) (sym (s.rolls-Exit p y) ∙ is) (seen n (s.Exit p y) _ (view_exit p y) (λ k. ap (s.Exit p) (value_back y)))
-    statement_by_layer x (Statement-F.Return p y) is = subst (StatementBack (suc n)) (sym (s.rolls-Return p y) ∙ is) (seen n (s.Return p y) _ (view_return p y) (λ k. ap (s.Return p) (value_back y)))
-    statement_by_layer x (Statement-F.Raise p m) is = subst (StatementBack (suc n)) (sym (s.rolls-Raise p m) ∙ is) (seen n (s.Raise p m) _ (view_raise p m) (λ k. ap (s.Raise p) (mark_back m)))
-    statement_by_layer x (Statement-F.RaiseAgain p) is = subst (StatementBack (suc n)) (sym (s.rolls-RaiseAgain p) ∙ is) (seen n (s.RaiseAgain p) _ (view_raise_again p) (λ k. refl))
+    statement_by_layer x (Statement-F.Null p) is = subst (StatementBack (suc n)) (sym (s.rolls-Null p) ∙ is) (seen n (s.Null p) _ (view_layer (s.Null p) (outs-Null p)) (λ k. refl))
+    statement_by_layer x (Statement-F.Assignment p m y) is = subst (StatementBack (suc n)) (sym (s.rolls-Assignment p m y) ∙ is) (seen n (s.Assignment p m y) _ (view_layer (s.Assignment p m y) (outs-Assignment p m y)) (assignment_back p m y))
+    statement_by_layer x (Statement-F.Call p m) is = subst (StatementBack (suc n)) (sym (s.rolls-Call p m) ∙ is) (seen n (s.Call p m) _ (view_layer (s.Call p m) (outs-Call p m)) (λ k. ap (s.Call p) (whole_name_back m)))
+    statement_by_layer x (Statement-F.Exit p y) is = subst (StatementBack (suc n)) (sym (s.rolls-Exit p y) ∙ is) (seen n (s.Exit p y) _ (view_layer (s.Exit p y) (outs-Exit p y)) (λ k. ap (s.Exit p) (value_back y)))
+    statement_by_layer x (Statement-F.Return p y) is = subst (StatementBack (suc n)) (sym (s.rolls-Return p y) ∙ is) (seen n (s.Return p y) _ (view_layer (s.Return p y) (outs-Return p y)) (λ k. ap (s.Return p) (value_back y)))
+    statement_by_layer x (Statement-F.Raise p m) is = subst (StatementBack (suc n)) (sym (s.rolls-Raise p m) ∙ is) (seen n (s.Raise p m) _ (view_layer (s.Raise p m) (outs-Raise p m)) (λ k. ap (s.Raise p) (mark_back m)))
+    statement_by_layer x (Statement-F.RaiseAgain p) is = subst (StatementBack (suc n)) (sym (s.rolls-RaiseAgain p) ∙ is) (seen n (s.RaiseAgain p) _ (view_layer (s.RaiseAgain p) (outs-RaiseAgain p)) (λ k. refl))
     statement_by_layer x (Statement-F.If p b more others) is = subst (StatementBack (suc n)) (sym (s.rolls-If p b more others) ∙ is) (seen n (s.If p b more others) _ (view_if p b more others) (if_back p b more others))
     statement_by_layer x (Statement-F.Loop p ss) is = subst (StatementBack (suc n)) (sym (s.rolls-Loop p ss) ∙ is) (seen n (s.Loop p ss) _ (view_loop p ss) (loop_back p ss))
     statement_by_layer x (Statement-F.While p y ss) is = subst (StatementBack (suc n)) (sym (s.rolls-While p y ss) ∙ is) (seen n (s.While p y ss) _ (view_while p y ss) (while_back p y ss))

@@ -2,7 +2,7 @@
 
 ghost use Rattle.std.specs.Prelude.{◌≡◌, ◌∷◌, [], ◌++◌};
 ghost use Rattle.ctl_grammar.specs.Form.{none, pair, starts, nest_starts, Conditional, Repetition, Block};
-ghost use Rattle.ctl_grammar.specs.Grammar.{flag, expression, factor, primary, null_statement, named_statement, exit_condition, exit_statement, returned, return_statement, raised, raise_statement, while_scheme, for_scheme, scheme, choices, end_if, end_loop, statement};
+ghost use Rattle.ctl_grammar.specs.Grammar.{flag, expression, factor, primary, null_statement, named_statement, exit_condition, exit_statement, returned, return_statement, raised, raise_statement, while_scheme, for_scheme, scheme, choices, end_if, end_loop, simple_statement, statement};
 ghost use Rattle.ctl_grammar.specs.Nodes.{assignment_of};
 ghost use Rattle.ctl_parse.specs.Parts.{choices_node, direction_node, place_node, scheme_node, view_statement};
 ghost use Rattle.ctl_parse.specs.Reads.{Reads, sees};
@@ -40,7 +40,7 @@ fn assignment(
 
 impl<'a> Parser<'a> {
     /// Reads `"null" ";"`.
-    pub(crate) fn null_statement(&mut self) -> Statement<Identifier, Identifier>
+    fn null_statement(&mut self) -> Statement<Identifier, Identifier>
         ensures { Reads null_statement none self.old (view_statement result) self.new }
     {
         let span = self.mark(Kind::Null);
@@ -49,7 +49,7 @@ impl<'a> Parser<'a> {
     }
 
     /// Reads `name ":=" expr ";" | name ";"` (RM 5.2, 6.4).
-    pub(crate) fn named_statement(&mut self) -> Statement<Identifier, Identifier>
+    fn named_statement(&mut self) -> Statement<Identifier, Identifier>
         ensures { Reads named_statement none self.old (view_statement result) self.new }
     {
         let name = self.name();
@@ -72,7 +72,7 @@ impl<'a> Parser<'a> {
     }
 
     /// Reads `"exit" ["when" expr] ";"` (RM 5.7).
-    pub(crate) fn exit_statement(&mut self) -> Statement<Identifier, Identifier>
+    fn exit_statement(&mut self) -> Statement<Identifier, Identifier>
         ensures { Reads exit_statement none self.old (view_statement result) self.new }
     {
         let span = self.mark(Kind::Exit);
@@ -94,7 +94,7 @@ impl<'a> Parser<'a> {
     }
 
     /// Reads `"return" [expr] ";"` (RM 6.5).
-    pub(crate) fn return_statement(&mut self) -> Statement<Identifier, Identifier>
+    fn return_statement(&mut self) -> Statement<Identifier, Identifier>
         ensures { Reads return_statement none self.old (view_statement result) self.new }
     {
         let span = self.mark(Kind::Return);
@@ -116,7 +116,7 @@ impl<'a> Parser<'a> {
     }
 
     /// Reads `"raise" [dotted] ";"` (RM 11.3).
-    pub(crate) fn raise_statement(&mut self) -> Statement<Identifier, Identifier>
+    fn raise_statement(&mut self) -> Statement<Identifier, Identifier>
         ensures { Reads raise_statement none self.old (view_statement result) self.new }
     {
         let span = self.mark(Kind::Raise);
@@ -207,17 +207,42 @@ impl<'a> Parser<'a> {
         self.skip(Kind::Semicolon);
     }
 
-    /// Tells whether a statement is next.
-    #[tactic(auto, unfolding(ctl_grammar::specs::Grammar::statement, ctl_grammar::specs::Grammar::null_statement, ctl_grammar::specs::Grammar::named_statement, ctl_grammar::specs::Grammar::exit_statement, ctl_grammar::specs::Grammar::return_statement, ctl_grammar::specs::Grammar::raise_statement, ctl_grammar::specs::Grammar::name, ctl_grammar::specs::Grammar::identifier))]
-    pub(crate) fn at_statement(&self) -> bool
-        ensures { result ≡ sees (starts statement) self.now }
+    /// Reads a statement that holds no other (RM 5.1).
+    #[tactic(auto, using(crate::proofs::Steps::choosing, crate::proofs::Steps::passing), unfolding(ctl_grammar::specs::Grammar::simple_statement, ctl_grammar::specs::Grammar::name, ctl_grammar::specs::Grammar::identifier))]
+    pub(crate) fn simple_statement(&mut self) -> Statement<Identifier, Identifier>
+        ensures { Reads simple_statement none self.old (view_statement result) self.new }
+    {
+        if self.next_is(Kind::Null) {
+            self.null_statement()
+        } else if self.next_is(Kind::Identifier) {
+            self.named_statement()
+        } else if self.next_is(Kind::Exit) {
+            self.exit_statement()
+        } else if self.next_is(Kind::Return) {
+            self.return_statement()
+        } else {
+            self.raise_statement()
+        }
+    }
+
+    /// Tells whether a statement that holds no other is next.
+    #[tactic(auto, unfolding(ctl_grammar::specs::Grammar::simple_statement, ctl_grammar::specs::Grammar::name, ctl_grammar::specs::Grammar::identifier))]
+    pub(crate) fn at_simple_statement(&self) -> bool
+        ensures { result ≡ sees (starts simple_statement) self.now }
     {
         self.next_is(Kind::Null)
             || self.next_is(Kind::Identifier)
             || self.next_is(Kind::Exit)
             || self.next_is(Kind::Return)
             || self.next_is(Kind::Raise)
-            || self.at_compound_statement()
+    }
+
+    /// Tells whether a statement is next.
+    #[tactic(auto, unfolding(ctl_grammar::specs::Grammar::statement, ctl_grammar::specs::Grammar::simple_statement, ctl_grammar::specs::Grammar::name, ctl_grammar::specs::Grammar::identifier))]
+    pub(crate) fn at_statement(&self) -> bool
+        ensures { result ≡ sees (starts statement) self.now }
+    {
+        self.at_simple_statement() || self.at_compound_statement()
     }
 
     /// Tells whether a statement that holds others is next.

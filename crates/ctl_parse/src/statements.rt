@@ -76,19 +76,12 @@ impl<'a> Parser<'a> {
 
     /// Reads a statement.
     #[cycle(statements)]
+    #[tactic(auto, using(crate::proofs::Steps::choosing, crate::proofs::Steps::passing), unfolding(ctl_grammar::specs::Grammar::statement))]
     fn statement(&mut self) -> Statement<Identifier, Identifier>
         ensures { Reads statement none self.old (view_statement result) self.new }
     {
-        if self.next_is(Kind::Null) {
-            self.null_statement()
-        } else if self.next_is(Kind::Identifier) {
-            self.named_statement()
-        } else if self.next_is(Kind::Exit) {
-            self.exit_statement()
-        } else if self.next_is(Kind::Return) {
-            self.return_statement()
-        } else if self.next_is(Kind::Raise) {
-            self.raise_statement()
+        if self.at_simple_statement() {
+            self.simple_statement()
         } else if self.next_is(Kind::If) {
             self.conditional()
         } else if self.at_repetition() {

@@ -72,18 +72,17 @@ abbrev pub conditional : Branch Place Use → List (Branch Place Use) → List P
 conditional first more otherwise = earliest (branch first) (first_of (map branch more)) (first_of otherwise)
 
 abbrev pub statement_step : Statement-F Definition Use Place Place Place → Place
-statement_step (Statement-F.Null place) = None
 statement_step (Statement-F.Assignment place to x) = where_left_out (of_value (Some x)) place
 statement_step (Statement-F.Call place n) = where_left_out (of_call n) place
-statement_step (Statement-F.Exit place c) = None
 statement_step (Statement-F.Return place x) = where_left_out (of_value x) place
-statement_step (Statement-F.Raise place m) = None
-statement_step (Statement-F.RaiseAgain place) = None
 statement_step (Statement-F.If place first more otherwise) = conditional first more otherwise
 statement_step (Statement-F.Loop place ss) = first_of ss
 statement_step (Statement-F.While place c ss) = first_of ss
 statement_step (Statement-F.For place name way low high ss) = first_of ss
 statement_step (Statement-F.Block place b) = b
+-- a statement that holds none, of which no part tells whether it is run; were one left out and forgotten here, then its program would be refused
+-- all the same, by is_run of ctl_layout, and at the procedure
+statement_step s = None
 
 abbrev pub body : Body Definition Use → Place
 body = fold-Body Definition Use Place Place Place statement_step body_step item_step

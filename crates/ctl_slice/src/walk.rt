@@ -123,10 +123,6 @@ fn statement(statement: &Statement<Definition, Use>) -> Option<Span>
     ensures { result ≡ spec.statement statement.now }
 {
     match statement {
-        Statement::Null(_)
-        | Statement::Exit(..)
-        | Statement::Raise(..)
-        | Statement::RaiseAgain(_) => None,
         Statement::Assignment(place, _, value) => where_left_out(of_assigned(value), *place),
         Statement::Return(place, value) => where_left_out(of_returned(value), *place),
         Statement::Call(place, name) => where_left_out(of_call(name), *place),
@@ -140,6 +136,9 @@ fn statement(statement: &Statement<Definition, Use>) -> Option<Span>
         Statement::While(_, _, inside) => statements(inside.as_slice()),
         Statement::For(_, _, _, _, _, inside) => statements(inside.as_slice()),
         Statement::Block(_, inside) => body(inside.get()),
+        // A statement that holds none, of which no part tells whether it is run. Were one left out and forgotten here, then its program would be
+        // refused all the same, by `is_run` of `ctl_layout`, and at the procedure.
+        _ => None,
     }
 }
 

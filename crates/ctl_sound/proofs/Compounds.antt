@@ -1,4 +1,4 @@
--- Statements that hold statements, and handlers, from what they hold.
+-- Statements that hold statements, and handlers, from what they hold; and the other statements.
 use Rattle.std.proofs.Common.{◌∙◌, ◌≡◌, ◌<◌, refl, sym, ap, subst, ℕ, Bool, true, false, List, [], ◌∷◌, ◌++◌, map, length, Option, Some, None, option_map}
 use Rattle.ctl_tree.specs.declared.span.Span.{Span}
 use Rattle.ctl_tree.specs.declared.fault.FaultCode.{FaultCode}
@@ -12,14 +12,19 @@ use Rattle.ctl_program.specs.declared.statement.Choices.{Choices as Checked_choi
 use Rattle.ctl_program.specs.declared.statement.Handler.{Handler as Checked_handler, roll-Handler}
 use Rattle.ctl_program.specs.declared.statement.Stmt.{Stmt}
 use Rattle.ctl_program.specs.declared.statement.Stmt.TheVariants as stmt
+use Rattle.ctl_syntax.specs.declared.denoted.Definition.{Definition}
 use Rattle.ctl_syntax.specs.declared.denoted.Use.{Use}
 use Rattle.ctl_syntax.specs.declared.expression.Expression.{Expression}
 use Rattle.ctl_syntax.specs.declared.item.Aliasing.TheVariants as aliasing
+use Rattle.ctl_syntax.specs.declared.item.Body.{Body}
 use Rattle.ctl_syntax.specs.declared.item.Branch.{Branch}
 use Rattle.ctl_syntax.specs.declared.item.Choices.{Choices}
 use Rattle.ctl_syntax.specs.declared.item.Choices.TheVariants as choices
 use Rattle.ctl_syntax.specs.declared.item.Direction.{Direction}
 use Rattle.ctl_syntax.specs.declared.item.Handler.{Handler}
+use Rattle.ctl_syntax.specs.declared.item.Item.{Item}
+use Rattle.ctl_syntax.specs.declared.item.Statement.{Statement, map-Statement}
+use Rattle.ctl_syntax.specs.declared.item.Statement.TheOpen.{Statement-F}
 use Rattle.ctl_syntax.specs.declared.name.Mark.{Mark}
 use Rattle.ctl_syntax.specs.declared.name.Name.{Name}
 use Rattle.ctl_typing.specs.declared.found.Asked.TheVariants as asking
@@ -40,18 +45,19 @@ use Rattle.ctl_draft.specs.declared.draft.Looping.{Looping}
 use Rattle.ctl_draft.specs.declared.draft.Looping.TheVariants as looping
 use Rattle.ctl_draft.specs.Draft.{Doing, by_tables, noted, fault_when, declare_object, next_var}
 use Rattle.ctl_types.specs.Elaboration as spec
-use Rattle.ctl_types.specs.Elaboration.{Says}
+use Rattle.ctl_types.specs.Elaboration.{Says, Does, Part_of}
 use Rattle.ctl_statements.specs.Statements as simple
 use Rattle.ctl_well_typed.specs.Setting.{LoopParameter, loop_parameter, Frames, Names, Setting, InView}
-use Rattle.ctl_well_typed.specs.Expressions.{Typed}
+use Rattle.ctl_well_typed.specs.Expressions.{Typed, left_out, given}
 use Rattle.ctl_well_typed.specs.Statements as rule
-use Rattle.ctl_well_typed.specs.Statements.{inside_loop, inside_handler, Done, DoneEach, GuardedEach, HandledEach, Raised, Chosen}
+use Rattle.ctl_well_typed.specs.Statements.{Done, DoneEach, GuardedEach, HandledEach, Raised, Chosen}
 use Rattle.ctl_sound.specs.Known.{IfSome, All, Gives}
 use Rattle.ctl_sound.specs.Sound.{Sound}
 use Rattle.ctl_sound.proofs.Known.{next}
+use Rattle.ctl_sound.proofs.Plain.{Layer, IsSimple}
 use Rattle.ctl_sound.proofs.Operators.{truth_good, value_as_good}
 use Rattle.ctl_sound.proofs.Values.{expression_right, suffixes_right}
-use Rattle.ctl_sound.proofs.Simple.{assignment_good, call_good, exception_named_good, raising_good, exit_good, return_value_good}
+use Rattle.ctl_sound.proofs.Simple.{assignment_good, call_good, exception_named_good, raising_good, return_value_good}
 use Rattle.ctl_sound.proofs.Growing.{still_noted, and_then, grows_further}
 use Rattle.ctl_sound.proofs.Sites.{Site, around_site, here, gives_of}
 use Rattle.ctl_sound.proofs.Fronts.{agrees_first, agrees_rest}
@@ -127,6 +133,10 @@ module _ (a : Around) where
   abbrev pub HandlerRight : Span → Handler Says Use → Type 0
   HandlerRight place h = Goes (here a) RightHandler (spec.handler place a h)
 
+-- a layer of a statement, with what each statement, item and body in it is
+abbrev pub judged_parts : Layer → Statement-F Definition Use Says Does Part_of
+judged_parts y = map-Statement Definition Use (Statement Definition Use) (Body Definition Use) (Item Definition Use) Says Does Part_of spec.statement spec.body spec.item_judged y
+
 pub sequence_walk : (a : Around) (ss : List Says) → All (SaysRight a) ss → Goes (here a) (RightEach a) (spec.sequence ss a)
 sequence_walk a ss g = each_goes (here a) (RightEach a) (Right a) (λ x. x a) (λ s. done_more s.k (around_site s) (around_of a)) (λ s. rule.no_more_statements) ss g
 
@@ -144,8 +154,11 @@ module _ (a : Around) where
   abbrev Truth : Site → Expr → Type 0
   Truth s x = Typed s.k (around_site s) x ty.Boolean
 
+  truth_right : (x : Expression Use) (s : Site) (tables : Tables) → Sound s.k (around_site s) tables → Gives (Truth s) (truth_of tables (sense x))
+  truth_right x s tables sound = truth_good s.k (around_site s) tables sound (sense x) (expression_right s.k (around_site s) tables sound x)
+
   condition_walk : (x : Expression Use) → Goes (here a) Truth (spec.condition (sense x))
-  condition_walk x = tables_walk Truth (λ tables. truth_of tables (sense x)) (λ s tables sound. truth_good s.k (around_site s) tables sound (sense x) (expression_right s.k (around_site s) tables sound x))
+  condition_walk x = tables_walk Truth (λ tables. truth_of tables (sense x)) (truth_right x)
 
   pub branch_walk : (c : Expression Use) (ss : List Says) → All (SaysRight a) ss → BranchRight a (record { condition = c; statements = ss })
   branch_walk c ss g = then_walk (Both (here a) Truth (RightEach a)) (RightArm a) (both (spec.condition (sense c)) (spec.sequence ss a)) (λ r. roll-Arm (record { test = r.0; body = r.1 }))
@@ -215,31 +228,28 @@ module _ (a : Around) where
 
   -- Transfers (5.7, 6.5, 11.3) and statements that hold none ------------------------------------------------
 
-  pub assignment_walk : (n : Name Use (Expression Use)) (x : Expression Use) → Goes (here a) (Right a) (by_tables (simple.assignment n.first (map suffix_sense n.suffixes) (sense x)))
+  assignment_walk : (n : Name Use (Expression Use)) (x : Expression Use) → Goes (here a) (Right a) (by_tables (simple.assignment n.first (map suffix_sense n.suffixes) (sense x)))
   assignment_walk n x = tables_walk (Right a) (simple.assignment n.first (map suffix_sense n.suffixes) (sense x)) (λ s tables sound. let env = around_site s in assignment_good s.k env tables sound (around_of a) n.first (map suffix_sense n.suffixes) (sense x) (suffixes_right s.k env tables sound n.suffixes) (expression_right s.k env tables sound x))
 
-  pub call_walk : (place : Span) (n : Name Use (Expression Use)) → Goes (here a) (Right a) (by_tables (simple.call place n.first (map suffix_sense n.suffixes)))
+  call_walk : (place : Span) (n : Name Use (Expression Use)) → Goes (here a) (Right a) (by_tables (simple.call place n.first (map suffix_sense n.suffixes)))
   call_walk place n = tables_walk (Right a) (simple.call place n.first (map suffix_sense n.suffixes)) (λ s tables sound. let env = around_site s in call_good s.k env tables sound (around_of a) place n.first (map suffix_sense n.suffixes) (suffixes_right s.k env tables sound n.suffixes))
 
-  pub raising_walk : (place : Span) (m : Mark Use) → Goes (here a) (Right a) (by_tables (simple.raising place m))
+  raising_walk : (place : Span) (m : Mark Use) → Goes (here a) (Right a) (by_tables (simple.raising place m))
   raising_walk place m = tables_walk (Right a) (simple.raising place m) (λ s tables sound. raising_good s.k (around_site s) tables sound (around_of a) place m)
 
   raising_again_by : (place : Span) (h : Handling) → (h ≡ handling.Inside → (around_of a).in_handler ≡ true) → Goes (here a) (Right a) (simple.raising_again place h)
   raising_again_by place handling.Outside inside = broken_walk (Right a) fault.Return place
   raising_again_by place handling.Inside inside = known_goes (here a) (Right a) stmt.RaiseAgain (λ s. rule.raise_again (inside refl))
 
-  pub raising_again_walk : (place : Span) → Goes (here a) (Right a) (simple.raising_again place a.handling)
+  raising_again_walk : (place : Span) → Goes (here a) (Right a) (simple.raising_again place a.handling)
   raising_again_walk place = raising_again_by place a.handling (λ e. ap is_inside_handler e)
-
-  exit_by_walk : (c : Option (Expression Use)) → (around_of a).in_loop ≡ true → Goes (here a) (Right a) (by_tables (simple.exit_by (option_map sense c)))
-  exit_by_walk None l = tables_walk (Right a) (simple.exit_by None) (λ s tables sound. exit_good s.k (around_site s) tables sound (around_of a) None l tt)
-  exit_by_walk (Some x) l = tables_walk (Right a) (simple.exit_by (Some (sense x))) (λ s tables sound. let env = around_site s in exit_good s.k env tables sound (around_of a) (Some (sense x)) l (expression_right s.k env tables sound x))
 
   exiting_by : (place : Span) (l : Looping) (c : Option (Expression Use)) → (l ≡ looping.Inside → (around_of a).in_loop ≡ true) → Goes (here a) (Right a) (simple.exiting place l (option_map sense c))
   exiting_by place looping.Outside c inside = broken_walk (Right a) fault.Return place
-  exiting_by place looping.Inside c inside = exit_by_walk c (inside refl)
+  exiting_by place looping.Inside None inside = tables_walk (Right a) (simple.exit_by None) (λ s tables sound n. rule.exit (inside refl) left_out)
+  exiting_by place looping.Inside (Some x) inside = tables_walk (Right a) (simple.exit_by (Some (sense x))) (λ s tables sound. next (Truth s) (Right a s) (truth_of tables (sense x)) (λ c. known (stmt.Exit (Some c))) (truth_right x s tables sound) (λ c h n. rule.exit (inside refl) (given h)))
 
-  pub exiting_walk : (place : Span) (c : Option (Expression Use)) → Goes (here a) (Right a) (simple.exiting place a.looping (option_map sense c))
+  exiting_walk : (place : Span) (c : Option (Expression Use)) → Goes (here a) (Right a) (simple.exiting place a.looping (option_map sense c))
   exiting_walk place c = exiting_by place a.looping c (λ e. ap is_inside_loop e)
 
   nothing_returned : (g : Giving) → a.giving ≡ g → gives_of g ≡ None → Goes (here a) (Right a) (known (stmt.Return None))
@@ -266,8 +276,19 @@ module _ (a : Around) where
   return_by_walk place giving.Unclear None e = broken_walk (Right a) fault.Return place
   return_by_walk place giving.Unclear (Some x) e = unclear_returned x
 
-  pub returning_walk : (place : Span) (x : Option (Expression Use)) → Goes (here a) (Right a) (simple.returning place a.giving (option_map sense x))
+  returning_walk : (place : Span) (x : Option (Expression Use)) → Goes (here a) (Right a) (simple.returning place a.giving (option_map sense x))
   returning_walk place x d = still_leads (here a) (Right a) d (simple.with_return d) (simple.return_by place a.giving (option_map sense x) (simple.with_return d)) (still_noted d _ d.waiting d.notes) (return_by_walk place a.giving x refl (simple.with_return d))
+
+  -- a statement that holds none
+  pub simple_right : (y : Layer) → IsSimple y → SaysRight a (spec.statement_step (judged_parts y))
+  simple_right (Statement-F.Null p) h = known_goes (here a) (Right a) stmt.Null (λ s. rule.null)
+  simple_right (Statement-F.Assignment p to x) h = assignment_walk to x
+  simple_right (Statement-F.Call p to) h = call_walk p to
+  simple_right (Statement-F.Exit p c) h = exiting_walk p c
+  simple_right (Statement-F.Return p x) h = returning_walk p x
+  simple_right (Statement-F.Raise p m) h = raising_walk p m
+  simple_right (Statement-F.RaiseAgain p) h = raising_again_walk p
+  simple_right y h = absurd h
 
   -- Handlers (11.2) -------------------------------------------------------------------------------------------
 

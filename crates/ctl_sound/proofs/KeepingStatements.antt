@@ -204,6 +204,6 @@ simple_statements_keep_faults n x = record {
   assignment = λ tables. assignment_stays tables n.first (map suffix_sense n.suffixes) (sense x) (suffixes_keep n.suffixes) (expression_keeps x);
   call = λ tables place. called_by_stays tables place n.first.denoted (spec.arguments_of (map suffix_sense n.suffixes)) (arguments_keep (map suffix_sense n.suffixes) (suffixes_keep n.suffixes));
   raise = λ tables place m. next_stays (spec.exception_named tables place m.first m.rest) (λ e. known (stmt.Raise e)) (exception_named_stays tables place m.first m.rest) (λ e k h. h);
-  exit = λ tables. next_stays (expr.truth_of tables (sense x)) (λ c. known (stmt.Exit (Some c))) (truth_stays tables (sense x) (expression_keeps x)) (λ c k h. h);
   return = λ tables asked. next_stays ((sense x).judged tables asked) (λ r. known (stmt.Return (Some r.value))) ((expression_keeps x).judged tables asked) (λ r k h. h);
+  condition = λ tables. truth_stays tables (sense x) (expression_keeps x);
 }

@@ -24,10 +24,22 @@ use Rattle.ctl_syntax.specs.declared.item.Specification.{Specification}
 use Rattle.ctl_syntax.specs.declared.item.Definition.{Definition as Type_definition}
 use Rattle.ctl_syntax.specs.declared.item.Statement.{Statement, roll-Statement, map-Statement}
 use Rattle.ctl_syntax.specs.declared.item.Statement.TheOpen.{Statement-F}
-use Rattle.ctl_syntax.specs.declared.item.Statement.TheVariants.{rolls-Null, rolls-Assignment, rolls-Call, rolls-Exit, rolls-Return, rolls-Raise, rolls-RaiseAgain, rolls-If, rolls-Loop, rolls-While, rolls-For, rolls-Block}
+use Rattle.ctl_syntax.specs.declared.item.Statement.TheVariants.{rolls-If, rolls-Loop, rolls-While, rolls-For, rolls-Block}
 use Rattle.ctl_syntax.specs.declared.item.Statement.TheVariants as s
 use Rattle.ctl_syntax.specs.declared.name.Mark.{Mark}
-use Rattle.ctl_syntax.specs.declared.name.Name.{Name}
+
+-- one layer of a statement
+abbrev pub Layer : Type 0
+Layer = Statement-F Definition Use (Statement Definition Use) (Body Definition Use) (Item Definition Use)
+
+-- it holds no statement
+abbrev pub IsSimple : Layer → Type 0
+IsSimple (Statement-F.If p first more otherwise) = ⊥
+IsSimple (Statement-F.Loop p ss) = ⊥
+IsSimple (Statement-F.While p c ss) = ⊥
+IsSimple (Statement-F.For p name way low high ss) = ⊥
+IsSimple (Statement-F.Block p b) = ⊥
+IsSimple y = Unit {0}
 
 mutual
   pub data PlainItems : List (Item Definition Use) → Type 0 where
@@ -44,13 +56,7 @@ mutual
     subprogram : (p : Span) (x : Specification Definition Use) (b : Body Definition Use) {more : List (Item Definition Use)} → PlainBody b → PlainItems more → PlainItems (roll-Item Definition Use (record { span = p; kind = item.Body x b }) ∷ more)
 
   pub data Plain : Statement Definition Use → Type 0 where
-    null : {p : Span} → Plain (s.Null p)
-    assignment : {p : Span} {to : Name Use (Expression Use)} {x : Expression Use} → Plain (s.Assignment p to x)
-    call : {p : Span} {to : Name Use (Expression Use)} → Plain (s.Call p to)
-    exit : {p : Span} {c : Option (Expression Use)} → Plain (s.Exit p c)
-    return : {p : Span} {x : Option (Expression Use)} → Plain (s.Return p x)
-    raise : {p : Span} {m : Mark Use} → Plain (s.Raise p m)
-    raise_again : {p : Span} → Plain (s.RaiseAgain p)
+    simple : (y : Layer) → IsSimple y → Plain (roll-Statement Definition Use y)
     choose : {p : Span} {first : Branch (Statement Definition Use) Use} {more : List (Branch (Statement Definition Use) Use)} {otherwise : List (Statement Definition Use)} →
         PlainBranches (first ∷ more) → PlainEach otherwise → Plain (s.If p first more otherwise)
     loop : {p : Span} {ss : List (Statement Definition Use)} → PlainEach ss → Plain (s.Loop p ss)
@@ -138,18 +144,12 @@ items_plain [] = no_more_items
 items_plain (i ∷ is') = i.1 (map (λ z. z.0) is') (items_plain is')
 
 statement_plain : (y : Statement-F Definition Use SureStatement SureBody SureItem) → Plain (roll-Statement Definition Use (bare_statement y))
-statement_plain (Statement-F.Null p) = rw rolls-Null null
-statement_plain (Statement-F.Assignment p to x) = rw rolls-Assignment assignment
-statement_plain (Statement-F.Call p n) = rw rolls-Call call
-statement_plain (Statement-F.Exit p c) = rw rolls-Exit exit
-statement_plain (Statement-F.Return p x) = rw rolls-Return return
-statement_plain (Statement-F.Raise p m) = rw rolls-Raise raise
-statement_plain (Statement-F.RaiseAgain p) = rw rolls-RaiseAgain raise_again
 statement_plain (Statement-F.If p first more otherwise) = subst (λ z. Plain (roll-Statement Definition Use z)) (sym (if_layer p first more otherwise)) (rw rolls-If (choose (branches_plain (first ∷ more)) (each_plain otherwise)))
 statement_plain (Statement-F.Loop p ss) = rw rolls-Loop (loop (each_plain ss))
 statement_plain (Statement-F.While p c ss) = rw rolls-While (while (each_plain ss))
 statement_plain (Statement-F.For p name way low high ss) = rw rolls-For (for (each_plain ss))
 statement_plain (Statement-F.Block p b) = rw rolls-Block (block b.1)
+statement_plain y = simple (bare_statement y) tt
 
 body_plain : (y : Body-F Definition Use SureStatement SureBody SureItem) → PlainBody (roll-Body Definition Use (bare_body y))
 body_plain y = subst (λ z. PlainBody (roll-Body Definition Use z)) (sym (body_layer y.items y.statements y.handlers)) (body (map (λ z. z.0) y.items) (map (λ z. z.0) y.statements) (map bare_handler y.handlers) (items_plain y.items) (each_plain y.statements) (handlers_plain y.handlers))

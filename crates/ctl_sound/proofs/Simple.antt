@@ -52,7 +52,7 @@ use Rattle.ctl_sound.specs.Sound.{formal_of, EntryFine, ProfileFine, OperationFi
 use Rattle.ctl_sound.proofs.Known.{next, tested, both_give, following_give}
 use Rattle.ctl_sound.proofs.Tests.{same_is, covers_scalar}
 use Rattle.ctl_sound.proofs.Names.{RightSuffix, name_good, handed_on_good, as_variable_good, settled_good, settled_found, actuals_good}
-use Rattle.ctl_sound.proofs.Operators.{truth_good, value_as_good}
+use Rattle.ctl_sound.proofs.Operators.{value_as_good}
 
 descends_on : {k : Setting} {u t s : ℕ} → Descends k u t → Descends k t s → Descends k u s
 descends_on d itself = d
@@ -369,11 +369,7 @@ module _ (k : Setting) (env : Frames) (tables : Tables) (sound : Sound k env tab
   pub raising_good : (a : Around) (place : Span) (m : Mark Use) → Gives (Does a) (spec.raising place m tables)
   raising_good a place m = next IsException (Does a) (spec.exception_named tables place m.first m.rest) (λ n. known (stmt.Raise n)) (exception_named_good place m.first m.rest) (λ n h s. does.raise h)
 
-  -- Transfers (5.7, 6.5) ------------------------------------------------------------------------------------------
-
-  pub exit_good : (a : Around) (c : Option Sense) → a.in_loop ≡ true → IfSome Right c → Gives (Does a) (spec.exit_by c tables)
-  exit_good a None l g = λ s. does.exit l rule.left_out
-  exit_good a (Some x) l g = next (λ v. Typed k env v ty.Boolean) (Does a) (expr.truth_of tables x) (λ c. known (stmt.Exit (Some c))) (truth_good k env tables sound x g) (λ v h s. does.exit l (rule.given h))
+  -- The value of a return (6.5) -----------------------------------------------------------------------------------
 
   pub return_value_good : (a : Around) (t : Ty) (x : Sense) → a.gives ≡ Some t → InView k env t → Right x → Gives (Does a) (spec.return_value (asking.Exactly t) x tables)
   return_value_good a t x e v g = next (Fine k env (asking.Exactly t) x.named) (Does a) (x.judged tables (asking.Exactly t)) (λ r. known (stmt.Return (Some r.value))) (g.judged (asking.Exactly t) v)

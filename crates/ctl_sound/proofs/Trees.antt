@@ -1,5 +1,5 @@
 -- The induction over the tree: what stands in it is well typed.
-use Rattle.std.proofs.Common.{◌≡◌, refl, sym, subst, List, [], ◌∷◌, map, Option}
+use Rattle.std.proofs.Common.{◌≡◌, refl, sym, subst, List, [], ◌∷◌, map}
 use Rattle.ctl_tree.specs.declared.span.Span.{Span}
 use Rattle.ctl_syntax.specs.declared.denoted.Definition.{Definition}
 use Rattle.ctl_syntax.specs.declared.denoted.Use.{Use}
@@ -16,30 +16,24 @@ use Rattle.ctl_syntax.specs.declared.item.Item.{Item, roll-Item, fold-roll-Item}
 use Rattle.ctl_syntax.specs.declared.item.ItemKind.TheVariants as item
 use Rattle.ctl_syntax.specs.declared.item.Objects.{Objects}
 use Rattle.ctl_syntax.specs.declared.item.Specification.{Specification}
-use Rattle.ctl_syntax.specs.declared.item.Statement.{Statement, fold-roll-Statement}
+use Rattle.ctl_syntax.specs.declared.item.Statement.{Statement, roll-Statement, fold-roll-Statement}
 use Rattle.ctl_syntax.specs.declared.item.Statement.TheOpen.{Statement-F}
 use Rattle.ctl_syntax.specs.declared.item.Statement.TheVariants as s
-use Rattle.ctl_syntax.specs.declared.item.Statement.TheVariants.{rolls-Null, rolls-Assignment, rolls-Call, rolls-Exit, rolls-Return, rolls-Raise, rolls-RaiseAgain, rolls-If, rolls-Loop, rolls-While, rolls-For, rolls-Block}
+use Rattle.ctl_syntax.specs.declared.item.Statement.TheVariants.{rolls-If, rolls-Loop, rolls-While, rolls-For, rolls-Block}
 use Rattle.ctl_syntax.specs.declared.name.Mark.{Mark}
-use Rattle.ctl_syntax.specs.declared.name.Name.{Name}
 use Rattle.ctl_draft.specs.declared.draft.Around.{Around}
 use Rattle.ctl_types.specs.Elaboration as spec
 use Rattle.ctl_types.specs.Elaboration.{item_judged, statement, body}
 use Rattle.ctl_types.specs.Parts.{branch_of, handler_of}
-use Rattle.ctl_well_typed.specs.Statements.{Done}
 use Rattle.ctl_sound.specs.Known.{All}
 use Rattle.ctl_sound.proofs.Plain as plain
-use Rattle.ctl_sound.proofs.Plain.{PlainItems, Plain, PlainEach, PlainBranches, PlainHandlers, PlainBody}
-use Rattle.ctl_sound.proofs.Sites.{here}
-use Rattle.ctl_sound.proofs.Compounds.{Right, SaysRight, BranchRight, HandlerRight, branch_walk, conditional_walk, endless_walk, while_walk, counting_walk, assignment_walk, call_walk, raising_walk, raising_again_walk, exiting_walk, returning_walk, handler_walk}
+use Rattle.ctl_sound.proofs.Plain.{Layer, PlainItems, Plain, PlainEach, PlainBranches, PlainHandlers, PlainBody}
+use Rattle.ctl_sound.proofs.Compounds.{SaysRight, BranchRight, HandlerRight, branch_walk, conditional_walk, endless_walk, while_walk, counting_walk, judged_parts, simple_right, handler_walk}
 use Rattle.ctl_sound.proofs.Objects.{objects_come, exceptions_declared}
 use Rattle.ctl_sound.proofs.Accesses.{incomplete_leads, access_defined, pool_clause_leads, instance_leads}
 use Rattle.ctl_sound.proofs.Records.{extension_defined, record_defined}
 use Rattle.ctl_sound.proofs.Bodies.{ItemRight, DoesRight, body_right, block_right}
 use Rattle.ctl_sound.proofs.BodyItems.{declaration_leads, body_item_leads}
-use Rattle.ctl_sound.proofs.Steps.{known_goes}
-use Rattle.ctl_program.specs.declared.statement.Stmt.TheVariants as stmt
-use Rattle.ctl_well_typed.specs.Statements as rule
 
 -- One layer of the tree ----------------------------------------------------------------------------------
 
@@ -58,26 +52,8 @@ statement_for p n w l h xs = rw (← rolls-For, fold-roll-Statement) refl
 statement_block : (p : Span) (b : Body Definition Use) → statement (s.Block p b) ≡ spec.statement_step (Statement-F.Block p (body b))
 statement_block p b = rw (← rolls-Block, fold-roll-Statement) refl
 
-statement_null : (p : Span) → statement (s.Null p) ≡ spec.statement_step (Statement-F.Null p)
-statement_null p = rw (← rolls-Null, fold-roll-Statement) refl
-
-statement_assignment : (p : Span) (n : Name Use (Expression Use)) (x : Expression Use) → statement (s.Assignment p n x) ≡ spec.statement_step (Statement-F.Assignment p n x)
-statement_assignment p n x = rw (← rolls-Assignment, fold-roll-Statement) refl
-
-statement_call : (p : Span) (n : Name Use (Expression Use)) → statement (s.Call p n) ≡ spec.statement_step (Statement-F.Call p n)
-statement_call p n = rw (← rolls-Call, fold-roll-Statement) refl
-
-statement_exit : (p : Span) (c : Option (Expression Use)) → statement (s.Exit p c) ≡ spec.statement_step (Statement-F.Exit p c)
-statement_exit p c = rw (← rolls-Exit, fold-roll-Statement) refl
-
-statement_return : (p : Span) (c : Option (Expression Use)) → statement (s.Return p c) ≡ spec.statement_step (Statement-F.Return p c)
-statement_return p c = rw (← rolls-Return, fold-roll-Statement) refl
-
-statement_raise : (p : Span) (m : Mark Use) → statement (s.Raise p m) ≡ spec.statement_step (Statement-F.Raise p m)
-statement_raise p m = rw (← rolls-Raise, fold-roll-Statement) refl
-
-statement_raise_again : (p : Span) → statement (s.RaiseAgain p) ≡ spec.statement_step (Statement-F.RaiseAgain p)
-statement_raise_again p = rw (← rolls-RaiseAgain, fold-roll-Statement) refl
+statement_simple : (y : Layer) → statement (roll-Statement Definition Use y) ≡ spec.statement_step (judged_parts y)
+statement_simple y = rw fold-roll-Statement refl
 
 item_objects : (p : Span) (o : Objects Definition Use) → item_judged (roll-Item Definition Use (record { span = p; kind = item.Objects o })) ≡ spec.item_step (record { span = p; kind = item.Objects o })
 item_objects p o = rw fold-roll-Item refl
@@ -111,13 +87,7 @@ body_parts is' ss hs = rw fold-roll-Body refl
 
 mutual
   pub plain_right : (x : Statement Definition Use) → Plain x → (a : Around) → SaysRight a (statement x)
-  plain_right _ (plain.null {p = p}) a = subst (SaysRight a) (sym (statement_null p)) (known_goes (here a) (Right a) stmt.Null (λ s. rule.null))
-  plain_right _ (plain.assignment {p = p} {to = to} {x = x}) a = subst (SaysRight a) (sym (statement_assignment p to x)) (assignment_walk a to x)
-  plain_right _ (plain.call {p = p} {to = to}) a = subst (SaysRight a) (sym (statement_call p to)) (call_walk a p to)
-  plain_right _ (plain.exit {p = p} {c = c}) a = subst (SaysRight a) (sym (statement_exit p c)) (exiting_walk a p c)
-  plain_right _ (plain.return {p = p} {x = x}) a = subst (SaysRight a) (sym (statement_return p x)) (returning_walk a p x)
-  plain_right _ (plain.raise {p = p} {m = m}) a = subst (SaysRight a) (sym (statement_raise p m)) (raising_walk a p m)
-  plain_right _ (plain.raise_again {p = p}) a = subst (SaysRight a) (sym (statement_raise_again p)) (raising_again_walk a p)
+  plain_right _ (plain.simple y h) a = subst (SaysRight a) (sym (statement_simple y)) (simple_right a y h)
   plain_right _ (plain.choose {p = p} {first = first} {more = more} {otherwise = otherwise} bs os) a = subst (SaysRight a) (sym (statement_if p first more otherwise)) (conditional_walk a (branch_of first) (map branch_of more) (map statement otherwise) (branches_right (first ∷ more) bs a) (each_right otherwise os a))
   plain_right _ (plain.loop {p = p} {ss = ss} h) a = subst (SaysRight a) (sym (statement_loop p ss)) (endless_walk a (map statement ss) (each_right ss h (spec.in_loop a)))
   plain_right _ (plain.while {p = p} {c = c} {ss = ss} h) a = subst (SaysRight a) (sym (statement_while p c ss)) (while_walk a c (map statement ss) (each_right ss h (spec.in_loop a)))

@@ -1,6 +1,7 @@
 -- What holds of all that the check gives.
-use Rattle.std.specs.Prelude.{Option, ◌≡◌, ℕ, true, List, [], length, map, Some, Ok}
+use Rattle.std.specs.Prelude.{Option, ◌≡◌, ℕ, List, [], length, map, Some, Ok}
 use Rattle.ctl_program.specs.declared.types.Ty.{Ty}
+use Rattle.ctl_program.specs.declared.types.Ty.TheVariants.{Boolean}
 use Rattle.ctl_program.specs.declared.program.Checked.{Checked}
 use Rattle.ctl_tree.specs.declared.fault.Fault.{Fault}
 use Rattle.ctl_tree.specs.declared.span.Span.{Span}
@@ -8,7 +9,7 @@ use Rattle.ctl_syntax.specs.declared.name.Mark.{Mark}
 use Rattle.ctl_syntax.specs.declared.name.Name.{Name}
 use Rattle.ctl_typing.specs.declared.found.Asked.TheVariants.{Exactly}
 use Rattle.ctl_typing.specs.Senses.{suffix_sense}
-use Rattle.ctl_statements.specs.Statements.{assignment, call, raising, exit_by, return_value}
+use Rattle.ctl_statements.specs.Statements.{assignment, call, raising, return_value}
 use Rattle.ctl_syntax.specs.declared.denoted.Use.{Use}
 use Rattle.ctl_syntax.specs.declared.expression.Expression.{Expression}
 use Rattle.ctl_program.specs.declared.types.Root.{Root}
@@ -24,8 +25,8 @@ use Rattle.ctl_types.specs.Elaboration.{Elaborates}
 use Rattle.ctl_declarations.specs.Declarations.{object_type, value_of, discriminant, heading_types}
 use Rattle.ctl_well_typed.specs.Programs.{WellTyped}
 use Rattle.ctl_well_typed.specs.Types.{HasDiscriminant}
-use Rattle.ctl_well_typed.specs.Expressions.{Perhaps}
-use Rattle.ctl_typing.specs.Typing.{sense, expression}
+use Rattle.ctl_well_typed.specs.Expressions.{Perhaps, Typed}
+use Rattle.ctl_typing.specs.Typing.{sense, expression, truth_of}
 use Rattle.ctl_well_typed.specs.Setting.{Frames, Setting, InView}
 use Rattle.ctl_well_typed.specs.Statements.{Around, Given, Puts, Done}
 use Rattle.ctl_sound.specs.Known.{All, Gives, IfSome, Stays}
@@ -42,16 +43,15 @@ pub record ExpressionKeepsFaults (x : Expression Use) : Type 0 where
   pub of_type : (tables : Tables) (asked : Asked) → Stays (expression x tables asked)
   pub put : (tables : Tables) → Stays ((sense x).texts tables)
 
--- wherever the tables are sound: what is known of an assignment or a call of this name, of a raise, and of an exit or a return with this value, is
--- well typed
+-- wherever the tables are sound: what is known of an assignment or a call of this name, of a raise, of a return with this value, and of this
+-- value as a condition (5.3, 5.5, 5.7), is well typed
 pub record SimpleStatementsWellTyped (n : Name Use (Expression Use)) (x : Expression Use) : Type 0 where
   pub assignment : (k : Setting) (env : Frames) (tables : Tables) → Sound k env tables → (a : Around) → Gives (Done k env a) (assignment n.first (map suffix_sense n.suffixes) (sense x) tables)
   pub call : (k : Setting) (env : Frames) (tables : Tables) → Sound k env tables → (a : Around) (place : Span) → Gives (Done k env a) (call place n.first (map suffix_sense n.suffixes) tables)
   pub raise : (k : Setting) (env : Frames) (tables : Tables) → Sound k env tables → (a : Around) (place : Span) (m : Mark Use) → Gives (Done k env a) (raising place m tables)
-  -- in a loop
-  pub exit : (k : Setting) (env : Frames) (tables : Tables) → Sound k env tables → (a : Around) → a.in_loop ≡ true → Gives (Done k env a) (exit_by (Some (sense x)) tables)
   -- in the body of a function with this result
   pub return : (k : Setting) (env : Frames) (tables : Tables) → Sound k env tables → (a : Around) (t : Ty) → a.gives ≡ Some t → InView k env t → Gives (Done k env a) (return_value (Exactly t) (sense x) tables)
+  pub condition : (k : Setting) (env : Frames) (tables : Tables) → Sound k env tables → Gives (λ c. Typed k env c Boolean) (truth_of tables (sense x))
 
 -- wherever the tables are sound: the type of these objects can be used there, a value of them and discriminants in their positions are well
 -- typed, and the types of this heading can be used there
@@ -66,8 +66,8 @@ pub record SimpleStatementsKeepFaults (n : Name Use (Expression Use)) (x : Expre
   pub assignment : (tables : Tables) → Stays (assignment n.first (map suffix_sense n.suffixes) (sense x) tables)
   pub call : (tables : Tables) (place : Span) → Stays (call place n.first (map suffix_sense n.suffixes) tables)
   pub raise : (tables : Tables) (place : Span) (m : Mark Use) → Stays (raising place m tables)
-  pub exit : (tables : Tables) → Stays (exit_by (Some (sense x)) tables)
   pub return : (tables : Tables) (asked : Asked) → Stays (return_value asked (sense x) tables)
+  pub condition : (tables : Tables) → Stays (truth_of tables (sense x))
 
 -- nor by what these declarations name and hold
 pub record DeclarationsKeepFaults (o : Objects Definition Use) (s : Specification Definition Use) : Type 0 where

@@ -24,7 +24,7 @@ pub fn expression_keeps_faults(expression: &Expression<Use>)
 }
 
 /// Says of a name and an expression that the simple statements of them are well typed in their checked form, wherever the tables are sound,
-/// and so is each raise (RM 5.2, 5.7, 6.4, 6.5, 11.3).
+/// and so is each raise, and the expression as a condition (RM 5.2, 5.3, 5.5, 5.7, 6.4, 6.5, 11.3).
 pub fn simple_statements_are_well_typed(name: &Name<Use, Expression<Use>>, value: &Expression<Use>)
     ensures { SimpleStatementsWellTyped name.now value.now }
 {
@@ -49,7 +49,8 @@ pub fn beginning_is_sound()
     ensures { BeginningSound }
 {}
 
-/// Says of a name and an expression that no simple statement of them takes a fault back that was noted before, nor a raise.
+/// Says of a name and an expression that no simple statement of them takes a fault back that was noted before, nor a raise, nor the
+/// expression as a condition.
 pub fn simple_statements_keep_faults(name: &Name<Use, Expression<Use>>, value: &Expression<Use>)
     ensures { SimpleStatementsKeepFaults name.now value.now }
 {

@@ -1,6 +1,6 @@
 use Rattle.ctl_grammar.proofs.Late.{function_here, function_past, procedure_here, procedure_past, specification_here, specification_past}
 use Rattle.ctl_grammar.specs.Form.{at, leaf, none, pair, tag, written}
-use Rattle.ctl_grammar.specs.Grammar.{behind, behind_is, behind_name, body, branch, branches, clause, completed, completed_function, completed_procedure, completed_specification, completion, declared, end_name, exit_statement, function, function_item, handled, handler, handler_list, handlers, identifier, identifiers, instance, item, name, named_item, named_statement, next_branch, null_statement, otherwise, overriding_item, part, procedure_item, raise_statement, return_statement, statement, statements, type_item}
+use Rattle.ctl_grammar.specs.Grammar.{behind, behind_is, behind_name, body, branch, branches, clause, completed, completed_function, completed_procedure, completed_specification, completion, declared, end_name, function, function_item, handled, handler, handler_list, handlers, identifier, identifiers, instance, item, name, named_item, next_branch, otherwise, overriding_item, part, procedure_item, simple_statement, statement, statements, type_item}
 use Rattle.ctl_grammar.specs.Label as labels
 use Rattle.ctl_grammar.specs.Nodes.{behind_2, behind_3, first, identifier_of, no, or_else, part_2, part_2_letters, part_3, part_5, procedure_of, row_of, second, yes}
 use Rattle.ctl_grammar.specs.Reading.{read}
@@ -17,52 +17,20 @@ use Rattle.std.proofs.Common.{ap, map, refl, subst, sym, ◌∙◌}
 use Rattle.ctl_parse.proofs.cursor.Parser.+statements.Goals as goal
 
 pub statements-more-init : goal.statements-more-init
-unfolding statements statement null_statement named_statement exit_statement return_statement raise_statement name identifier
+unfolding statements statement simple_statement name identifier
 statements-more-init t c = beginning_pushed view_statement c.statement-first.ensures (subst (λ b. Appends b c.statement-first.result c.push.new.all c.statement-first.new.self c.push.new.self) c.new-all.ensures c.push.ensures)
 
 pub statements-more-smaller : goal.statements-more-smaller
-unfolding statements statement null_statement named_statement exit_statement return_statement raise_statement name identifier
+unfolding statements statement simple_statement name identifier
 statements-more-smaller t c = smaller refl (sym c.at_statement.ensures ∙ c.more-test.true) c.statement-next.ensures c.push-in-more.ensures
 
 pub statements-more-preserved : goal.statements-more-preserved
-unfolding statements statement null_statement named_statement exit_statement return_statement raise_statement name identifier
+unfolding statements statement simple_statement name identifier
 statements-more-preserved t c = gathering view_statement c.more.invariant refl (sym c.at_statement.ensures ∙ c.more-test.true) c.statement-next.ensures c.push-in-more.ensures
 
 pub statements-returns : goal.statements-returns
-unfolding statements statement null_statement named_statement exit_statement return_statement raise_statement name identifier
+unfolding statements statement simple_statement name identifier
 statements-returns t c = gathered c.more.invariant (sym c.at_statement.ensures ∙ c.more-test.false)
-
-pub statement-returns-then-next_is : goal.statement-returns-then-next_is
-unfolding statement null_statement named_statement exit_statement return_statement raise_statement name identifier
-statement-returns-then-next_is t c = choosing (sym c.next_is.ensures ∙ c.if-next_is.true) (c.null_statement.ensures)
-
-pub statement-returns-then-next_is-2 : goal.statement-returns-then-next_is-2
-unfolding statement null_statement named_statement exit_statement return_statement raise_statement name identifier
-statement-returns-then-next_is-2 t c = passing (sym c.next_is.ensures ∙ c.if-next_is.false) (choosing (sym c.next_is-else-next_is.ensures ∙ c.if-next_is-2.true) (c.named_statement.ensures))
-
-pub statement-returns-then-next_is-3 : goal.statement-returns-then-next_is-3
-unfolding statement null_statement named_statement exit_statement return_statement raise_statement name identifier
-statement-returns-then-next_is-3 t c = passing (sym c.next_is.ensures ∙ c.if-next_is.false) (passing (sym c.next_is-else-next_is.ensures ∙ c.if-next_is-2.false) (choosing (sym c.next_is-else-next_is-2.ensures ∙ c.if-next_is-3.true) (c.exit_statement.ensures)))
-
-pub statement-returns-then-next_is-4 : goal.statement-returns-then-next_is-4
-unfolding statement null_statement named_statement exit_statement return_statement raise_statement name identifier
-statement-returns-then-next_is-4 t c = passing (sym c.next_is.ensures ∙ c.if-next_is.false) (passing (sym c.next_is-else-next_is.ensures ∙ c.if-next_is-2.false) (passing (sym c.next_is-else-next_is-2.ensures ∙ c.if-next_is-3.false) (choosing (sym c.next_is-else-next_is-3.ensures ∙ c.if-next_is-4.true) (c.return_statement.ensures))))
-
-pub statement-returns-then-next_is-5 : goal.statement-returns-then-next_is-5
-unfolding statement null_statement named_statement exit_statement return_statement raise_statement name identifier
-statement-returns-then-next_is-5 t c = passing (sym c.next_is.ensures ∙ c.if-next_is.false) (passing (sym c.next_is-else-next_is.ensures ∙ c.if-next_is-2.false) (passing (sym c.next_is-else-next_is-2.ensures ∙ c.if-next_is-3.false) (passing (sym c.next_is-else-next_is-3.ensures ∙ c.if-next_is-4.false) (choosing (sym c.next_is-else-next_is-4.ensures ∙ c.if-next_is-5.true) (c.raise_statement.ensures)))))
-
-pub statement-returns-then-next_is-6 : goal.statement-returns-then-next_is-6
-unfolding statement null_statement named_statement exit_statement return_statement raise_statement name identifier
-statement-returns-then-next_is-6 t c = passing (sym c.next_is.ensures ∙ c.if-next_is.false) (passing (sym c.next_is-else-next_is.ensures ∙ c.if-next_is-2.false) (passing (sym c.next_is-else-next_is-2.ensures ∙ c.if-next_is-3.false) (passing (sym c.next_is-else-next_is-3.ensures ∙ c.if-next_is-4.false) (passing (sym c.next_is-else-next_is-4.ensures ∙ c.if-next_is-5.false) (choosing (sym c.next_is-else-next_is-5.ensures ∙ c.if-next_is-6.true) (c.conditional.ensures))))))
-
-pub statement-returns-then-at_repetition : goal.statement-returns-then-at_repetition
-unfolding statement null_statement named_statement exit_statement return_statement raise_statement name identifier
-statement-returns-then-at_repetition t c = passing (sym c.next_is.ensures ∙ c.if-next_is.false) (passing (sym c.next_is-else-next_is.ensures ∙ c.if-next_is-2.false) (passing (sym c.next_is-else-next_is-2.ensures ∙ c.if-next_is-3.false) (passing (sym c.next_is-else-next_is-3.ensures ∙ c.if-next_is-4.false) (passing (sym c.next_is-else-next_is-4.ensures ∙ c.if-next_is-5.false) (passing (sym c.next_is-else-next_is-5.ensures ∙ c.if-next_is-6.false) (choosing (sym c.at_repetition.ensures ∙ c.if-at_repetition.true) (c.repetition.ensures)))))))
-
-pub statement-returns-else-at_repetition : goal.statement-returns-else-at_repetition
-unfolding statement null_statement named_statement exit_statement return_statement raise_statement name identifier
-statement-returns-else-at_repetition t c = passing (sym c.next_is.ensures ∙ c.if-next_is.false) (passing (sym c.next_is-else-next_is.ensures ∙ c.if-next_is-2.false) (passing (sym c.next_is-else-next_is-2.ensures ∙ c.if-next_is-3.false) (passing (sym c.next_is-else-next_is-3.ensures ∙ c.if-next_is-4.false) (passing (sym c.next_is-else-next_is-4.ensures ∙ c.if-next_is-5.false) (passing (sym c.next_is-else-next_is-5.ensures ∙ c.if-next_is-6.false) (passing (sym c.at_repetition.ensures ∙ c.if-at_repetition.false) (c.block.ensures)))))))
 
 pub conditional-returns-then-open : goal.conditional-returns-then-open
 conditional-returns-then-open t c = nesting c.next_is-is_next.ensures (c.open.ensures.opened c.if-open.true) c.in_conditional-inside.ensures c.close.ensures.left (ap (λ r. r.now) c.close.ensures.rest) c.close.ensures.fault

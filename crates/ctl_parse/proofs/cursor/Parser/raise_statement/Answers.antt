@@ -1,18 +1,14 @@
 use Rattle.ctl_grammar.specs.Form.{at, pair, tag}
-use Rattle.ctl_grammar.specs.Grammar.{raise_statement}
 use Rattle.ctl_grammar.specs.Label as labels
-use Rattle.ctl_grammar.specs.Nodes.{first, part_2}
-use Rattle.ctl_parse.proofs.Keeping.{kept_part_2, paired}
-use Rattle.ctl_parse.proofs.PartViews.{view_raise, view_raise_again}
-use Rattle.ctl_parse.proofs.Steps.{being, kept_first, making, then}
+use Rattle.ctl_parse.proofs.Forms.{transferring}
+use Rattle.ctl_syntax.specs.declared.item.Statement.TheViews.{outs-Raise, outs-RaiseAgain}
+use Rattle.ctl_parse.proofs.PartViews.{view_layer}
 use Rattle.ctl_parse.specs.View.{mark_node, optional}
-use Rattle.std.proofs.Common.{ap, sym, ◌∙◌}
+use Rattle.std.proofs.Common.{ap, refl, sym, ◌∙◌}
 use Rattle.ctl_parse.proofs.cursor.Parser.raise_statement.Goals as goal
 
 pub returns-in-Some : goal.returns-in-Some
-unfolding raise_statement
-returns-in-Some c = being (view_raise _ _ ∙ ap (λ x. pair (at c.mark-span.result) (tag labels.Raise (optional mark_node x))) (sym c.in-Some.is)) (making (λ v. pair (first v) (tag labels.Raise (part_2 v))) (λ v. paired (kept_first v) (ap (tag labels.Raise) (kept_part_2 v))) (then c.mark-span.ensures (then c.raised-raised.ensures c.skip.ensures)))
+returns-in-Some c = transferring (λ n. refl) (view_layer _ (outs-Raise _ _) ∙ ap (λ x. pair (at c.mark-span.result) (tag labels.Raise (optional mark_node x))) (sym c.in-Some.is)) c.mark-span.ensures c.raised-raised.ensures c.skip.ensures
 
 pub returns-in-None : goal.returns-in-None
-unfolding raise_statement
-returns-in-None c = being (view_raise_again _ ∙ ap (λ x. pair (at c.mark-span.result) (tag labels.Raise (optional mark_node x))) (sym c.in-None.is)) (making (λ v. pair (first v) (tag labels.Raise (part_2 v))) (λ v. paired (kept_first v) (ap (tag labels.Raise) (kept_part_2 v))) (then c.mark-span.ensures (then c.raised-raised.ensures c.skip.ensures)))
+returns-in-None c = transferring (λ n. refl) (view_layer _ (outs-RaiseAgain _) ∙ ap (λ x. pair (at c.mark-span.result) (tag labels.Raise (optional mark_node x))) (sym c.in-None.is)) c.mark-span.ensures c.raised-raised.ensures c.skip.ensures
