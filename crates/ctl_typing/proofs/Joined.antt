@@ -9,9 +9,12 @@ strung_turn : {S A B : Type 0} (f : A → Judging S (List B)) (before b : Option
 strung_turn f before b s [] = refl
 strung_turn f before b s (x ∷ xs) = refl
 
--- one is judged, and then those behind it
-pub strung_walked : {S A B : Type 0} (f : A → Judging S (List B)) (before after b : Option (List B)) (x : A) (xs : List A) (s t : S) → f x s ≡ (b, t) → after ≡ lengthened before b → strung f after xs t ≡ strung f before (x ∷ xs) s
-strung_walked f before after b x xs s t judged more = ap (λ a. strung f a xs t) more ∙ sym (strung_turn f before b t xs) ∙ sym (ap (λ r. strung_on f before r xs) judged)
+onto_strung : {S A B : Type 0} (f : A → Judging S (List B)) (before after : Option (List B)) (r : Option (List B) × S) (xs : List A) (t : S) → strung_on (λ (q : Judging S (List B)). q) before r [] ≡ (after, t) → strung f after xs t ≡ strung_on f before r xs
+onto_strung f before after (b, s) xs t added = ap (λ p. strung f p.0 xs p.1) (sym added) ∙ sym (strung_turn f before b s xs)
+
+-- one is judged as it is put behind those before, and then those behind it
+pub strung_added : {S A B : Type 0} (f : A → Judging S (List B)) (before after : Option (List B)) (x : A) (xs : List A) (s t : S) → strung (λ (q : Judging S (List B)). q) before (f x ∷ []) s ≡ (after, t) → strung f after xs t ≡ strung f before (x ∷ xs) s
+strung_added f before after x xs s t added = onto_strung f before after (f x s) xs t added
 
 together_more : {A : Type 0} (xs : List (List A)) (x : List A) → together (xs ++ x ∷ []) ≡ together xs ++ x
 together_more [] x = append-nil x

@@ -8,10 +8,12 @@ use Rattle.ctl_syntax.specs.declared.name.Suffix.{Suffix}
 use Rattle.ctl_syntax.specs.declared.name.Suffix.TheVariants as suffix
 use Rattle.ctl_syntax.specs.declared.operators.Operand.{Operand}
 use Rattle.ctl_syntax.specs.declared.operators.LogicalOperator.{LogicalOperator}
+use Rattle.ctl_syntax.specs.declared.operators.RelationalOperator.{RelationalOperator}
+use Rattle.ctl_syntax.specs.declared.operators.UnaryOperator.{UnaryOperator}
 use Rattle.ctl_syntax.specs.declared.expression.Expression.{Expression, map-Expression, fold-roll-Expression}
 use Rattle.ctl_syntax.specs.declared.expression.Expression.TheOpen.{Expression-F}
 use Rattle.ctl_syntax.specs.declared.expression.Expression.TheVariants as x
-use Rattle.ctl_syntax.specs.declared.expression.Expression.TheVariants.{rolls-Number, rolls-Null, rolls-Logical, rolls-Name, rolls-Chain, rolls-New}
+use Rattle.ctl_syntax.specs.declared.expression.Expression.TheVariants.{rolls-Number, rolls-Null, rolls-String, rolls-Logical, rolls-Relation, rolls-Unary, rolls-Parentheses, rolls-Name, rolls-Chain, rolls-New}
 use Rattle.ctl_typing.specs.Senses.{suffix_sense, name_sense, operand_sense}
 use Rattle.ctl_typing.specs.Typing.{Sense, sense, step_of}
 
@@ -62,3 +64,15 @@ sense_number p n = rw (← rolls-Number, fold-roll-Expression) refl
 
 pub sense_null : (p : Span) → sense (x.Null p) ≡ step_of (Expression-F.Null p)
 sense_null p = rw (← rolls-Null, fold-roll-Expression) refl
+
+pub sense_string : (p : Span) (s : List ℕ) → sense (x.String p s) ≡ step_of (Expression-F.String p s)
+sense_string p s = rw (← rolls-String, fold-roll-Expression) refl
+
+pub sense_relation : (p : Span) (o : RelationalOperator) (a b : Expression Use) → sense (x.Relation p o a b) ≡ step_of (Expression-F.Relation p o (sense a) (sense b))
+sense_relation p o a b = rw (← rolls-Relation, fold-roll-Expression) refl
+
+pub sense_unary : (p : Span) (o : UnaryOperator) (a : Expression Use) → sense (x.Unary p o a) ≡ step_of (Expression-F.Unary p o (sense a))
+sense_unary p o a = rw (← rolls-Unary, fold-roll-Expression) refl
+
+pub sense_parentheses : (p : Span) (a : Expression Use) → sense (x.Parentheses p a) ≡ step_of (Expression-F.Parentheses p (sense a))
+sense_parentheses p a = rw (← rolls-Parentheses, fold-roll-Expression) refl

@@ -12,14 +12,13 @@ use crate::allocators::{allocator, handle_of, mark_judged, value_asked};
 use crate::attributes::attributed;
 use crate::conversions::{converted_access, converted_number, imaged, subpool_of, viewed};
 use crate::found::{Asked, Found, Typed, discard};
-use crate::joining::{paired_with, value_of};
+use crate::joining::{appended_with, paired_with, value_of};
 use crate::judging::wrong;
 use crate::literals::{first_found, null, number};
 use crate::lookup::profile_of;
 use crate::names::{dereference, result_found, selector};
 use crate::notes::Notes;
 use crate::operations::{chain, logical, relation, unary};
-use crate::operators::appended;
 use crate::table::{FormalEntry, Tables};
 use crate::values::name_value;
 use ctl_program::expression::{Actual, Expr};
@@ -417,8 +416,8 @@ fn actuals_behind(
         let Some(formal) = formals.get(at) else {
             return Ok(done);
         };
-        let one = actual_of(alloc, tables, x, *formal, notes)?;
-        done = appended(done, one)?;
+        let one = actual_of(alloc, tables, x, *formal, notes);
+        done = appended_with(done, one)?;
     }
     Ok(done)
 }
@@ -442,8 +441,8 @@ pub fn actuals(
     if others.len() != more.len() {
         return Ok(wrong(FaultCode::Type, place, notes));
     }
-    let one = actual_of(alloc, tables, first, *formal, notes)?;
-    let so_far = appended(Some(Items::new(alloc)), one)?;
+    let one = actual_of(alloc, tables, first, *formal, notes);
+    let so_far = appended_with(Some(Items::new(alloc)), one)?;
     actuals_behind(alloc, tables, more, others, so_far, notes)
 }
 

@@ -1,15 +1,17 @@
 //! What is known of an expression with several operands, once each of them is judged (RM 4.5).
 
-ghost use Rattle.std.specs.Prelude.{◌≡◌};
+ghost use Rattle.std.specs.Prelude.{◌≡◌, ◌∷◌, []};
 ghost use Rattle.ctl_typing.specs.declared.notes.Notes.{Notes as Noted};
-ghost use Rattle.ctl_typing.specs.Judgement.{Judges, beside, onward, paired as both_known};
+ghost use Rattle.ctl_typing.specs.Judgement.{Judges, beside, each, known, onward, paired as both_known, with_known};
 ghost use Rattle.ctl_typing.specs.Senses as senses;
+ghost use Rattle.ctl_typing.specs.Typing.{logical_operand, operand_of as made, operator_of as meant};
 
 use crate::found::{Asked, Typed};
 use crate::judging::fits;
 use crate::notes::Notes;
 use crate::operators::{
-    both_boxed, chain_of, joined, logical_chain, operand_of, operator_of, relation_of, unary_of,
+    appended, both_boxed, chain_of, joined, logical_chain, operand_of, operator_of, relation_of,
+    unary_of,
 };
 use ctl_program::expression::{Expr, Operand};
 use ctl_program::operators::{BinaryOp, Shortcut};
@@ -37,6 +39,16 @@ pub fn paired_with<A: Drop, B: Drop>(
     ensures { (q : _) (old new : Noted) → Judges q old second new → Judges (λ s. beside q (first, s)) old result new }
 {
     Ok(paired(first, second?))
+}
+
+/// Adds what is known of one more, which is judged after those so far; memory may be refused for that. Unless each is known, nothing is.
+pub fn appended_with<T: Drop>(
+    done: Option<Items<T>>,
+    one: Result<Option<T>, AllocError>,
+) -> Result<Option<Items<T>>, AllocError>
+    ensures { (q : _) (old new : Noted) → Judges q old one new → Judges (each (λ j. j) done (q ∷ [])) old result new }
+{
+    appended(done, one?)
 }
 
 /// Puts what is known of two parts the other way round.
@@ -76,6 +88,40 @@ pub fn operand_typed(operator: ArithmeticOperator, typed: Option<Typed>) -> Opti
     match typed {
         Some(typed) => Some(operand_of(operator_of(operator), typed.ty, typed.value)),
         None => None,
+    }
+}
+
+/// Adds an operand of `and`, `or` or `xor` of a value that is judged after those so far; memory may be refused for that (RM 4.5.1).
+pub fn truth_appended(
+    done: Option<Items<Operand>>,
+    op: BinaryOp,
+    value: Result<Option<Expr>, AllocError>,
+) -> Result<Option<Items<Operand>>, AllocError>
+    ensures { (q : _) (old new : Noted) → Judges q old value new → Judges (each (λ j. j) done ((λ s. with_known (λ v. known (logical_operand op v)) (q s)) ∷ [])) old result new }
+{
+    match value {
+        Ok(value) => appended(done, operand_behind(op, value)),
+        Err(error) => {
+            drop(done);
+            Err(error)
+        }
+    }
+}
+
+/// Adds an operand of a chain of an expression that is judged after those so far; memory may be refused for that (RM 4.5.3, 4.5.5).
+pub fn operand_appended(
+    done: Option<Items<Operand>>,
+    operator: ArithmeticOperator,
+    typed: Result<Option<Typed>, AllocError>,
+) -> Result<Option<Items<Operand>>, AllocError>
+    ensures { (q : _) (old new : Noted) → Judges q old typed new → Judges (each (λ j. j) done ((λ s. with_known (λ r. known (made (meant operator) r.ty r.value)) (q s)) ∷ [])) old result new }
+{
+    match typed {
+        Ok(typed) => appended(done, operand_typed(operator, typed)),
+        Err(error) => {
+            drop(done);
+            Err(error)
+        }
     }
 }
 
@@ -192,6 +238,20 @@ pub fn chain_joined(
         return Ok(None);
     };
     Ok(Some(joined(alloc, operator_of(operator), leading, first, behind)?))
+}
+
+/// Joins the operands around one that gives the others their type with it, and which are judged after it, where they are known; memory may
+/// be refused for that (RM 4.5.3).
+pub fn chain_led_by(
+    alloc: Global,
+    operator: ArithmeticOperator,
+    leading: Option<Typed>,
+    around: Result<Option<((Expr, Items<Operand>), Items<Operand>)>, AllocError>,
+) -> Result<Option<Typed>, AllocError>
+    ensures { (q : _) (old new : Noted) → Judges q old around new → Judges (λ s. with_known (senses.led_by operator) (beside q (leading, s))) old result new }
+{
+    let all = paired_with(leading, around)?;
+    chain_joined(alloc, operator, all)
 }
 
 /// Joins literals of a type, where they are known (RM 4.5.3, profile).

@@ -10,13 +10,14 @@ use crate::adopting::{adopts, has_joining, is_led_by_right, parted, takes_on};
 use crate::expressions::{expression, truth};
 use crate::found::{Asked, Typed};
 use crate::joining::{
-    boolean, chain_joined, chain_typed, literals_joined, operand_behind, operand_typed, paired,
-    paired_with, relation_joined, short_circuit, swapped, truths_joined, unary_joined, value_of,
+    appended_with, boolean, chain_led_by, chain_typed, literals_joined, operand_appended, paired,
+    paired_with, relation_joined, short_circuit, swapped, truth_appended, truths_joined,
+    unary_joined, value_of,
 };
 use crate::judging::{fitted, wrong};
 use crate::literals::adopted;
 use crate::notes::Notes;
-use crate::operators::{appended, asked_beside, asked_by_one, asked_like, compared};
+use crate::operators::{asked_beside, asked_by_one, asked_like, compared};
 use crate::table::Tables;
 use ctl_program::expression::{Expr, Operand};
 use ctl_program::operators::{BinaryOp, Shortcut};
@@ -101,8 +102,8 @@ fn truths_behind(
 {
     let mut done = Some(Items::new(alloc));
     for x in more {
-        let value = truth(alloc, tables, x, notes)?;
-        done = appended(done, operand_behind(op, value))?;
+        let value = truth(alloc, tables, x, notes);
+        done = truth_appended(done, op, value)?;
     }
     Ok(done)
 }
@@ -135,8 +136,8 @@ fn truths(
 {
     let mut done = Some(Items::new(alloc));
     for x in more {
-        let value = truth(alloc, tables, x, notes)?;
-        done = appended(done, value)?;
+        let value = truth(alloc, tables, x, notes);
+        done = appended_with(done, value)?;
     }
     Ok(done)
 }
@@ -253,11 +254,8 @@ fn by_second(
 {
     let typed = expression(alloc, tables, &second.operand, Asked::Number, notes)?;
     let like = asked_like(Asked::Number, &typed);
-    let all = paired_with(
-        typed,
-        around_second(alloc, tables, first, rest, like, notes),
-    )?;
-    chain_joined(alloc, second.operator, all)
+    let others = around_second(alloc, tables, first, rest, like, notes);
+    chain_led_by(alloc, second.operator, typed, others)
 }
 
 /// Judges the operands around a second one, of which they take on the type (RM 4.5.3).
@@ -324,8 +322,7 @@ fn by_further(
     let typed = expression(alloc, tables, &leading.operand, Asked::Number, notes)?;
     let like = asked_like(Asked::Number, &typed);
     let others = around_further(alloc, tables, first, second, before, behind, like, notes);
-    let all = paired_with(typed, others)?;
-    chain_joined(alloc, leading.operator, all)
+    chain_led_by(alloc, leading.operator, typed, others)
 }
 
 /// Judges the operands around a further one, of which they take on the type (RM 4.5.3).
@@ -380,9 +377,8 @@ fn operands_as(
 ) -> Result<Option<Items<Operand>>, AllocError>
     ensures { Judges (spec.operands_as tables.now asked (senses.operand_sense second.now ∷ map senses.operand_sense rest.now)) notes.old result notes.new }
 {
-    let typed = expression(alloc, tables, &second.operand, asked, notes)?;
-    let one = operand_typed(second.operator, typed);
-    let so_far = appended(Some(Items::new(alloc)), one)?;
+    let typed = expression(alloc, tables, &second.operand, asked, notes);
+    let so_far = operand_appended(Some(Items::new(alloc)), second.operator, typed)?;
     operands_behind(alloc, tables, rest, asked, so_far, notes)
 }
 
@@ -400,8 +396,8 @@ fn operands_behind(
 {
     let mut done = so_far;
     for operand in rest {
-        let typed = expression(alloc, tables, &operand.operand, asked, notes)?;
-        done = appended(done, operand_typed(operand.operator, typed))?;
+        let typed = expression(alloc, tables, &operand.operand, asked, notes);
+        done = operand_appended(done, operand.operator, typed)?;
     }
     Ok(done)
 }

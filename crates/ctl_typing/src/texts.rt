@@ -1,7 +1,9 @@
 //! What is put by Put and Put_Line (RM A.10.7).
 
 ghost use Rattle.std.specs.Prelude.{◌≡◌, ◌∷◌, [], IfOk, map};
-ghost use Rattle.ctl_typing.specs.Judgement.{Judges};
+ghost use Rattle.ctl_program.specs.declared.statement.Piece.TheVariants as made;
+ghost use Rattle.ctl_typing.specs.declared.notes.Notes.{Notes as Noted};
+ghost use Rattle.ctl_typing.specs.Judgement.{Judges, known};
 ghost use Rattle.ctl_typing.specs.Putting as putting;
 ghost use Rattle.ctl_typing.specs.Senses as senses;
 ghost use Rattle.ctl_typing.specs.Typing as spec;
@@ -34,6 +36,14 @@ fn alone(alloc: Global, piece: Piece) -> Result<Items<Piece>, AllocError>
     Ok(pieces)
 }
 
+/// Makes the piece that is a string literal (RM 2.6).
+fn literal(alloc: Global, text: &Text) -> Result<Option<Items<Piece>>, AllocError>
+    ensures { (notes : Noted) → Judges (known (made.Text text.now ∷ [])) notes result notes }
+{
+    let text = Text::from_slice(alloc, text.as_bytes())?;
+    Ok(Some(alone(alloc, Piece::Text(text))?))
+}
+
 /// Adds pieces behind those so far; unless both are known, nothing is.
 fn lengthened(
     done: Option<Items<Piece>>,
@@ -47,6 +57,22 @@ fn lengthened(
             Ok(Some(pieces))
         }
         _ => Ok(None),
+    }
+}
+
+/// Adds pieces of what is judged after those so far, behind them; memory may be refused for that. Unless both are known, nothing is.
+fn lengthened_with(
+    done: Option<Items<Piece>>,
+    more: Result<Option<Items<Piece>>, AllocError>,
+) -> Result<Option<Items<Piece>>, AllocError>
+    ensures { (q : _) (old new : Noted) → Judges q old more new → Judges (putting.strung (λ j. j) done (q ∷ [])) old result new }
+{
+    match more {
+        Ok(more) => lengthened(done, more),
+        Err(error) => {
+            drop(done);
+            Err(error)
+        }
     }
 }
 
@@ -120,10 +146,7 @@ pub fn texts(
     ensures { Judges ((spec.sense x.now).texts tables.now) notes.old result notes.new }
 {
     match x {
-        Expression::String(_, text) => {
-            let text = Text::from_slice(alloc, text.as_bytes())?;
-            Ok(Some(alone(alloc, Piece::Text(text))?))
-        }
+        Expression::String(_, text) => literal(alloc, text),
         Expression::Name(_, name) => {
             let found = found(alloc, tables, name, notes)?;
             name_put(alloc, tables, name.first.span, found, notes)
@@ -158,8 +181,8 @@ fn joined_texts(
     ensures { Judges (putting.joined_texts tables.now (spec.sense first.now) (senses.operand_sense second.now ∷ map senses.operand_sense rest.now)) notes.old result notes.new }
 {
     let first = texts(alloc, tables, first, notes)?;
-    let second = texts(alloc, tables, &second.operand, notes)?;
-    let so_far = lengthened(first, second)?;
+    let second = texts(alloc, tables, &second.operand, notes);
+    let so_far = lengthened_with(first, second)?;
     texts_behind(alloc, tables, rest, so_far, notes)
 }
 
@@ -176,8 +199,8 @@ fn texts_behind(
 {
     let mut done = so_far;
     for operand in rest {
-        let text = texts(alloc, tables, &operand.operand, notes)?;
-        done = lengthened(done, text)?;
+        let text = texts(alloc, tables, &operand.operand, notes);
+        done = lengthened_with(done, text)?;
     }
     Ok(done)
 }

@@ -5,7 +5,7 @@ use Rattle.std.proofs.Common.{arith, if◌then◌else◌, Option, option_map, sy
 use Rattle.ctl_syntax.specs.declared.denoted.Use.{Use}
 use Rattle.ctl_syntax.specs.declared.expression.Expression.{Expression, size-Expression, size_is-Expression}
 use Rattle.ctl_syntax.specs.declared.expression.Expression.TheVariants.{Logical, outs-Logical, New, outs-New, Relation, outs-Relation}
-use Rattle.ctl_typing.specs.Judgement.{◌>>=◌, appended, beside, each, following, known, onward, then_beside, with_known}
+use Rattle.ctl_typing.specs.Judgement.{◌>>=◌, beside, each, following, known, onward, then_beside, with_known}
 use Rattle.ctl_program.specs.declared.types.Ty.{Ty}
 use Rattle.ctl_syntax.specs.declared.operators.Operand.{Operand}
 use Rattle.ctl_typing.specs.Allocating.{by_parts, given, handle_of}
@@ -19,9 +19,9 @@ use Rattle.ctl_typing.proofs.Depths.{around_one, chain_depth}
 use Rattle.ctl_typing.proofs.Logical.{logical_judged_is}
 use Rattle.ctl_typing.proofs.Matching.{no_more, no_more_formals}
 use Rattle.ctl_typing.proofs.Parting.{second_is_typed, further_is_typed, led_by}
-use Rattle.ctl_typing.proofs.Senses.{sense_name, sense_chain, sense_logical, sense_new, sense_number, sense_null}
+use Rattle.ctl_typing.proofs.Senses.{sense_name, sense_chain, sense_logical, sense_new, sense_number, sense_null, sense_parentheses, sense_relation, sense_string, sense_unary}
 use Rattle.ctl_typing.proofs.Stages.{judged_as, onward_is, both_are, both_judged, following_judged, swapped_is}
-use Rattle.ctl_typing.proofs.Turns.{each_walked, next_of}
+use Rattle.ctl_typing.proofs.Turns.{each_added, first_added, next_of}
 use Rattle.ctl_typing.proofs.+expression.Goals as goal
 
 pub expressions::expression-returns-in-Logical : goal.expressions::expression-returns-in-Logical
@@ -33,6 +33,24 @@ pub expressions::expression-returns-in-Chain : goal.expressions::expression-retu
 expressions::expression-returns-in-Chain t c =
     let i = c.in-Chain in
     rw (i.is, sense_chain i.place i.first i.second i.rest, ← c.get-first-in-Chain.ensures, ← c.get-second-in-Chain.ensures, ← c.as_slice-in-Chain.ensures) c.chain.ensures
+
+pub expressions::expression-returns-in-Relation : goal.expressions::expression-returns-in-Relation
+expressions::expression-returns-in-Relation t c =
+    let i = c.in-Relation in
+    rw (i.is, sense_relation i.place i.operator i.left i.right, ← c.get.ensures, ← c.get-in-Relation.ensures) c.relation.ensures
+
+pub expressions::expression-returns-in-Unary : goal.expressions::expression-returns-in-Unary
+expressions::expression-returns-in-Unary t c =
+    let i = c.in-Unary in
+    rw (i.is, sense_unary i.place i.operator i.operand, ← c.get-in-Unary.ensures) c.unary.ensures
+
+pub expressions::expression-returns-in-Parentheses : goal.expressions::expression-returns-in-Parentheses
+expressions::expression-returns-in-Parentheses t c =
+    let i = c.in-Parentheses in
+    rw (i.is, sense_parentheses i.field-0 i.inner, ← c.get-in-Parentheses.ensures) c.expression.ensures
+
+pub expressions::expression-returns-in-String : goal.expressions::expression-returns-in-String
+expressions::expression-returns-in-String t c = let i = c.in-String in rw (i.is, sense_string i.place i.field-1) c.wrong.ensures
 
 pub expressions::expression-returns-in-Number : goal.expressions::expression-returns-in-Number
 expressions::expression-returns-in-Number t c = let i = c.in-Number in rw (i.is, sense_number i.place i.value) (c.number.ensures c.args.tables.now)
@@ -282,8 +300,8 @@ operations::around_second-expression-requires t c = (omega (arith, c.decreases),
 pub operations::around_second-operands_behind-requires : goal.operations::around_second-operands_behind-requires
 operations::around_second-operands_behind-requires t c = (omega (arith, c.decreases), tt)
 
-pub operations::by_second-around_second-requires : goal.operations::by_second-around_second-requires
-operations::by_second-around_second-requires t c = (omega (arith, c.decreases), tt)
+pub operations::by_second-around_second-others-requires : goal.operations::by_second-around_second-others-requires
+operations::by_second-around_second-others-requires t c = (omega (arith, c.decreases), tt)
 
 pub operations::by_second-returns : goal.operations::by_second-returns
 operations::by_second-returns t c asked =
@@ -291,14 +309,17 @@ operations::by_second-returns t c asked =
     let x = spec.sense c.args.first.now in
     let o = operand_sense c.args.second.now in
     let os = map operand_sense c.args.rest.now in
+    let like = c.asked_like-like.result in
+    let leading = c.in_ok-typed.typed in
     let start = c.args.notes.now in
     let typed = c.expression.new.notes in
-    let ended = c.around_second.new.notes in
+    let ended = c.around_second-others.new.notes in
+    let joins = senses.led_by c.args.second.now.operator in
     let others = λ (r : Option Typed). spec.around tables x [] os (spec.asked_like Number r) in
-    let all = following_judged (o.operand.judged tables Number) others start typed ended c.in_ok-typed.typed c.in_ok-all.all c.in_ok-typed.ensures
-    (ap (λ a. beside (spec.around tables x [] os a) (c.in_ok-typed.typed, typed)) (sym c.asked_like-like.ensures) ∙ c.in_ok-all.ensures (spec.around tables x [] os c.asked_like-like.result) typed ended c.around_second.ensures) in
-    judged_as (spec.by_other tables asked x [] (Some o) os) (onward c.in_ok-all.all (senses.led_by c.args.second.now.operator)) start ended ended c.chain_joined.result
-    (ap (with_known (senses.led_by c.args.second.now.operator)) all) (c.chain_joined.ensures ended)
+    judged_as (spec.by_other tables asked x [] (Some o) os) (λ n. with_known joins (beside (spec.around tables x [] os like) (leading, n))) start typed ended c.chain_led_by.result
+    (ap (λ r. with_known joins (then_beside others r)) c.in_ok-typed.ensures
+    ∙ ap (λ a. with_known joins (beside (spec.around tables x [] os a) (leading, typed))) (sym c.asked_like-like.ensures))
+    (c.chain_led_by.ensures (spec.around tables x [] os like) typed ended c.around_second-others.ensures)
 
 pub operations::around_second-returns : goal.operations::around_second-returns
 operations::around_second-returns t c =
@@ -350,14 +371,17 @@ operations::by_further-returns t c asked =
     let o = operand_sense c.args.leading.now in
     let before = operand_sense c.args.second.now ∷ map operand_sense c.args.before.now in
     let os = map operand_sense c.args.behind.now in
+    let like = c.asked_like-like.result in
+    let leading = c.in_ok-typed.typed in
     let start = c.args.notes.now in
     let typed = c.expression.new.notes in
     let ended = c.around_further-others.new.notes in
+    let joins = senses.led_by c.args.leading.now.operator in
     let others = λ (r : Option Typed). spec.around tables x before os (spec.asked_like Number r) in
-    let all = following_judged (o.operand.judged tables Number) others start typed ended c.in_ok-typed.typed c.in_ok-all.all c.in_ok-typed.ensures
-    (ap (λ a. beside (spec.around tables x before os a) (c.in_ok-typed.typed, typed)) (sym c.asked_like-like.ensures) ∙ c.in_ok-all.ensures (spec.around tables x before os c.asked_like-like.result) typed ended c.around_further-others.ensures) in
-    judged_as (spec.by_other tables asked x before (Some o) os) (onward c.in_ok-all.all (senses.led_by c.args.leading.now.operator)) start ended ended c.chain_joined.result
-    (ap (with_known (senses.led_by c.args.leading.now.operator)) all) (c.chain_joined.ensures ended)
+    judged_as (spec.by_other tables asked x before (Some o) os) (λ n. with_known joins (beside (spec.around tables x before os like) (leading, n))) start typed ended c.chain_led_by.result
+    (ap (λ r. with_known joins (then_beside others r)) c.in_ok-typed.ensures
+    ∙ ap (λ a. with_known joins (beside (spec.around tables x before os a) (leading, typed))) (sym c.asked_like-like.ensures))
+    (c.chain_led_by.ensures (spec.around tables x before os like) typed ended c.around_further-others.ensures)
 
 pub operations::around_further-returns : goal.operations::around_further-returns
 operations::around_further-returns t c =
@@ -393,8 +417,8 @@ operations::first_as-returns t c =
     judged_as (spec.first_as tables asked x os) (λ n. beside (spec.operands_as tables asked os) (c.value_of.result, n)) start valued ended c.paired_with.result
     (ap (beside (spec.operands_as tables asked os)) value) (c.paired_with.ensures (spec.operands_as tables asked os) valued ended c.operands_as-others.ensures)
 
-pub operations::operands_as-expression-requires : goal.operations::operands_as-expression-requires
-operations::operands_as-expression-requires t c = (omega (arith, c.decreases), tt)
+pub operations::operands_as-expression-typed-requires : goal.operations::operands_as-expression-typed-requires
+operations::operands_as-expression-typed-requires t c = (omega (arith, c.decreases), tt)
 
 pub operations::operands_as-operands_behind-requires : goal.operations::operands_as-operands_behind-requires
 operations::operands_as-operands_behind-requires t c = (omega (arith, c.decreases), tt)
@@ -404,27 +428,55 @@ operations::operands_as-returns t c =
     let tables = c.args.tables.now in
     let asked = c.args.asked in
     let f = spec.operand_as tables asked in
-    let o = c.args.second.now in
+    let o = operand_sense c.args.second.now in
     let os = map operand_sense c.args.rest.now in
-    let typed = c.expression.new.notes in
-    let one = ap (with_known (λ (r : Typed). known {S = Notes} (spec.operand_of (spec.operator_of o.operator) r.ty r.value))) c.in_ok-typed.ensures ∙ c.operand_typed-one.ensures typed in
-    let so_far = c.in_ok-so_far.ensures ∙ ap (λ none. appended (Some none) c.operand_typed-one.result) c.new.ensures in
-    judged_as (spec.operands_as tables asked (operand_sense o ∷ os)) (each f c.in_ok-so_far.so_far os) c.args.notes.now typed c.operands_behind.new.notes c.operands_behind.result
-    (sym (each_walked f (Some []) c.in_ok-so_far.so_far c.operand_typed-one.result (operand_sense o) os c.args.notes.now typed one so_far)) c.operands_behind.ensures
+    let start = c.args.notes.now in
+    let typed = c.expression-typed.new.notes in
+    let so_far = c.in_ok-so_far.so_far in
+    judged_as (spec.operands_as tables asked (o ∷ os)) (each f so_far os) start typed c.operands_behind.new.notes c.operands_behind.result
+    (first_added f c.new.result so_far o os start typed c.new.ensures (c.in_ok-so_far.ensures (o.operand.judged tables asked) start typed c.expression-typed.ensures)) c.operands_behind.ensures
 
 pub operations::operands_behind-loop-operand-preserved : goal.operations::operands_behind-loop-operand-preserved
 operations::operands_behind-loop-operand-preserved t c =
     let all = c.args.rest.now in
     let i = c.loop-operand.operand-index in
     let o = c.operand-item.result in
+    let x = operand_sense o in
     let f = spec.operand_as c.args.tables.now c.args.asked in
     let before = c.loop-operand.notes in
-    let typed = c.expression.new.notes in
+    let typed = c.expression-typed.new.notes in
     let split = next_of all i o c.loop-operand-test.true c.operand-item.is in
-    let one = ap (with_known (λ (r : Typed). known {S = Notes} (spec.operand_of (spec.operator_of o.operator) r.ty r.value))) c.in_ok-typed.ensures ∙ c.operand_typed.ensures typed in
-    each_walked f c.loop-operand.done c.in_ok-done.done c.operand_typed.result (operand_sense o) (map operand_sense (drop (i + 1) all)) before typed one c.in_ok-done.ensures
+    each_added f c.loop-operand.done c.in_ok-done.done x (map operand_sense (drop (i + 1) all)) before typed
+    (c.in_ok-done.ensures (x.operand.judged c.args.tables.now c.args.asked) before typed c.expression-typed.ensures)
     ∙ ap (λ os. each f c.loop-operand.done (map operand_sense os) before) (sym split)
     ∙ c.loop-operand.invariant
+
+pub operations::truths-loop-x-preserved : goal.operations::truths-loop-x-preserved
+operations::truths-loop-x-preserved t c =
+    let all = c.args.more.now in
+    let i = c.loop-x.x-index in
+    let x = spec.sense c.x-item.result in
+    let f = spec.truth_of c.args.tables.now in
+    let before = c.loop-x.notes in
+    let judged = c.truth-value.new.notes in
+    let split = next_of all i c.x-item.result c.loop-x-test.true c.x-item.is in
+    each_added f c.loop-x.done c.in_ok-done.done x (map spec.sense (drop (i + 1) all)) before judged (c.in_ok-done.ensures (f x) before judged c.truth-value.ensures)
+    ∙ ap (λ xs. each f c.loop-x.done (map spec.sense xs) before) (sym split)
+    ∙ c.loop-x.invariant
+
+pub operations::truths_behind-loop-x-preserved : goal.operations::truths_behind-loop-x-preserved
+operations::truths_behind-loop-x-preserved t c =
+    let all = c.args.more.now in
+    let i = c.loop-x.x-index in
+    let x = spec.sense c.x-item.result in
+    let f = senses.truth_behind c.args.op c.args.tables.now in
+    let before = c.loop-x.notes in
+    let judged = c.truth-value.new.notes in
+    let split = next_of all i c.x-item.result c.loop-x-test.true c.x-item.is in
+    each_added f c.loop-x.done c.in_ok-done.done x (map spec.sense (drop (i + 1) all)) before judged
+    (c.in_ok-done.ensures (spec.truth_of c.args.tables.now x) before judged c.truth-value.ensures)
+    ∙ ap (λ xs. each f c.loop-x.done (map spec.sense xs) before) (sym split)
+    ∙ c.loop-x.invariant
 
 -- Names ----------------------------------------------------------------------------------------------------------------------------
 
@@ -445,8 +497,8 @@ expressions::with_arguments-with_one-requires t c = (omega (arith, c.decreases),
 pub expressions::called-actuals-requires : goal.expressions::called-actuals-requires
 expressions::called-actuals-requires t c = (omega (arith, c.decreases), tt)
 
-pub expressions::actuals-actual_of-requires : goal.expressions::actuals-actual_of-requires
-expressions::actuals-actual_of-requires t c = (omega (arith, c.decreases), tt)
+pub expressions::actuals-actual_of-one-requires : goal.expressions::actuals-actual_of-one-requires
+expressions::actuals-actual_of-one-requires t c = (omega (arith, c.decreases), tt)
 
 pub expressions::actuals-actuals_behind-requires : goal.expressions::actuals-actuals_behind-requires
 expressions::actuals-actuals_behind-requires t c = (omega (arith, c.decreases), tt)
@@ -491,9 +543,83 @@ expressions::number_as-returns t c =
     judged_as (senses.number_of tables c.args.ty x) (onward c.in_ok-typed.typed (spec.converted_number c.args.ty)) c.args.notes.now ended ended c.converted_number.result
     (ap (with_known (spec.converted_number c.args.ty)) c.in_ok-typed.ensures) (c.converted_number.ensures ended)
 
-pub operations::operands_behind-expression-requires : goal.operations::operands_behind-expression-requires
-operations::operands_behind-expression-requires t c =
+pub operations::operands_behind-expression-typed-requires : goal.operations::operands_behind-expression-typed-requires
+operations::operands_behind-expression-typed-requires t c =
     let o = c.operand-item.result in
     let below = at_most (λ (p : Operand (Expression Use)). size-Expression Use p.operand) c.args.rest.now c.loop-operand.operand-index o c.loop-operand-test.true in
     let same = ap (λ (p : Operand (Expression Use)). size-Expression Use p.operand) c.operand-item.is in
     (omega (arith, below, same, c.decreases), tt)
+
+-- Calls at one depth, to a function of lower rank ----------------------------------------------------------------------------------
+
+pub expressions::truth-expression-requires : goal.expressions::truth-expression-requires
+expressions::truth-expression-requires t c = (omega (arith, c.decreases), tt)
+
+pub expressions::named-found-requires : goal.expressions::named-found-requires
+expressions::named-found-requires t c = (omega (arith, c.decreases), tt)
+
+pub expressions::with_one-converted-requires : goal.expressions::with_one-converted-requires
+expressions::with_one-converted-requires t c = (omega (arith, c.decreases), tt)
+
+pub expressions::with_one-with_pool-requires : goal.expressions::with_one-with_pool-requires
+expressions::with_one-with_pool-requires t c = (omega (arith, c.decreases), tt)
+
+pub expressions::with_one-expression-requires : goal.expressions::with_one-expression-requires
+expressions::with_one-expression-requires t c = (omega (arith, c.decreases), tt)
+
+pub expressions::with_pool-bare-requires : goal.expressions::with_pool-bare-requires
+expressions::with_pool-bare-requires t c = (omega (arith, c.decreases), tt)
+
+pub expressions::converted-number_as-requires : goal.expressions::converted-number_as-requires
+expressions::converted-number_as-requires t c = (omega (arith, c.decreases), tt)
+
+pub expressions::converted-number_as-requires-in-Count : goal.expressions::converted-number_as-requires-in-Count
+expressions::converted-number_as-requires-in-Count t c = (omega (arith, c.decreases), tt)
+
+pub expressions::converted-expression-requires : goal.expressions::converted-expression-requires
+expressions::converted-expression-requires t c = (omega (arith, c.decreases), tt)
+
+pub expressions::converted-bare-requires : goal.expressions::converted-bare-requires
+expressions::converted-bare-requires t c = (omega (arith, c.decreases), tt)
+
+pub expressions::number_as-expression-requires : goal.expressions::number_as-expression-requires
+expressions::number_as-expression-requires t c = (omega (arith, c.decreases), tt)
+
+pub expressions::written_by-bare-requires : goal.expressions::written_by-bare-requires
+expressions::written_by-bare-requires t c = (omega (arith, c.decreases), tt)
+
+pub expressions::actual_value-expression-requires : goal.expressions::actual_value-expression-requires
+expressions::actual_value-expression-requires t c = (omega (arith, c.decreases), tt)
+
+pub expressions::actual_of-record_by-requires : goal.expressions::actual_of-record_by-requires
+expressions::actual_of-record_by-requires t c = (omega (arith, c.decreases), tt)
+
+pub expressions::actual_of-actual_value-requires : goal.expressions::actual_of-actual_value-requires
+expressions::actual_of-actual_value-requires t c = (omega (arith, c.decreases), tt)
+
+pub expressions::actual_of-written_by-requires : goal.expressions::actual_of-written_by-requires
+expressions::actual_of-written_by-requires t c = (omega (arith, c.decreases), tt)
+
+pub operations::logical_behind-whole-requires : goal.operations::logical_behind-whole-requires
+operations::logical_behind-whole-requires t c = (omega (arith, c.decreases), tt)
+
+pub operations::logical_behind-whole-requires-in-Or : goal.operations::logical_behind-whole-requires-in-Or
+operations::logical_behind-whole-requires-in-Or t c = (omega (arith, c.decreases), tt)
+
+pub operations::logical_behind-whole-requires-in-Xor : goal.operations::logical_behind-whole-requires-in-Xor
+operations::logical_behind-whole-requires-in-Xor t c = (omega (arith, c.decreases), tt)
+
+pub operations::logical_behind-short-requires : goal.operations::logical_behind-short-requires
+operations::logical_behind-short-requires t c = (omega (arith, c.decreases), tt)
+
+pub operations::logical_behind-short-requires-in-OrElse : goal.operations::logical_behind-short-requires-in-OrElse
+operations::logical_behind-short-requires-in-OrElse t c = (omega (arith, c.decreases), tt)
+
+pub operations::whole-truths_behind-requires : goal.operations::whole-truths_behind-requires
+operations::whole-truths_behind-requires t c = (omega (arith, c.decreases), tt)
+
+pub operations::short-truths-requires : goal.operations::short-truths-requires
+operations::short-truths-requires t c = (omega (arith, c.decreases), tt)
+
+pub operations::unary-expression-requires : goal.operations::unary-expression-requires
+operations::unary-expression-requires t c = (omega (arith, c.decreases), tt)

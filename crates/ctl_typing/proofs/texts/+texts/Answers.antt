@@ -1,12 +1,13 @@
-use Rattle.std.proofs.Common.{◌∷◌, sym, ap, ◌∙◌, if◌then◌else◌, map}
+use Rattle.std.proofs.Common.{◌∷◌, ◌+◌, sym, ap, ◌∙◌, if◌then◌else◌, map, drop}
 use Rattle.ctl_syntax.specs.declared.operators.Operand.{Operand}
 use Rattle.ctl_typing.specs.Judgement.{with_known}
 use Rattle.ctl_typing.specs.Putting as putting
 use Rattle.ctl_typing.specs.Senses.{operand_sense, suffix_sense}
 use Rattle.ctl_typing.specs.Typing as spec
-use Rattle.ctl_typing.proofs.Joined.{joined_is, strung_walked}
-use Rattle.ctl_typing.proofs.Senses.{sense_name, sense_chain}
+use Rattle.ctl_typing.proofs.Joined.{joined_is, strung_added}
+use Rattle.ctl_typing.proofs.Senses.{sense_name, sense_chain, sense_parentheses, sense_string}
 use Rattle.ctl_typing.proofs.Stages.{judged_as}
+use Rattle.ctl_typing.proofs.Turns.{next_of}
 use Rattle.ctl_typing.proofs.texts.+texts.Goals as goal
 
 pub joined_texts-returns : goal.joined_texts-returns
@@ -18,10 +19,10 @@ joined_texts-returns t c =
     let os = map operand_sense c.args.rest.now in
     let start = c.args.notes.now in
     let middle = c.texts.new.notes in
-    let ended = c.texts-2.new.notes in
+    let ended = c.texts-second.new.notes in
     judged_as (putting.joined_texts tables x (o ∷ os)) (putting.texts_behind tables c.in_ok-so_far.so_far os) start ended c.texts_behind.new.notes c.texts_behind.result
     (joined_is (x.texts tables) put (o ∷ os) c.in_ok-first.first start middle c.in_ok-first.ensures
-    ∙ sym (strung_walked put c.in_ok-first.first c.in_ok-so_far.so_far c.in_ok-second.second o os middle ended c.in_ok-second.ensures c.in_ok-so_far.ensures))
+    ∙ sym (strung_added put c.in_ok-first.first c.in_ok-so_far.so_far o os middle ended (c.in_ok-so_far.ensures (put o) middle ended c.texts-second.ensures)))
     c.texts_behind.ensures
 
 pub texts-returns-then-not-all_joining : goal.texts-returns-then-not-all_joining
@@ -59,3 +60,23 @@ texts-returns-else-not-all_joining t c =
     rw (i.is, sense_chain place i.first i.second i.rest, ← c.get-first.ensures, ← c.get-second.ensures, ← c.as_slice-rest.ensures)
     (judged_as (spec.chain_texts place x os tables) (putting.joined_texts tables x os) start start c.joined_texts.new.notes c.joined_texts.result
     (ap (λ b. (if b then putting.joined_texts tables x os else other) start) (sym c.all_joining.ensures ∙ c.if-not-all_joining.false)) c.joined_texts.ensures)
+
+pub texts-returns-in-String : goal.texts-returns-in-String
+texts-returns-in-String t c = let i = c.in-String in rw (i.is, sense_string i.field-0 i.text) (c.literal.ensures c.args.notes.now)
+
+pub texts-returns-in-Parentheses : goal.texts-returns-in-Parentheses
+texts-returns-in-Parentheses t c = let i = c.in-Parentheses in rw (i.is, sense_parentheses i.field-0 i.inner, ← c.get.ensures) c.texts.ensures
+
+pub texts_behind-loop-operand-preserved : goal.texts_behind-loop-operand-preserved
+texts_behind-loop-operand-preserved t c =
+    let all = c.args.rest.now in
+    let i = c.loop-operand.operand-index in
+    let tables = c.args.tables.now in
+    let put = λ (o : Operand spec.Sense). o.operand.texts tables in
+    let o = operand_sense c.operand-item.result in
+    let before = c.loop-operand.notes in
+    let ended = c.texts-text.new.notes in
+    let split = next_of all i c.operand-item.result c.loop-operand-test.true c.operand-item.is in
+    strung_added put c.loop-operand.done c.in_ok-done.done o (map operand_sense (drop (i + 1) all)) before ended (c.in_ok-done.ensures (put o) before ended c.texts-text.ensures)
+    ∙ ap (λ os. putting.strung put c.loop-operand.done (map operand_sense os) before) (sym split)
+    ∙ c.loop-operand.invariant
