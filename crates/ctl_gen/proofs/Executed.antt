@@ -245,7 +245,7 @@ module _ (ask : Ask) (k : Tables) (code : Code) (setting : Setting k code) (call
   -- one step to where control lands
   exits : DoesIn 1 ask k code bound leaves_code (λ d caught. leave_by ByExit)
   unfolding opened_outcome
-  exits a w0 d place ks ops c l w le fits sees has = last_step ask code (Kept k code w0) 1 1 _ c 0 (arrives (lands a place) d (place + 1) ks ops) (Leaves ByExit) l w (omega arith) fits (leave_step ask k code bound a.landing d place ks ops l w has.0)
+  exits a w0 d place ks ops c l w le fits sees has = last_step ask code (Kept k code w0) 1 1 _ c 0 (arrives (lands a place) d (place + 1) ks ops) (Leaves ByExit) l w (omega arith) fits (leave_step ask k code bound a.landing ByExit refl d place ks ops l w has.0)
 
   exit_does : (o : Option Expr) → Performs (exit (option_map value_code o)) (exit_doing (option_map eval o))
   unfolding exit_doing

@@ -4,7 +4,7 @@ use Rattle.std.specs.Prelude.{if◌then◌else◌}
 use Rattle.ctl_tree.specs.declared.ending.Stop.{Stop}
 use Rattle.ctl_meaning.specs.World.{Log, World}
 use Rattle.ctl_meaning.specs.Choice.{Ask}
-use Rattle.ctl_meaning.specs.Outcome.{completes_loop, raised_by, Way, ByExit, ByReturn, ByRaise, Result, Goes, Leaves, Out, Gives, Stops, Cut, Act, Done, Tried, add, bind, on_goes, given}
+use Rattle.ctl_meaning.specs.Outcome.{completes_loop, raised_by, Way, ByRaise, Result, Goes, Leaves, Out, Gives, Stops, Cut, Act, Done, Tried, add, bind, on_goes, given}
 use Rattle.ctl_code.specs.declared.code.Code.{Code}
 use Rattle.ctl_code.specs.States.{Word, Handed, Mode, At, Transfers, Giving, Stopped, Stuck, Frame, State}
 use Rattle.ctl_layout.specs.Around.{Landing, OutOfMaster, BeforeLoop, Around, further as further_on}
@@ -52,13 +52,14 @@ pub landing_further : (e : Landing) (n place : ℕ) → target_of (further_on n 
 landing_further OutOfMaster n place = refl
 landing_further (BeforeLoop back) n place = let e : place + n - (back + n) ≡ place - back = omega arith in ap On e
 
-abbrev pub landed_on : Target → List ℕ → List Frame → List Word → Log → World → State
-landed_on OutOf d k ops l w = transferred ByExit k l w
-landed_on (On place) d k ops l w = at d place k ops l w
+-- where what completes a loop leads
+abbrev pub landed_on : Target → Way → List ℕ → List Frame → List Word → Log → World → State
+landed_on OutOf y d k ops l w = transferred y k l w
+landed_on (On place) y d k ops l w = at d place k ops l w
 
 -- what completes a loop leads to where control lands, and any other transfer of control to the innermost master
 abbrev pub leads : Target → Way → List ℕ → List Frame → List Word → Log → World → State
-leads e y d k ops l w = if completes_loop y then landed_on e d k ops l w else transferred y k l w
+leads e y d k ops l w = if completes_loop y then landed_on e y d k ops l w else transferred y k l w
 
 pub leads_out : (y : Way) (d : List ℕ) (k : List Frame) (ops : List Word) (l : Log) (w : World) → leads OutOf y d k ops l w ≡ transferred y k l w
 leads_out (ByRaise x) d k ops l w = refl

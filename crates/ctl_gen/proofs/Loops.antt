@@ -6,7 +6,7 @@ use Rattle.ctl_program.specs.declared.types.Ty.TheVariants.{Boolean}
 use Rattle.ctl_meaning.specs.World.{Log, World}
 use Rattle.ctl_meaning.specs.Lists.{opened_lists}
 use Rattle.ctl_meaning.specs.Choice.{Ask}
-use Rattle.ctl_meaning.specs.Outcome.{completes_loop, Gives, Way, ByRaise, Result, Goes, Leaves, Act, Done, add, bind, on_goes, done, ticked, either, opened_outcome}
+use Rattle.ctl_meaning.specs.Outcome.{completes_loop, Gives, Way, ByReturn, ByRaise, Result, Goes, Leaves, Act, Done, add, bind, on_goes, done, ticked, either, opened_outcome}
 use Rattle.ctl_meaning.specs.Numbers.{is_true}
 use Rattle.ctl_meaning.specs.Types.{Tables}
 use Rattle.ctl_meaning.specs.Names.{scalar_of}
@@ -54,7 +54,7 @@ module _ (ask : Ask) (k : Tables) (code : Code) (bound : ℕ) where
     where
       by : (b : Bool) → completes_loop y ≡ b → Runs ask code (Kept k code w0) 4 4 (if b then at d landing ks over l w else transferred y ks l w) c (arrives e d place ks ops) (Gives (if b then Goes tt else Leaves y) 0 c l w)
       by true is = last_step ask code (Kept k code w0) 4 4 _ c 0 (arrives e d place ks ops) (Goes tt) l w (omega arith) fits (lands l w)
-      by false is = no_step ask code (Kept k code w0) 4 4 _ c 0 (arrives e d place ks ops) (Leaves y) l w fits (sym (ap (λ b. if b then landed_on e d ks ops l w else transferred y ks l w) is))
+      by false is = no_step ask code (Kept k code w0) 4 4 _ c 0 (arrives e d place ks ops) (Leaves y) l w fits (sym (ap (λ b. if b then landed_on e y d ks ops l w else transferred y ks l w) is))
 
   -- Without an iteration scheme ---------------------------------------------------------------------
 
@@ -196,7 +196,9 @@ module _ (ask : Ask) (k : Tables) (code : Code) (bound : ℕ) where
 
   -- Departures ---------------------------------------------------------------------------------------
 
-  -- the instruction that leads to a landing
-  pub leave_step : (x : Landing) (d : List ℕ) (place : ℕ) (ks : List Frame) (ops : List Word) (l : Log) (w : World) → slice_get code.instructions.items place ≡ Some (land x) → step ask code (at d place ks ops l w) ≡ landed_on (target_of x place) d ks ops l w
-  leave_step OutOfMaster d place ks ops l w has = by_code ask code d place ks ops l w (land OutOfMaster) has
-  leave_step (BeforeLoop back) d place ks ops l w has = by_code ask code d place ks ops l w (land (BeforeLoop back)) has
+  -- the instruction that leads to a landing, as what completes a loop does
+  pub leave_step : (x : Landing) (y : Way) → completes_loop y ≡ true → (d : List ℕ) (place : ℕ) (ks : List Frame) (ops : List Word) (l : Log) (w : World) → slice_get code.instructions.items place ≡ Some (land x) → step ask code (at d place ks ops l w) ≡ landed_on (target_of x place) y d ks ops l w
+  leave_step OutOfMaster (ByReturn cells) completes d place ks ops l w has = absurd (cc)
+  leave_step OutOfMaster (ByRaise e) completes d place ks ops l w has = absurd (cc)
+  leave_step OutOfMaster y completes d place ks ops l w has = by_code ask code d place ks ops l w (land OutOfMaster) has
+  leave_step (BeforeLoop back) y completes d place ks ops l w has = by_code ask code d place ks ops l w (land (BeforeLoop back)) has

@@ -433,9 +433,9 @@ module _ (ask : Ask) (k : Tables) (code : Code) (setting : Setting k code) (call
       led : (y : Way) (b : Bool) → completes_loop y ≡ b → Runs ask code (Kept k code w0) 1 1 (moved l (if b then on_at (record { display = d; place = q; operands = ops }) ks w else transfers y ks w)) c (arrives (target_of e place) d (q + 1) ks ops) (Gives (Leaves y) 0 c l w)
       led y true this =
           last_step ask code (Kept k code w0) 1 1 _ c 0 (arrives (target_of e place) d (q + 1) ks ops) (Leaves y) l w (omega arith) fits.1
-          (leave_step ask k code bound (further_on n e) d q ks ops l w here ∙ ap (λ p. landed_on (target_of (further_on n e) p) d ks ops l w) is ∙ ap (λ (t : Target). landed_on t d ks ops l w) (landing_further e n place)
-          ∙ sym (ap (λ b. if b then landed_on (target_of e place) d ks ops l w else transferred y ks l w) this))
-      led y false this = no_step ask code (Kept k code w0) 1 1 _ c 0 (arrives (target_of e place) d (q + 1) ks ops) (Leaves y) l w fits.1 (sym (ap (λ b. if b then landed_on (target_of e place) d ks ops l w else transferred y ks l w) this))
+          (leave_step ask k code bound (further_on n e) y this d q ks ops l w here ∙ ap (λ p. landed_on (target_of (further_on n e) p) y d ks ops l w) is ∙ ap (λ (t : Target). landed_on t y d ks ops l w) (landing_further e n place)
+          ∙ sym (ap (λ b. if b then landed_on (target_of e place) y d ks ops l w else transferred y ks l w) this))
+      led y false this = no_step ask code (Kept k code w0) 1 1 _ c 0 (arrives (target_of e place) d (q + 1) ks ops) (Leaves y) l w fits.1 (sym (ap (λ b. if b then landed_on (target_of e place) y d ks ops l w else transferred y ks l w) this))
 
       on : (r : Result Done) (slots : List Slot) → Runs ask code (Kept k code w0) 1 1 (moved l (goes_behind (AfterBlock (record { display = d; place = q; operands = ops })) r slots ks w)) c (arrives (target_of e place) d (q + 1) ks ops) (Gives r 0 c l w)
       on (Goes a) slots = no_step ask code (Kept k code w0) 1 1 _ c 0 (arrives (target_of e place) d (q + 1) ks ops) (Goes a) l w fits.1 refl
