@@ -5,7 +5,7 @@ ghost use Rattle.ctl_resolve.specs.Whole as spec;
 
 use crate::copies::{identifier, identifiers};
 use crate::library::{Unit, is_among, unit_itself, with_ancestors};
-use crate::lists::room_for;
+use crate::lists::{added, room_for};
 use crate::names::{note_meaning, way_meaning, way_of};
 use crate::view::{Meaning, View, Way};
 use ctl_syntax::denoted::{Denoted, LibraryName};
@@ -245,7 +245,7 @@ fn paths(alloc: Global, all: &[Mark<Identifier>]) -> Result<Items<Mark<Identifie
 {
     let mut copies = room_for(alloc, all.len())?;
     for one in all {
-        copies.push(path(alloc, one)?)?;
+        copies = added(copies, path(alloc, one))?;
     }
     Ok(copies)
 }
@@ -267,7 +267,7 @@ pub fn clauses(alloc: Global, all: &[Context]) -> Result<Items<Context>, AllocEr
 {
     let mut copies = room_for(alloc, all.len())?;
     for one in all {
-        copies.push(clause(alloc, one)?)?;
+        copies = added(copies, clause(alloc, one))?;
     }
     Ok(copies)
 }

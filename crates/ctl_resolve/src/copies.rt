@@ -4,7 +4,7 @@ ghost use Rattle.std.specs.Prelude.{◌≡◌, IfOk, drop};
 ghost use Rattle.ctl_resolve.specs.Table as table;
 ghost use Rattle.ctl_resolve.specs.Expressions as spec;
 
-use crate::lists::room_for;
+use crate::lists::{added, room_for};
 use ctl_syntax::expression::Expression;
 use ctl_syntax::name::{Identifier, Suffix};
 use sqlite_items::Items;
@@ -49,7 +49,7 @@ pub fn identifiers(alloc: Global, all: &[Identifier]) -> Result<Items<Identifier
 {
     let mut copies = room_for(alloc, all.len())?;
     for one in all {
-        copies.push(identifier(alloc, one)?)?;
+        copies = added(copies, identifier(alloc, one))?;
     }
     Ok(copies)
 }
@@ -64,7 +64,7 @@ pub fn leading(
     let mut copies = Items::new(alloc);
     for suffix in suffixes {
         match suffix {
-            Suffix::Selector(id) => copies.push(identifier(alloc, id)?)?,
+            Suffix::Selector(id) => copies = added(copies, identifier(alloc, id))?,
             _ => return Ok(copies),
         }
     }

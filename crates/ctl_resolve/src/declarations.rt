@@ -9,7 +9,7 @@ ghost use Rattle.ctl_resolve.specs.Declarations as spec;
 
 use crate::copies::{folded, identifier};
 use crate::library::operation_named;
-use crate::lists::room_for;
+use crate::lists::{added, room_for};
 use crate::notes::note_if;
 use crate::table::is_overridden;
 use crate::view::{Declaration, Known, Role, Sought, Stage, View};
@@ -145,7 +145,7 @@ pub fn new_names(
 {
     let mut definitions = room_for(alloc, ids.len())?;
     for id in ids {
-        definitions.push(new_name(alloc, view, Stage::Complete, id)?)?;
+        definitions = added(definitions, new_name(alloc, view, Stage::Complete, id))?;
     }
     Ok(definitions)
 }

@@ -9,7 +9,7 @@ ghost use Rattle.ctl_resolve.specs.declared.view.Usage.TheVariants as usage;
 
 use crate::copies::folded;
 use crate::declarations::behind;
-use crate::lists::room_for;
+use crate::lists::{added, room_for};
 use crate::names::mark;
 use crate::notes::note_if;
 use crate::table::Table;
@@ -63,7 +63,7 @@ fn marks(
 {
     let mut resolved = room_for(alloc, all.len())?;
     for one in all {
-        resolved.push(mark(alloc, view, Usage::Plain, one)?)?;
+        resolved = added(resolved, mark(alloc, view, Usage::Plain, one))?;
     }
     Ok(resolved)
 }

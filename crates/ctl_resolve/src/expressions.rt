@@ -3,11 +3,12 @@
 ghost use Rattle.std.specs.Prelude.{◌≡◌, [], drop};
 ghost use Rattle.ctl_resolve.specs.Naming.{Names, each, optional};
 ghost use Rattle.ctl_resolve.specs.Expressions as spec;
+ghost use Rattle.ctl_resolve.specs.declared.view.Usage.TheVariants as usage;
 ghost use Rattle.ctl_syntax.specs.declared.expression.Expression.TheVariants as e;
 ghost use Rattle.ctl_syntax.specs.declared.name.Suffix.TheVariants as s;
 
 use crate::copies::{identifier, leading};
-use crate::lists::room_for;
+use crate::lists::{added, room_for};
 use crate::names::{mark, used};
 use crate::pairs::paired;
 use crate::view::{Usage, View};
@@ -77,8 +78,9 @@ fn logical(
     ensures { Names (spec.expression (e.Logical at operator first.now second.now more.now)) view.old result view.new }
 {
     let first = boxed(alloc, view, first)?;
-    let second = boxed(alloc, view, second)?;
-    let more = expressions(alloc, view, more.as_slice())?;
+    let both = paired(first, boxed(alloc, view, second))?;
+    let (both, more) = paired(both, expressions(alloc, view, more.as_slice()))?;
+    let (first, second) = both;
     Ok(Expression::Logical(at, operator, first, second, more))
 }
 
@@ -112,9 +114,9 @@ fn chain(
     ensures { Names (spec.expression (e.Chain at first.now second.now more.now)) view.old result view.new }
 {
     let first = boxed(alloc, view, first)?;
-    let second = operand(alloc, view, second.get())?;
-    let second = Boxed::new(alloc, second)?;
-    let more = operands(alloc, view, more.as_slice())?;
+    let both = paired(first, boxed_operand(alloc, view, second))?;
+    let (both, more) = paired(both, operands(alloc, view, more.as_slice()))?;
+    let (first, second) = both;
     Ok(Expression::Chain(at, first, second, more))
 }
 
@@ -142,7 +144,7 @@ fn expressions(
 {
     let mut resolved = room_for(alloc, all.len())?;
     for one in all {
-        resolved.push(expression(alloc, view, one)?)?;
+        resolved = added(resolved, expression(alloc, view, one))?;
     }
     Ok(resolved)
 }
@@ -163,6 +165,19 @@ fn operand(
     })
 }
 
+/// Resolves the names in the second operand of a sum or a term.
+#[cycle(expression)]
+fn boxed_operand(
+    alloc: Global,
+    view: &mut View,
+    of: &Boxed<Operand<Expression<Identifier>>>,
+) -> Result<Boxed<Operand<Expression<Use>>>, AllocError>
+    ensures { Names (spec.named_operand of.now) view.old result view.new }
+{
+    let resolved = operand(alloc, view, of.get())?;
+    Boxed::new(alloc, resolved)
+}
+
 /// Resolves the names in operands, each in turn.
 #[cycle(expression)]
 fn operands(
@@ -174,7 +189,7 @@ fn operands(
 {
     let mut resolved = room_for(alloc, all.len())?;
     for one in all {
-        resolved.push(operand(alloc, view, one)?)?;
+        resolved = added(resolved, operand(alloc, view, one))?;
     }
     Ok(resolved)
 }
@@ -188,10 +203,22 @@ pub fn name(
 ) -> Result<Name<Use, Expression<Use>>, AllocError>
     ensures { Names (spec.name_of of.now) view.old result view.new }
 {
-    let rest = leading(alloc, of.suffixes.as_slice())?;
-    let (first, count) = used(alloc, view, Usage::Plain, &of.first, rest.as_slice())?;
-    let suffixes = suffixes(alloc, view, of.suffixes.as_slice(), count)?;
+    let (first, count) = beginning(alloc, view, of)?;
+    let suffixes = suffixes(alloc, view, of.suffixes.as_slice(), count);
+    let (first, suffixes) = paired(first, suffixes)?;
     Ok(Name { first, suffixes })
+}
+
+/// Resolves the beginning of a name, and answers how many suffixes it uses up (RM 4.1.3).
+fn beginning(
+    alloc: Global,
+    view: &mut View,
+    of: &Name<Identifier, Expression<Identifier>>,
+) -> Result<(Use, usize), AllocError>
+    ensures { Names (spec.used usage.Plain of.now.first (spec.leading of.now.suffixes)) view.old result view.new }
+{
+    let rest = leading(alloc, of.suffixes.as_slice())?;
+    used(alloc, view, Usage::Plain, &of.first, rest.as_slice())
 }
 
 /// Resolves the names in what stands behind the beginning of a name, from the suffix of this number on.
@@ -206,7 +233,7 @@ fn suffixes(
 {
     let mut resolved = room_for(alloc, all.len().saturating_sub(from))?;
     for at in from..all.len() {
-        resolved.push(suffix(alloc, view, &all[at])?)?;
+        resolved = added(resolved, suffix(alloc, view, &all[at]))?;
     }
     Ok(resolved)
 }

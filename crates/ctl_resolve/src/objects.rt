@@ -8,7 +8,7 @@ ghost use Rattle.ctl_resolve.specs.Parts as parts;
 use crate::copies::identifier_or_none;
 use crate::declarations::{hide, hide_each, new_name, new_names};
 use crate::expressions::{expression, expression_or_none};
-use crate::lists::room_for;
+use crate::lists::{added, room_for};
 use crate::names::{mark, used};
 use crate::notes::cut;
 use crate::pairs::paired;
@@ -43,7 +43,7 @@ fn associations(
 {
     let mut resolved = room_for(alloc, all.len())?;
     for one in all {
-        resolved.push(association(alloc, view, one)?)?;
+        resolved = added(resolved, association(alloc, view, one))?;
     }
     Ok(resolved)
 }
@@ -74,9 +74,10 @@ pub fn instance(
 {
     let count = view.table.count();
     hide(alloc, view, id)?;
-    let (unit, actuals) = instance_of(alloc, view, unit, actuals)?;
+    let parts = instance_of(alloc, view, unit, actuals)?;
     cut(view, count);
-    let definition = new_name(alloc, view, Stage::Complete, id)?;
+    let (parts, definition) = paired(parts, new_name(alloc, view, Stage::Complete, id))?;
+    let (unit, actuals) = parts;
     Ok(ItemKind::Instance(definition, unit, actuals))
 }
 
@@ -103,8 +104,9 @@ fn object_of(
     ensures { Names (spec.object_of of.now) view.old result view.new }
 {
     let mark = mark(alloc, view, Usage::Plain, &of.mark)?;
-    let discriminants = associations(alloc, view, of.discriminants.as_slice())?;
-    let value = expression_or_none(alloc, view, &of.value)?;
+    let parts = paired(mark, associations(alloc, view, of.discriminants.as_slice()))?;
+    let (parts, value) = paired(parts, expression_or_none(alloc, view, &of.value))?;
+    let (mark, discriminants) = parts;
     Ok((mark, discriminants, value))
 }
 

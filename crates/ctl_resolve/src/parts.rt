@@ -1,16 +1,15 @@
 //! Items, statements, bodies and handlers (RM 3.11, 5.1, 6.3, 11.2).
 
-ghost use Rattle.std.specs.Prelude.{◌≡◌, [], ◌∷◌, IfOk};
-ghost use Rattle.ctl_resolve.specs.Naming.{Names, each};
+ghost use Rattle.std.specs.Prelude.{[], ◌∷◌};
+ghost use Rattle.ctl_resolve.specs.Naming.{Names, after, each};
 ghost use Rattle.ctl_resolve.specs.Declarations as declarations;
 ghost use Rattle.ctl_resolve.specs.Parts as spec;
-ghost use Rattle.ctl_syntax.specs.declared.item.ItemKind.TheVariants as k;
 ghost use Rattle.ctl_syntax.specs.declared.item.Statement.TheVariants as s;
 
 use crate::declarations::{hide, new_name, new_names};
 use crate::ends::{choices, note_choices, note_unfinished};
 use crate::expressions::{expression, expression_or_none, name};
-use crate::lists::room_for;
+use crate::lists::{added, room_for};
 use crate::names::mark;
 use crate::notes::{behind_body, cut, enter_master, enter_region, leave, set_stage};
 use crate::objects::{instance, objects, storage_pool};
@@ -40,9 +39,10 @@ pub fn body(
 {
     let items = items(alloc, view, of.items.as_slice())?;
     note_unfinished(view);
-    let statements = statements(alloc, view, of.statements.as_slice())?;
-    note_choices(alloc, view, of.handlers.as_slice())?;
-    let handlers = handlers(alloc, view, of.handlers.as_slice())?;
+    let parts = paired(items, statements(alloc, view, of.statements.as_slice()))?;
+    let handlers = exception_part(alloc, view, of.handlers.as_slice());
+    let (parts, handlers) = paired(parts, handlers)?;
+    let (items, statements) = parts;
     Ok(Body {
         items,
         statements,
@@ -61,7 +61,7 @@ fn items(
 {
     let mut resolved = room_for(alloc, all.len())?;
     for one in all {
-        resolved.push(item(alloc, view, one)?)?;
+        resolved = added(resolved, item(alloc, view, one))?;
     }
     Ok(resolved)
 }
@@ -138,23 +138,24 @@ fn body_item(
     let around = enter_master(view)?;
     let heading = heading(alloc, view, of, definition)?;
     set_stage(view, number, Stage::Complete);
-    let both = paired(heading, body(alloc, view, part.get()))?;
+    let both = paired(heading, boxed_body(alloc, view, part))?;
     leave(view, around);
     behind_body(view);
     let (heading, part) = both;
-    completed(alloc, heading, part)
+    Ok(ItemKind::Body(heading, part))
 }
 
-/// Makes the item of a heading and its body.
-fn completed(
+/// Resolves the body of a subprogram or of a block, which stands in a box.
+#[cycle(part)]
+fn boxed_body(
     alloc: Global,
-    heading: Specification<Definition, Use>,
-    part: Body<Definition, Use>,
-) -> Result<ItemKind<Definition, Use, Boxed<Body<Definition, Use>>>, AllocError>
-    ensures { IfOk result (λ kind. kind ≡ k.Body heading part) }
+    view: &mut View,
+    of: &Boxed<Body<Identifier, Identifier>>,
+) -> Result<Boxed<Body<Definition, Use>>, AllocError>
+    ensures { Names (spec.body_of of.now) view.old result view.new }
 {
-    let part = Boxed::new(alloc, part)?;
-    Ok(ItemKind::Body(heading, part))
+    let resolved = body(alloc, view, of.get())?;
+    Boxed::new(alloc, resolved)
 }
 
 /// Resolves statements, each in turn.
@@ -168,7 +169,7 @@ fn statements(
 {
     let mut resolved = room_for(alloc, all.len())?;
     for one in all {
-        resolved.push(statement(alloc, view, one)?)?;
+        resolved = added(resolved, statement(alloc, view, one))?;
     }
     Ok(resolved)
 }
@@ -299,9 +300,8 @@ fn block(
     ensures { Names (spec.statement (s.Block at part.now)) view.old result view.new }
 {
     let around = enter_master(view)?;
-    let part = body(alloc, view, part.get())?;
+    let part = boxed_body(alloc, view, part)?;
     leave(view, around);
-    let part = Boxed::new(alloc, part)?;
     Ok(Statement::Block(at, part))
 }
 
@@ -335,9 +335,9 @@ fn repeated(
 {
     let around = enter_region(view);
     let parameter = new_name(alloc, view, Stage::Complete, id)?;
-    let resolved = statements(alloc, view, all)?;
+    let both = paired(parameter, statements(alloc, view, all))?;
     leave(view, around);
-    Ok((parameter, resolved))
+    Ok(both)
 }
 
 /// Resolves a condition and the statements that it guards (RM 5.3).
@@ -369,9 +369,22 @@ fn branches(
 {
     let mut resolved = room_for(alloc, all.len())?;
     for one in all {
-        resolved.push(guarded(alloc, view, one)?)?;
+        resolved = added(resolved, guarded(alloc, view, one))?;
     }
     Ok(resolved)
+}
+
+/// Notes a second choice of one name among handlers, and resolves them (RM 11.2).
+#[cycle(part)]
+fn exception_part(
+    alloc: Global,
+    view: &mut View,
+    all: &[Handler<Statement<Identifier, Identifier>, Identifier>],
+) -> Result<Items<Handler<Statement<Definition, Use>, Use>>, AllocError>
+    ensures { Names (after (spec.note_choices all.now) (each spec.named_handler [] all.now)) view.old result view.new }
+{
+    note_choices(alloc, view, all)?;
+    handlers(alloc, view, all)
 }
 
 /// Resolves handlers, each in turn.
@@ -385,7 +398,7 @@ fn handlers(
 {
     let mut resolved = room_for(alloc, all.len())?;
     for one in all {
-        resolved.push(handler(alloc, view, one)?)?;
+        resolved = added(resolved, handler(alloc, view, one))?;
     }
     Ok(resolved)
 }

@@ -9,7 +9,7 @@ ghost use Rattle.ctl_resolve.specs.Declarations as spec;
 use crate::copies::{folded, identifier};
 use crate::declarations::{hide_each, new_names, next, own_found};
 use crate::library::operation_named;
-use crate::lists::room_for;
+use crate::lists::{added, room_for};
 use crate::names::{mark, meaning};
 use crate::notes::{cut, enter_master, leave, note_if, set_stage};
 use crate::view::{Filing, Known, Meaning, Role, Sought, Stage, Usage, View};
@@ -198,7 +198,7 @@ fn formals(
 {
     let mut resolved = room_for(alloc, all.len())?;
     for one in all {
-        resolved.push(formal(alloc, view, one)?)?;
+        resolved = added(resolved, formal(alloc, view, one))?;
     }
     Ok(resolved)
 }

@@ -6,7 +6,7 @@ ghost use Rattle.ctl_resolve.specs.Declarations as spec;
 
 use crate::copies::identifiers;
 use crate::expressions::expression_or_none;
-use crate::lists::room_for;
+use crate::lists::{added, room_for};
 use crate::names::mark;
 use crate::notes::set_stage;
 use crate::subprograms::mark_or_none;
@@ -46,7 +46,7 @@ fn components(
 {
     let mut resolved = room_for(alloc, all.len())?;
     for one in all {
-        resolved.push(component(alloc, view, one)?)?;
+        resolved = added(resolved, component(alloc, view, one))?;
     }
     Ok(resolved)
 }

@@ -25,6 +25,9 @@ decreases-boxed l = goal.size-boxed l * 8 + 1
 abbrev pub decreases-operand : goal.decreases-operand
 decreases-operand l = goal.size-operand l * 8 + 1
 
+abbrev pub decreases-boxed_operand : goal.decreases-boxed_operand
+decreases-boxed_operand l = goal.size-boxed_operand l * 8 + 2
+
 abbrev pub decreases-expressions : goal.decreases-expressions
 decreases-expressions l = goal.size-expressions l * 8 + 1
 

@@ -1,4 +1,4 @@
-use Rattle.std.proofs.Common.{List, arith, sym, [], ap, ◌∙◌, ◌+◌, drop, map}
+use Rattle.std.proofs.Common.{List, arith, sym, [], ap, ◌∙◌, map}
 use Rattle.ctl_syntax.specs.declared.denoted.Definition.{Definition}
 use Rattle.ctl_syntax.specs.declared.denoted.Use.{Use}
 use Rattle.ctl_syntax.specs.declared.expression.Expression.{Expression}
@@ -7,57 +7,51 @@ use denote.Param.Weighed.{at_most}
 use Rattle.ctl_syntax.specs.declared.item.Body.{out-Body}
 use Rattle.ctl_syntax.specs.declared.item.Branch.{Branch}
 use Rattle.ctl_syntax.specs.declared.item.Choices.{Choices}
+use Rattle.ctl_syntax.specs.declared.item.Item.{Item}
 use Rattle.ctl_syntax.specs.declared.item.Statement.{Statement}
-use Rattle.ctl_resolve.specs.Naming.{each, changed, leave}
+use Rattle.ctl_resolve.specs.Naming.{after, each, changed, leave}
 use Rattle.ctl_resolve.specs.Parts.{item_of, statement, named_branch, named_handler, note_choices, looped}
 use Rattle.ctl_resolve.proofs.BodyParts.{bodied}
 use Rattle.ctl_resolve.proofs.StatementDepths.{deepness, depth_of_branch, first_below, more_below, others_below}
 use Rattle.ctl_resolve.proofs.StatementParts.{conditional, endless, while_true, guarding, handling, looping}
-use Rattle.ctl_resolve.proofs.Each.{turn}
+use Rattle.ctl_resolve.proofs.Each.{turned}
 use Rattle.ctl_resolve.proofs.parts.+part.Goals as goal
+
+abbrev Named_items : Type 0
+Named_items = List (Item Definition Use)
+
+abbrev Named_statements : Type 0
+Named_statements = List (Statement Definition Use)
 
 abbrev Named_branch : Type 0
 Named_branch = Branch (Statement Definition Use) Use
 
 pub items-loop-one-preserved : goal.items-loop-one-preserved
-items-loop-one-preserved t c =
-    let all = c.args.all.now in
-    let i = c.loop-one.one-index in
-    ap (λ ds. each item_of ds (drop (i + 1) all) c.item.new.view) c.in_ok-push.ensures.ok
-    ∙ turn item_of c.loop-one.resolved all i c.one-item.result c.in_ok-item.field-0 c.loop-one.view c.item.new.view c.loop-one-test.true c.one-item.is c.in_ok-item.ensures
-    ∙ c.loop-one.invariant
+items-loop-one-preserved t c = turned item_of c.loop-one.resolved _ c.args.all.now c.loop-one.one-index c.one-item.result c.item.result c.loop-one.view c.item.new.view c.loop-one-test.true c.one-item.is c.item.ensures c.in_ok-resolved-2.ensures ∙ c.loop-one.invariant
 
 pub statements-loop-one-preserved : goal.statements-loop-one-preserved
-statements-loop-one-preserved t c =
-    let all = c.args.all.now in
-    let i = c.loop-one.one-index in
-    ap (λ ds. each statement ds (drop (i + 1) all) c.statement.new.view) c.in_ok-push.ensures.ok
-    ∙ turn statement c.loop-one.resolved all i c.one-item.result c.in_ok-statement.field-0 c.loop-one.view c.statement.new.view c.loop-one-test.true c.one-item.is c.in_ok-statement.ensures
-    ∙ c.loop-one.invariant
+statements-loop-one-preserved t c = turned statement c.loop-one.resolved _ c.args.all.now c.loop-one.one-index c.one-item.result c.statement.result c.loop-one.view c.statement.new.view c.loop-one-test.true c.one-item.is c.statement.ensures c.in_ok-resolved-2.ensures ∙ c.loop-one.invariant
 
 pub branches-loop-one-preserved : goal.branches-loop-one-preserved
-branches-loop-one-preserved t c =
-    let all = c.args.all.now in
-    let i = c.loop-one.one-index in
-    ap (λ ds. each named_branch ds (drop (i + 1) all) c.guarded.new.view) c.in_ok-push.ensures.ok
-    ∙ turn named_branch c.loop-one.resolved all i c.one-item.result c.in_ok-guarded.field-0 c.loop-one.view c.guarded.new.view c.loop-one-test.true c.one-item.is c.in_ok-guarded.ensures
-    ∙ c.loop-one.invariant
+branches-loop-one-preserved t c = turned named_branch c.loop-one.resolved _ c.args.all.now c.loop-one.one-index c.one-item.result c.guarded.result c.loop-one.view c.guarded.new.view c.loop-one-test.true c.one-item.is c.guarded.ensures c.in_ok-resolved-2.ensures ∙ c.loop-one.invariant
 
 pub handlers-loop-one-preserved : goal.handlers-loop-one-preserved
-handlers-loop-one-preserved t c =
-    let all = c.args.all.now in
-    let i = c.loop-one.one-index in
-    ap (λ ds. each named_handler ds (drop (i + 1) all) c.handler.new.view) c.in_ok-push.ensures.ok
-    ∙ turn named_handler c.loop-one.resolved all i c.one-item.result c.in_ok-handler.field-0 c.loop-one.view c.handler.new.view c.loop-one-test.true c.one-item.is c.in_ok-handler.ensures
-    ∙ c.loop-one.invariant
+handlers-loop-one-preserved t c = turned named_handler c.loop-one.resolved _ c.args.all.now c.loop-one.one-index c.one-item.result c.handler.result c.loop-one.view c.handler.new.view c.loop-one-test.true c.one-item.is c.handler.ensures c.in_ok-resolved-2.ensures ∙ c.loop-one.invariant
 
 pub body-returns : goal.body-returns
 body-returns t c =
     let o = out-Body Identifier Identifier c.args.of.now in
-    bodied c.args.of.now c.args.view.now c.items.new.view c.statements.new.view c.handlers.new.view c.in_ok-items.items c.in_ok-statements.statements c.in_ok-handlers.handlers
-    (ap (λ ys. each item_of [] ys c.args.view.now) (sym c.as_slice.ensures) ∙ c.in_ok-items.ensures)
-    (ap (λ w. each statement [] o.statements w) (sym c.note_unfinished.ensures) ∙ ap (λ ys. each statement [] ys c.note_unfinished.new.view) (sym c.as_slice-2.ensures) ∙ c.in_ok-statements.ensures)
-    (ap (λ w. each named_handler [] o.handlers w) (sym (c.in_ok-note_choices.ensures ∙ ap (λ hs. note_choices hs c.statements.new.view) c.as_slice-3.ensures)) ∙ ap (λ ys. each named_handler [] ys c.note_choices.new.view) (sym c.as_slice-4.ensures) ∙ c.in_ok-handlers.ensures)
+    let v1 = c.items.new.view in
+    let w1 = c.note_unfinished.new.view in
+    let v2 = c.statements.new.view in
+    let v3 = c.exception_part-handlers.new.view in
+    let parts = c.in_ok-parts-2.parts in
+    let front = c.in_ok-parts.ensures (each statement [] c.as_slice-2.result.now) w1 v2 c.statements.ensures in
+    let last = c.in_ok-parts-2.ensures (after (note_choices c.as_slice-3.result.now) (each named_handler [] c.as_slice-3.result.now)) v2 v3 c.exception_part-handlers.ensures in
+    bodied c.args.of.now c.args.view.now v1 v2 v3 parts.0 parts.1 c.in_ok-parts-2.handlers
+    (ap (λ ys. each item_of [] ys c.args.view.now) (sym c.as_slice.ensures) ∙ c.in_ok-items.ensures ∙ ap (λ (x : Named_items). (x, v1)) (sym (ap (λ (a : Named_items × Named_statements). a.0) last.0 ∙ front.0)))
+    (ap (λ w. each statement [] o.statements w) (sym c.note_unfinished.ensures) ∙ ap (λ ys. each statement [] ys w1) (sym c.as_slice-2.ensures) ∙ front.1 ∙ ap (λ (a : Named_items × Named_statements). (a.1, v2)) (sym last.0))
+    (ap (λ hs. each named_handler [] hs (note_choices hs v2)) (sym c.as_slice-3.ensures) ∙ last.1)
 
 pub guarded-returns : goal.guarded-returns
 guarded-returns t c =
@@ -80,10 +74,13 @@ pub repeated-returns : goal.repeated-returns
 repeated-returns t c =
     let v = c.args.view.now in
     let all = c.args.all.now in
-    let inside = c.enter_region-around.ensures.inside in
-    ap (λ w. changed (leave v.part) (looped c.args.id.now (map statement all) w)) (sym inside)
-    ∙ ap (changed (leave v.part)) (looping c.args.id.now all c.enter_region-around.new.view c.new_name.new.view c.statements.new.view c.in_ok-parameter.parameter c.in_ok-resolved.resolved c.in_ok-parameter.ensures c.in_ok-resolved.ensures)
-    ∙ ap (λ w. ((c.in_ok-parameter.parameter, c.in_ok-resolved.resolved), w)) (ap (λ a. leave a c.statements.new.view) (sym c.enter_region-around.ensures.around) ∙ sym c.leave.ensures)
+    let v1 = c.new_name.new.view in
+    let v2 = c.statements.new.view in
+    let both = c.in_ok-both.both in
+    let read = c.in_ok-both.ensures (each statement [] all) v1 v2 c.statements.ensures in
+    ap (λ w. changed (leave v.part) (looped c.args.id.now (map statement all) w)) (sym c.enter_region-around.ensures.inside)
+    ∙ ap (changed (leave v.part)) (looping c.args.id.now all c.enter_region-around.new.view v1 v2 both.0 both.1 (c.in_ok-parameter.ensures ∙ ap (λ (d : Definition). (d, v1)) (sym read.0)) read.1)
+    ∙ ap (λ w. (both, w)) (ap (λ a. leave a v2) (sym c.enter_region-around.ensures.around) ∙ sym c.leave.ensures)
 
 pub statement-conditional-requires : goal.statement-conditional-requires
 statement-conditional-requires t c =

@@ -26,6 +26,9 @@ decreases-statement l = goal.size-statement l * 8 + 1
 abbrev pub decreases-body : goal.decreases-body
 decreases-body l = goal.size-body l * 8 + 1
 
+abbrev pub decreases-boxed_body : goal.decreases-boxed_body
+decreases-boxed_body l = goal.size-boxed_body l * 8 + 2
+
 abbrev pub decreases-statements : goal.decreases-statements
 decreases-statements l = goal.size-statements l * 8 + 2
 
@@ -41,20 +44,23 @@ decreases-handler l = goal.size-handler l * 8 + 3
 abbrev pub decreases-handlers : goal.decreases-handlers
 decreases-handlers l = goal.size-handlers l * 8 + 4
 
+abbrev pub decreases-exception_part : goal.decreases-exception_part
+decreases-exception_part l = goal.size-exception_part l * 8 + 5
+
 abbrev pub decreases-repeated : goal.decreases-repeated
 decreases-repeated l = goal.size-repeated l * 8 + 3
 
 abbrev pub decreases-body_item : goal.decreases-body_item
-decreases-body_item l = goal.size-body_item l * 8 + 2
+decreases-body_item l = goal.size-body_item l * 8 + 3
 
 abbrev pub decreases-kind : goal.decreases-kind
-decreases-kind l = goal.size-kind l * 8 + 3
+decreases-kind l = goal.size-kind l * 8 + 4
 
 abbrev pub decreases-item : goal.decreases-item
-decreases-item l = goal.size-item l * 8 + 4
+decreases-item l = goal.size-item l * 8 + 5
 
 abbrev pub decreases-items : goal.decreases-items
-decreases-items l = goal.size-items l * 8 + 5
+decreases-items l = goal.size-items l * 8 + 6
 
 abbrev pub decreases-conditional : goal.decreases-conditional
 decreases-conditional l = deepness (s.If l.at l.first.now l.more.now l.others.now) * 8 + 0
@@ -69,4 +75,4 @@ abbrev pub decreases-counting : goal.decreases-counting
 decreases-counting l = goal.size-counting l * 8 + 4
 
 abbrev pub decreases-block : goal.decreases-block
-decreases-block l = goal.size-block l * 8 + 2
+decreases-block l = goal.size-block l * 8 + 3

@@ -1,0 +1,6 @@
+use Rattle.std.proofs.Common.{◌∙◌}
+use Rattle.ctl_resolve.proofs.Each.{copied}
+use Rattle.ctl_resolve.proofs.context.clauses.Goals as goal
+
+pub loop-one-preserved : goal.loop-one-preserved
+loop-one-preserved c = copied c.loop-one.copies _ c.args.all.now c.loop-one.one-index c.one-item.result c.clause.result c.loop-one-test.true c.one-item.is c.clause.ensures c.in_ok-copies-2.ensures ∙ c.loop-one.invariant
