@@ -15,7 +15,7 @@ use ctl_output::{RunFault, run_into};
 use ctl_sink::{PutFault, Sink, put_all};
 use ctl_tree::fault::Fault;
 use ctl_tree::request::{Order, Show};
-use ctl_verdict::verdict::check_source;
+use ctl_verdict::verdict::accept_source;
 use std::alloc::{Allocator, Global};
 use std::io::{Read, Write};
 
@@ -100,7 +100,7 @@ fn check<S: Sink, E: Write>(alloc: Global, source: &[u8], sink: &mut S, err: &mu
     ensures failed { result ≡ Status.InputOutput → S.has_failed sink.new ≡ true }
     ensures broken { result ≡ Status.InputOutput → WritesOkUpTo source.now (S.taken sink.old) (S.taken sink.new) }
 {
-    if let Err(fault) = check_source(alloc, source) {
+    if let Err(fault) = accept_source(alloc, source) {
         return refuse(fault, err);
     }
     match put_ok(sink) {

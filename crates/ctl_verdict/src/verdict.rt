@@ -1,9 +1,9 @@
 //! What a text comes to: the check of it, and whether its program is run.
 
-ghost use Rattle.std.specs.Prelude.{◌⊎◌};
+ghost use Rattle.std.specs.Prelude.{◌⊎◌, IfErr, IfOk};
 ghost use Rattle.ctl_lex.specs.Memory.{IsMemory};
 ghost use Rattle.ctl_front.specs.Text.{BreaksForm};
-ghost use Rattle.ctl_verdict.specs.Verdict.{IsLeftOut, Settles};
+ghost use Rattle.ctl_verdict.specs.Verdict.{IsFaultOf, IsFaultless, IsLeftOut, Settles};
 
 use ctl_front::program::{drop_tree, program_of, resolved_of};
 use ctl_layout::runs::is_run;
@@ -31,6 +31,16 @@ pub fn check_source(alloc: Global, source: &[u8]) -> Result<Checked, Fault>
             Err(Fault::memory())
         }
     }
+}
+
+/// Accepts a source text, or answers its fault, as `check_source` does; the program is let go of here.
+pub fn accept_source(alloc: Global, source: &[u8]) -> Result<(), Fault>
+    ensures accepted { IfOk result (λ _. IsFaultless source.now) }
+    ensures refused { IfErr result (λ fault. IsFaultOf source.now fault ⊎ IsMemory fault) }
+{
+    let program = check_source(alloc, source)?;
+    drop_program(program);
+    Ok(())
 }
 
 /// Answers the fault of a text whose program is not run whole.
