@@ -282,10 +282,12 @@ impl Engine {
         requires { (bound : ℕ) × AreBelow (reverse self.now.masters.items) bound }
         ensures { IsCaller (is_assigning (reverse self.now.control.items)) self.now.masters.items master result }
     {
-        if self.is_assigning() {
-            return self.count_masters();
+        let owner = master_at(self.masters.as_slice(), master);
+        // Most often the object is of the newest master, whose statement it then is too.
+        if owner == self.count_masters() || !self.is_assigning() {
+            return owner;
         }
-        master_at(self.masters.as_slice(), master)
+        self.count_masters()
     }
 
     /// Calls a body that the user wrote, with what is shown of the call, for a part of an object of this master: the body is entered inside

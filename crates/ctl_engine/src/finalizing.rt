@@ -1,6 +1,6 @@
 //! What finalizations and assignments are made of: the copies of parts that are made before, room, and frames that go (RM 7.6, 7.6.1).
 
-ghost use Rattle.std.specs.Prelude.{◌≡◌, ◌+◌, ◌-◌, ◌^◌, ◌<◌, ◌≤◌, ◌++◌, List, ℕ, IfOk, OnErr, OnOk, Some, length, slice_get, vec_capacity, vec_len, if◌then◌else◌};
+ghost use Rattle.std.specs.Prelude.{◌≡◌, ◌+◌, ◌-◌, ◌^◌, ◌<◌, ◌≤◌, ◌++◌, List, ℕ, IfOk, OnErr, OnOk, Some, length, slice_get, vec_capacity, vec_len, if◌then◌else◌, IsTrue};
 ghost use Rattle.ctl_meaning.specs.Changes as Changes;
 ghost use Rattle.ctl_meaning.specs.Finalization as S;
 ghost use Rattle.ctl_meaning.specs.Outcome.{Fine};
@@ -91,10 +91,29 @@ impl Engine {
         }
     }
 
-    /// Makes room for the finalization or the adjustment of a part: for its frames and the part that they wait for, for the call of a body
-    /// whose window begins there, and to note the part; nothing else changes.
+    /// Tells whether there is room for the finalization or the adjustment of a part, as `prepare_finalization` makes it.
     #[inline(always)]
-    pub fn prepare_finalization(&mut self, code: &Code, base: usize) -> Result<(), AllocError>
+    fn has_room_to_finish(&self, code: &Code, base: usize) -> bool
+        requires number { self.now.given_masters + 1 < 2 ^ 64 }
+        ensures room { IsTrue result → HasRoom code.now self.now base }
+        ensures control { IsTrue result → vec_len self.now.control + 4 ≤ vec_capacity self.now.control }
+        ensures spots { IsTrue result → vec_len self.now.spots < vec_capacity self.now.spots }
+        ensures notes { IsTrue result → vec_len self.now.noted < vec_capacity self.now.noted }
+    {
+        self.spots.len() < self.spots.capacity()
+            && 4 <= self.control.capacity() - self.control.len()
+            && self.noted.len() < self.noted.capacity()
+            && self.masters.len() < self.masters.capacity()
+            && self.events.len() < self.events.capacity()
+            && self.formals.len() < self.formals.capacity()
+            && base <= self.cells.len()
+            && code.room <= self.cells.len() - base
+    }
+
+    /// Makes room for the finalization or the adjustment of a part, as `prepare_finalization` does, where there is none yet.
+    #[cold]
+    #[inline(never)]
+    fn prepare_more_to_finish(&mut self, code: &Code, base: usize) -> Result<(), AllocError>
         requires number { self.old.given_masters + 1 < 2 ^ 64 }
         ensures ok { OnOk result ((more : List ℕ) × GoesOn self.old self.new self.old.mode (self.old.cells.items ++ more)) }
         ensures err { OnErr result (GoesOn self.old self.new self.old.mode self.old.cells.items) }
@@ -113,6 +132,30 @@ impl Engine {
         reserve(&mut self.control, 4)?;
         reserve(&mut self.noted, 1)?;
         self.prepare(base, code.room, 1)
+    }
+
+    /// Makes room for the finalization or the adjustment of a part: for its frames and the part that they wait for, for the call of a body
+    /// whose window begins there, and to note the part; nothing else changes.
+    #[inline(always)]
+    pub fn prepare_finalization(&mut self, code: &Code, base: usize) -> Result<(), AllocError>
+        requires number { self.old.given_masters + 1 < 2 ^ 64 }
+        ensures ok { OnOk result ((more : List ℕ) × GoesOn self.old self.new self.old.mode (self.old.cells.items ++ more)) }
+        ensures err { OnErr result (GoesOn self.old self.new self.old.mode self.old.cells.items) }
+        ensures room { OnOk result (HasRoom code.now self.new base) }
+        ensures control { OnOk result (vec_len self.new.control + 3 ≤ vec_capacity self.new.control) }
+        ensures frames { OnOk result (vec_len self.new.control + 4 ≤ vec_capacity self.new.control) }
+        ensures spots { OnOk result (vec_len self.new.spots < vec_capacity self.new.spots) }
+        ensures choices { self.new.picks ≡ self.old.picks }
+        ensures waiting { vec_len self.new.control ≡ vec_len self.old.control }
+        ensures owned { self.new.owned ≡ self.old.owned }
+        ensures existing { self.new.stock ≡ self.old.stock }
+        ensures saved { self.new.saved ≡ self.old.saved }
+        ensures notes { OnOk result (vec_len self.new.noted < vec_capacity self.new.noted) }
+    {
+        if self.has_room_to_finish(code, base) {
+            return Ok(());
+        }
+        self.prepare_more_to_finish(code, base)
     }
 
     /// Takes the newest frame off, with the part that it waits for.

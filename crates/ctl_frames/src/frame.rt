@@ -1,6 +1,6 @@
 //! Where the machine is, what waits on the control stack, the active masters, and the objects and collections that they own.
 
-ghost use Rattle.std.specs.Prelude.{◌≡◌, ◌∷◌, [], IfOk, IsFalse, IsTrue};
+ghost use Rattle.std.specs.Prelude.{◌≡◌, ◌∷◌, [], IfOk, IsFalse, IsTrue, IfSome};
 ghost use Rattle.ctl_frames.specs.Owned.{started_from, IsSet};
 ghost use Rattle.ctl_code.specs.States.{object_of, worth};
 ghost use Rattle.ctl_frames.specs.Holders.{word_of_formal};
@@ -336,6 +336,18 @@ impl Formal {
         ensures { result ≡ object_of (word_of_formal self.now) }
     {
         if self.is_value { 0 } else { self.spot.object() }
+    }
+
+    /// Answers what stands among the parts where what it stands for is an operand, if that is a part to which no way leads.
+    #[inline(always)]
+    pub fn whole(&self, alloc: Global) -> Option<Spot>
+        ensures part { IfSome result (λ s. located (word_of_formal self.now ∷ []) ≡ s ∷ []) }
+        ensures cell { IfSome result (λ s. s.object ≡ worth (word_of_formal self.now)) }
+    {
+        if self.is_value || !self.spot.has_no_path() {
+            return None;
+        }
+        Some(Spot::without_path(alloc, self.spot.object(), self.spot.offset()))
     }
 
     /// Answers what stands among the parts where what it stands for is an operand: a copy of the part, or of the value of the record.

@@ -1,6 +1,6 @@
 //! Parts of objects, as operands and formals stand for them.
 
-ghost use Rattle.std.specs.Prelude.{◌≡◌, ◌+◌, ◌++◌, [], ◌∷◌, ◌≤◌, IfOk, OnErr, OnOk, drop, slice_get, vec_capacity, vec_len};
+ghost use Rattle.std.specs.Prelude.{◌≡◌, ◌+◌, ◌++◌, [], ◌∷◌, ◌≤◌, IfOk, OnErr, OnOk, drop, slice_get, vec_capacity, vec_len, IsTrue};
 ghost use Rattle.ctl_code.specs.Table as Table;
 ghost use Rattle.ctl_meaning.specs.Lists.{begins, same_list};
 ghost use Rattle.ctl_meaning.specs.Finalization.{is_whole};
@@ -44,6 +44,26 @@ impl Spot {
             offset: 0,
             path: Vec::new(alloc),
         }
+    }
+
+    /// Answers the part of an object that begins with this cell, and to which no way leads.
+    #[inline(always)]
+    pub fn without_path(alloc: Global, object: u64, offset: usize) -> Spot
+        ensures { result ≡ record { object = object; offset = offset; path = [] } }
+    {
+        Spot {
+            object,
+            offset,
+            path: Vec::new(alloc),
+        }
+    }
+
+    /// Tells whether no way leads to it, as to the whole of an object.
+    #[inline(always)]
+    pub fn has_no_path(&self) -> bool
+        ensures { IsTrue result → self.now.path ≡ [] }
+    {
+        self.path.is_empty()
     }
 
     /// Answers the value of a record with these cells, as it stands among the parts.

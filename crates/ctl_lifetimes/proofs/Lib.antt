@@ -25,10 +25,12 @@ pub mod NextPart
 pub mod NextUndone
 pub mod NextWindow
 pub mod Noting
+pub mod OneCell
 pub mod PartBegun
 pub mod PartFrames
 pub mod ReplacedAtOnce
 pub mod Starting
+pub mod TakenOver
 pub mod Targets
 pub mod Undone
 pub mod UserBodies

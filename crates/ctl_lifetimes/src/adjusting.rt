@@ -356,6 +356,11 @@ pub fn resume_adjusting_own(
         engine.mode = Mode::Giving(Ended::OperationFailed);
         return Ok(());
     }
+    if let None = creation {
+        let _ = engine.drop_frame();
+        engine.mode = Mode::Giving(handed(failed));
+        return Ok(());
+    }
     let newest = engine.count_spots() - 1;
     let part = engine.spots[newest].part(engine.alloc)?;
     reserve(&mut engine.events, 1)?;

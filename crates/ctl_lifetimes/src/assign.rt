@@ -1,9 +1,11 @@
 //! Records are assigned to (RM 5.2, 7.6): the target is finalized, takes the value, and is adjusted.
 
-ghost use Rattle.std.specs.Prelude.{◌≡◌, ◌+◌, ◌^◌, ◌<◌, ◌≤◌, ◌∷◌, List, Option, ℕ, IfOk, None, OnErr, OnOk, Some, false, length, reverse, slice_get, true, vec_capacity, vec_len};
+ghost use Rattle.std.specs.Prelude.{◌≡◌, ◌+◌, ◌^◌, ◌<◌, ◌≤◌, ◌∷◌, List, Option, ℕ, IfOk, None, OnErr, OnOk, Some, false, length, reverse, slice_get, true, vec_capacity, vec_len, IfSome, [], ◌++◌};
+ghost use Rattle.std.specs.Option.{option_map_or};
 ghost use Rattle.ctl_code.specs.declared.code.Code.{Code};
 ghost use Rattle.ctl_code.specs.declared.code.Parts.TheVariants as PartsOf;
 ghost use Rattle.ctl_meaning.specs.Changes.{object_at};
+ghost use Rattle.ctl_meaning.specs.Objects.{cells_at, change_in, object_in, with_cells};
 ghost use Rattle.ctl_meaning.specs.Finalization as S;
 ghost use Rattle.ctl_meaning.specs.Outcome.{Fine};
 ghost use Rattle.ctl_code.specs.Table as Table;
@@ -28,7 +30,11 @@ use ctl_engine::finalizing::{Assignment, Doubles, doubled};
 use ctl_engine::layers::PROGRAM_ERROR;
 use ctl_frames::frame::{Ended, Frame, Mode, Value};
 use ctl_frames::parts::{parts_of, size_of};
+use ctl_frames::spots::Spot;
+use ctl_objects::Objects;
 use ctl_tree::ending::Stop;
+use ctl_tree::event::Part;
+use ctl_tree::text::Path;
 use room::reserve;
 use std::alloc::AllocError;
 
@@ -100,6 +106,19 @@ fn adjust_target(engine: &mut Engine, code: &Code, assignment: Assignment, doubl
     adjust_part(engine, code, adjustment, doubles);
 }
 
+/// Writes these values into cells of an object, from one on, as `Objects::write_all` does.
+#[inline(always)]
+fn write_value(stock: &mut Objects, number: u64, start: usize, values: &[u64])
+    ensures objects { stock.new.objects ≡ change_in number (with_cells start values.now) stock.old.objects }
+    ensures same { stock.new ≡ record stock.old { objects = stock.new.objects } }
+{
+    // Most records with a controlled part have one cell.
+    match values {
+        [value] => stock.write_part(number, start, 0, *value),
+        _ => stock.write_all(number, start, values),
+    }
+}
+
 /// Lets the newest part take the value that was saved last, which has so many cells.
 #[inline(always)]
 fn take_value(engine: &mut Engine, size: usize)
@@ -114,7 +133,7 @@ fn take_value(engine: &mut Engine, size: usize)
     let offset = engine.spots[newest].offset();
     let start = engine.saved.as_slice().len() - size;
     let value = &engine.saved.as_slice()[start..];
-    engine.stock.write_all(target, offset, value);
+    write_value(&mut engine.stock, target, offset, value);
     engine.saved.truncate(start);
 }
 
@@ -178,9 +197,40 @@ fn save_part(engine: &mut Engine, size: usize)
     ensures waiting { engine.new.control ≡ engine.old.control }
 {
     let source = engine.spots.take_last();
-    let _ = engine
-        .stock
-        .save(source.object(), source.offset(), size, &mut engine.saved);
+    save_cells(
+        &engine.stock,
+        source.object(),
+        source.offset(),
+        size,
+        &mut engine.saved,
+    );
+}
+
+/// Saves one cell of an object, the one that is so many behind its first, as `save_cells` does.
+#[inline(always)]
+#[tactic(auto, using(crate::proofs::OneCell::cell_saved, crate::proofs::OneCell::cell_gone))]
+fn save_cell(stock: &Objects, number: u64, start: usize, saved: &mut Vec<u64>)
+    requires { vec_len saved.old < vec_capacity saved.old }
+    ensures { saved.new.items ≡ saved.old.items ++ option_map_or (cells_at start 1) (object_in number stock.now.objects) [] }
+{
+    if let Some(value) = stock.read_part(number, start, 0) {
+        saved.push_reserved(value);
+    }
+}
+
+/// Saves so many cells of an object, from one on, behind those that are saved already, for which there is room: 0 for one that it does not
+/// have, and nothing where it does not exist.
+#[inline(always)]
+fn save_cells(stock: &Objects, number: u64, start: usize, count: usize, saved: &mut Vec<u64>)
+    requires { vec_len saved.old + count ≤ vec_capacity saved.old }
+    ensures { saved.new.items ≡ saved.old.items ++ option_map_or (cells_at start count) (object_in number stock.now.objects) [] }
+{
+    // Most records with a controlled part have one cell.
+    if count == 1 {
+        save_cell(stock, number, start, saved);
+    } else {
+        let _ = stock.save(number, start, count, saved);
+    }
 }
 
 /// Assigns the value of the newest part, of an object that is there, or of a record, to the part below it at once: both are of this record
@@ -222,6 +272,27 @@ pub fn double_part(engine: &Engine, at: usize) -> Result<Doubles, AllocError>
     doubled(engine.alloc, spot)
 }
 
+/// Makes the part at this place among those of the engine three times, if no way leads to it: no memory is asked for then.
+#[inline(always)]
+pub fn double_whole(engine: &Engine, at: usize) -> Option<Doubles>
+    requires { at < length engine.now.spots.items }
+    ensures { IfSome result (λ doubles. (s : S.Spot) × (slice_get engine.now.spots.items at ≡ Some s) × AreDoubles doubles s) }
+{
+    let spot = &engine.spots[at];
+    if !spot.has_no_path() {
+        return None;
+    }
+    let alloc = engine.alloc;
+    Some(Doubles {
+        spot: Spot::without_path(alloc, spot.object(), spot.offset()),
+        formal: Spot::without_path(alloc, spot.object(), spot.offset()),
+        part: Part {
+            object: spot.object(),
+            path: Path::new(alloc),
+        },
+    })
+}
+
 /// Goes on with an assignment behind the finalization of its target, if the target is still there (RM 13.11.2): it takes the value, and
 /// is adjusted (RM 7.6); unchanged where memory is refused.
 // Apart from what hands on, into which all that is executed most often is inlined.
@@ -246,16 +317,56 @@ fn resume_taking(
         end_assignment(engine, code, record, Value::Saved, stopped);
         return Ok(());
     }
-    let base = engine.window() + code.kinds.height_at(place, 0);
-    let doubles = double_part(engine, newest)?;
-    engine.prepare_finalization(code, base)?;
     let assignment = Assignment {
         record_type: record,
         place,
-        base,
+        base: engine.window() + code.kinds.height_at(place, 0),
     };
+    match double_whole(engine, newest) {
+        Some(doubles) => take_doubled(engine, code, assignment, doubles),
+        None => take_component(engine, code, assignment),
+    }
+}
+
+/// Lets the target take the value that is saved for it, as `take_over` does, with what it is made three times of; unchanged where memory is
+/// refused.
+#[inline(always)]
+fn take_doubled(
+    engine: &mut Engine,
+    code: &Code,
+    assignment: Assignment,
+    doubles: Doubles,
+) -> Result<(), AllocError>
+    ghost t: { Assigned × List ℕ }
+    requires valid { IsValid code.now }
+    requires assigns { Assigns code.now engine.old assignment (Some t.1) t.0 }
+    requires doubles { AreDoubles doubles t.0.spot }
+    requires number { engine.old.given_masters + 1 < 2 ^ 64 }
+    ensures ok { OnOk result (Makes code.now engine.old engine.new (Table.take_over code.now t.0.spot assignment.record_type t.1 (object_at t.0.spot.object t.0.world) t.0.point t.0.control t.0.world)) }
+    ensures err { OnErr result (GoesOn engine.old engine.new engine.old.mode engine.old.cells.items) }
+{
+    engine.prepare_finalization(code, assignment.base)?;
     take_over(engine, code, assignment, doubles);
     Ok(())
+}
+
+/// Lets a target to which a way leads in its object take the value that is saved for it, as `take_doubled` does.
+#[cold]
+#[inline(never)]
+fn take_component(
+    engine: &mut Engine,
+    code: &Code,
+    assignment: Assignment,
+) -> Result<(), AllocError>
+    ghost t: { Assigned × List ℕ }
+    requires valid { IsValid code.now }
+    requires assigns { Assigns code.now engine.old assignment (Some t.1) t.0 }
+    requires number { engine.old.given_masters + 1 < 2 ^ 64 }
+    ensures ok { OnOk result (Makes code.now engine.old engine.new (Table.take_over code.now t.0.spot assignment.record_type t.1 (object_at t.0.spot.object t.0.world) t.0.point t.0.control t.0.world)) }
+    ensures err { OnErr result (GoesOn engine.old engine.new engine.old.mode engine.old.cells.items) }
+{
+    let doubles = double_part(engine, engine.count_spots() - 1)?;
+    take_doubled(engine, code, assignment, doubles)
 }
 
 /// Goes on with an assignment behind the finalization of its target, or behind its adjustment, which has ended so (RM 7.6): it takes the

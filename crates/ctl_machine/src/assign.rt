@@ -21,6 +21,7 @@ use std::alloc::AllocError;
 
 /// Assigns the value of the newest part, of an object that is there, or of a record, to the part below it, both of this record type (RM 5.2,
 /// 7.6). The assignment goes on at this place; unchanged where memory is refused.
+#[inline(always)]
 fn replace_value(
     engine: &mut Engine,
     code: &Code,

@@ -366,8 +366,24 @@ fn first_cell(objects: &[Declaration], at: usize, end: usize) -> usize
     }
 }
 
+/// Answers the place of the object that stands so many before the newest, if it has this number.
+#[inline(always)]
+fn find_back(objects: &[Declaration], back: u64, number: u64) -> Option<usize>
+    ensures { IfSome result (λ at. (o : Declaration) × (slice_get objects.now at ≡ Some o) × (o.number ≡ number)) }
+{
+    let back = back as usize;
+    if back < objects.len() {
+        let at = objects.len() - 1 - back;
+        if objects[at].number == number {
+            return Some(at);
+        }
+    }
+    None
+}
+
 /// Finds the declared object of this number; the numbers rise. It takes time in the logarithm of
-/// how many there are, and constant time for the newest and for what came after it.
+/// how many there are, and constant time for the newest, for what came after it, and for what has
+/// only declared objects with the numbers behind it.
 #[inline(always)]
 fn find(objects: &[Declaration], number: u64) -> Option<usize>
     requires { NumbersRise 0 objects.now }
@@ -382,6 +398,10 @@ fn find(objects: &[Declaration], number: u64) -> Option<usize>
         // What was allocated is most often newer than each that is declared.
         if newest.number < number {
             return None;
+        }
+        // Where objects came one right behind another, their numbers tell how far apart they stand.
+        if let Some(at) = find_back(objects, newest.number - number, number) {
+            return Some(at);
         }
     }
     let mut low = 0;

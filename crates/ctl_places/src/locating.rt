@@ -2,7 +2,7 @@
 //! of one does, it is dropped, and a component takes a value; access values that designate the object of one (RM 3.10.2), and a new object
 //! that takes the value below its access value (RM 4.8).
 
-ghost use Rattle.std.specs.Prelude.{◌≡◌, ◌+◌, ◌^◌, ◌<◌, ◌∷◌, [], ℕ, IfNone, IfOk, IfSome, OnErr, OnOk, Some};
+ghost use Rattle.std.specs.Prelude.{◌≡◌, ◌+◌, ◌^◌, ◌<◌, ◌∷◌, [], ℕ, IfNone, IfOk, IfSome, OnErr, OnOk, Some, IsTrue, IsFalse, reverse};
 ghost use Rattle.ctl_code.specs.declared.code.Instr.TheVariants as InstrOf;
 ghost use Rattle.ctl_program.specs.declared.types.Ty.{Ty};
 ghost use Rattle.ctl_code.specs.Table as Table;
@@ -10,15 +10,17 @@ ghost use Rattle.ctl_code.specs.States.{State, Word, object_of, worth};
 ghost use Rattle.ctl_code.specs.Valid.{IsValid};
 ghost use Rattle.ctl_frames.specs.declared.frame.Mode.TheVariants as ModeOf;
 ghost use Rattle.ctl_frames.specs.Holders.{IsThere, found_in};
+ghost use Rattle.ctl_frames.specs.Masters.{first_window};
 ghost use Rattle.ctl_engine.specs.Moves.{Before, GoesOn, Makes, here_of};
 ghost use Rattle.ctl_engine.specs.RecordValues.{IsPart};
 ghost use Rattle.ctl_frames.specs.Spots.{located};
-ghost use Rattle.ctl_engine.specs.Windows.{Comes};
+ghost use Rattle.ctl_engine.specs.Windows.{Comes, moded};
 ghost use Rattle.ctl_tree.specs.declared.ending.Stop.TheVariants as StopOf;
 
 use crate::components::read_at;
 use crate::record_values::{is_newest_value, select_of_value, take_of_value};
 use crate::seen::holder_seen;
+use crate::variables::set_cell;
 use ctl_code::code::{Cell, Code, Named};
 use ctl_engine::engine::Engine;
 use ctl_frames::frame::{Holder, Mode};
@@ -115,6 +117,53 @@ pub fn locate(
     let named = Named::Operand;
     engine.put(cell, &Cell { at, named }, place);
     Ok(Some(place + 1))
+}
+
+/// Answers the part that a slot holds, if no memory is asked for: the whole of an object, or a part to which no way leads.
+#[inline(always)]
+fn whole_of(engine: &Engine, holder: Holder) -> Option<Spot>
+    requires { IsThere engine.now.formals.items holder }
+    ensures { IfSome result (λ spot. (x : Word) × (found_in engine.now.formals.items (Some holder) ≡ Some x) × (located (x ∷ []) ≡ spot ∷ []) × (spot.object ≡ worth x)) }
+{
+    match holder {
+        Holder::Whole(object) => Some(Spot::whole(engine.alloc, object)),
+        Holder::Bound(at) => engine.formals[at].whole(engine.alloc),
+    }
+}
+
+/// Puts the part that a variable holds, as `locate` does, if no memory is asked for, in the newest window, which begins with this cell; tells
+/// whether it did. Else nothing changes.
+pub fn locate_at_once(
+    engine: &mut Engine,
+    window: usize,
+    code: &Code,
+    variable: &Var,
+    at: usize,
+    place: usize,
+) -> bool
+    ghost s: { State }
+    requires valid { IsValid code.now }
+    requires before { (t : ℕ) × Before code.now engine.old place (InstrOf.Locate variable.now t at) s }
+    requires window { window ≡ first_window (reverse engine.old.masters.items) }
+    requires place { place + 1 < 2 ^ 64 }
+    ensures passed { (t : ℕ) → IsTrue result → Makes code.now engine.old (moded engine.new (ModeOf.At (place + 1))) (Table.by_instr code.now (Some (InstrOf.Locate variable.now t at)) s.operands (here_of place s)) }
+    ensures masters { engine.new.masters ≡ engine.old.masters }
+    ensures left { IsFalse result → GoesOn engine.old engine.new engine.old.mode engine.old.cells.items }
+{
+    let _ = place;
+    if engine.spots.len() == engine.spots.capacity() {
+        return false;
+    }
+    let Some(holder) = holder_seen(engine, code, variable) else {
+        return false;
+    };
+    let Some(spot) = whole_of(engine, holder) else {
+        return false;
+    };
+    let named = Named::Operand;
+    set_cell(engine, window, spot.object(), &Cell { at, named });
+    engine.spots.push_reserved(spot);
+    true
 }
 
 /// Goes on from the part that is the newest operand, or from the value of a record, to a component of it, by the first cell of the component

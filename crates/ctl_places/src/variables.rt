@@ -1,7 +1,7 @@
 //! Instructions that give a number to a scalar object, and that reach a variable: one of a body around, or one that a copy goes
 //! back to (RM 3.3.1, 6.4.1, 8.3).
 
-ghost use Rattle.std.specs.Prelude.{◌≡◌, ◌+◌, ◌^◌, ◌<◌, IfSome, IsNone, List, Some, reverse, slice_get};
+ghost use Rattle.std.specs.Prelude.{◌≡◌, ◌+◌, ◌^◌, ◌<◌, IfSome, IsNone, List, Some, reverse, slice_get, ℕ, length, slice_set};
 ghost use Rattle.ctl_code.specs.declared.code.Instr.TheVariants as InstrOf;
 ghost use Rattle.ctl_program.specs.declared.types.Ty.{Ty};
 ghost use Rattle.ctl_code.specs.Table as Table;
@@ -11,8 +11,8 @@ ghost use Rattle.ctl_frames.specs.declared.frame.Master.{Master};
 ghost use Rattle.ctl_frames.specs.declared.frame.Mode.TheVariants as ModeOf;
 ghost use Rattle.ctl_engine.specs.Instructions.{Reaches};
 ghost use Rattle.ctl_frames.specs.Links.{AreLinked};
-ghost use Rattle.ctl_frames.specs.Masters.{Head, first_display, heads_of};
-ghost use Rattle.ctl_engine.specs.Moves.{Before, Makes, here_of};
+ghost use Rattle.ctl_frames.specs.Masters.{Head, first_display, first_window, heads_of};
+ghost use Rattle.ctl_engine.specs.Moves.{Before, GoesOn, Makes, here_of};
 ghost use Rattle.ctl_engine.specs.Shows.{Holds, kept};
 ghost use Rattle.ctl_engine.specs.Variables.{Gives, IsNoVariable, IsVariable};
 ghost use Rattle.ctl_engine.specs.Windows.{IsGoing, moded};
@@ -71,18 +71,29 @@ pub fn read_variable(engine: &Engine, code: &Code, out: usize, slot: usize) -> u
     }
 }
 
-/// Puts the value of a variable of a body around; 0 where there is none.
-fn fetch(engine: &mut Engine, code: &Code, variable: &Var, to: &Cell, place: usize)
+/// Writes a cell of the newest window, which begins with this cell.
+#[inline(always)]
+pub fn set_cell(engine: &mut Engine, window: usize, value: u64, to: &Cell)
+    requires window { window ≡ first_window (reverse engine.old.masters.items) }
+    requires cell { first_window (reverse engine.old.masters.items) + to.now.at < length engine.old.cells.items }
+    ensures goes { (place : ℕ) → GoesOn engine.old (moded engine.new (ModeOf.At place)) (ModeOf.At place) (slice_set engine.old.cells.items (first_window (reverse engine.old.masters.items) + to.now.at) value) }
+    ensures same { engine.new ≡ record engine.old { cells = engine.new.cells } }
+{
+    engine.cells[window + to.at] = value;
+}
+
+/// Puts the value of a variable of a body around; 0 where there is none. The newest window begins with this cell.
+fn fetch(engine: &mut Engine, window: usize, code: &Code, variable: &Var, to: &Cell, place: usize)
     ghost s: { State }
     requires valid { IsValid code.now }
     requires before { (ty : Ty) × Before code.now engine.old place (InstrOf.Fetch variable.now ty to.now) s }
-    requires place { place + 1 < 2 ^ 64 }
-    ensures mode { engine.new.mode ≡ ModeOf.At (place + 1) }
-    ensures masters { reverse engine.new.masters.items ≡ reverse engine.old.masters.items }
-    ensures makes { (ty : Ty) → Makes code.now engine.old engine.new (Table.by_instr code.now (Some (InstrOf.Fetch variable.now ty to.now)) s.operands (here_of place s)) }
+    requires window { window ≡ first_window (reverse engine.old.masters.items) }
+    ensures masters { engine.new.masters ≡ engine.old.masters }
+    ensures makes { (ty : Ty) → Makes code.now engine.old (moded engine.new (ModeOf.At (place + 1))) (Table.by_instr code.now (Some (InstrOf.Fetch variable.now ty to.now)) s.operands (here_of place s)) }
 {
+    let _ = place;
     let value = read_seen(engine, code, variable);
-    engine.put(value, to, place);
+    set_cell(engine, window, value, to);
 }
 
 /// Takes the next object number for a scalar object (RM 3.3.1); answers what comes next, which is not yet written back.
@@ -101,6 +112,19 @@ pub fn number(engine: &mut Engine, code: &Code, place: usize) -> Mode
     Mode::At(place + 1)
 }
 
+/// Gives such a variable a value; where there is none, nothing takes it.
+#[inline(always)]
+fn set_variable(engine: &mut Engine, code: &Code, out: usize, slot: usize, value: u64)
+    ghost s: { State }
+    requires { Holds code.now (kept engine.old) s.control s.operands s.world }
+    ensures gives { (place : ℕ) → Gives (first_display (heads_of s.world.activations)) out slot value place engine.old (moded engine.new (ModeOf.At place)) }
+    ensures same { engine.new ≡ record engine.old { cells = engine.new.cells } }
+{
+    if let Some(cell) = variable(engine, code, out, slot) {
+        engine.cells[cell] = value;
+    }
+}
+
 /// Gives such a variable a value, and goes on at this place; where there is none, nothing takes it.
 pub fn give(engine: &mut Engine, code: &Code, out: usize, slot: usize, value: u64, place: usize)
     ghost s: { State }
@@ -110,34 +134,38 @@ pub fn give(engine: &mut Engine, code: &Code, out: usize, slot: usize, value: u6
     ensures gives { Gives (first_display (heads_of s.world.activations)) out slot value place engine.old engine.new }
     ensures same { engine.new ≡ record engine.old { mode = engine.new.mode; cells = engine.new.cells } }
 {
-    match variable(engine, code, out, slot) {
-        Some(cell) => {
-            engine.cells[cell] = value;
-            engine.mode = Mode::At(place);
-        }
-        None => engine.mode = Mode::At(place),
-    }
+    set_variable(engine, code, out, slot, value);
+    engine.mode = Mode::At(place);
 }
 
-/// Gives a variable of a body around the value of a cell; where there is none, nothing takes it.
-fn store(engine: &mut Engine, code: &Code, from: &Cell, out: usize, slot: usize, place: usize)
+/// Gives a variable of a body around the value of a cell; where there is none, nothing takes it. The newest window begins with this cell.
+fn store(
+    engine: &mut Engine,
+    window: usize,
+    code: &Code,
+    from: &Cell,
+    out: usize,
+    slot: usize,
+    place: usize,
+)
     ghost s: { State }
     requires valid { IsValid code.now }
     requires before { (ty : Ty) × Before code.now engine.old place (InstrOf.Store from.now ty out slot) s }
-    requires place { place + 1 < 2 ^ 64 }
-    ensures mode { engine.new.mode ≡ ModeOf.At (place + 1) }
-    ensures masters { reverse engine.new.masters.items ≡ reverse engine.old.masters.items }
-    ensures makes { (ty : Ty) → Makes code.now engine.old engine.new (Table.by_instr code.now (Some (InstrOf.Store from.now ty out slot)) s.operands (here_of place s)) }
+    requires window { window ≡ first_window (reverse engine.old.masters.items) }
+    ensures masters { engine.new.masters ≡ engine.old.masters }
+    ensures makes { (ty : Ty) → Makes code.now engine.old (moded engine.new (ModeOf.At (place + 1))) (Table.by_instr code.now (Some (InstrOf.Store from.now ty out slot)) s.operands (here_of place s)) }
 {
-    let value = engine.take(from);
-    give(engine, code, out, slot, value, place + 1);
+    let _ = place;
+    let value = engine.cells[window + from.at];
+    set_variable(engine, code, out, slot, value);
 }
 
 /// Gives a variable what a copy holds, the last of so many operands, in this cell, which stays; where there is no such variable, nothing
-/// takes it (RM 6.4.1).
+/// takes it (RM 6.4.1). The newest window begins with this cell.
 // How many operands there are says only which one the table reads.
 fn copy_back(
     engine: &mut Engine,
+    window: usize,
     code: &Code,
     depth: usize,
     at: usize,
@@ -147,42 +175,53 @@ fn copy_back(
 )
     ghost s: { State }
     requires before { Before code.now engine.old place (InstrOf.CopyBack depth at out slot) s }
-    requires place { place + 1 < 2 ^ 64 }
-    ensures mode { engine.new.mode ≡ ModeOf.At (place + 1) }
-    ensures masters { reverse engine.new.masters.items ≡ reverse engine.old.masters.items }
-    ensures makes { Makes code.now engine.old engine.new (Table.by_instr code.now (Some (InstrOf.CopyBack depth at out slot)) s.operands (here_of place s)) }
+    requires window { window ≡ first_window (reverse engine.old.masters.items) }
+    ensures masters { engine.new.masters ≡ engine.old.masters }
+    ensures makes { Makes code.now engine.old (moded engine.new (ModeOf.At (place + 1))) (Table.by_instr code.now (Some (InstrOf.CopyBack depth at out slot)) s.operands (here_of place s)) }
 {
     let _ = depth;
-    let value = engine.cells[engine.window() + at];
-    give(engine, code, out, slot, value, place + 1);
+    let _ = place;
+    let value = engine.cells[window + at];
+    set_variable(engine, code, out, slot, value);
 }
 
-/// Executes this instruction, which stands at this place and reaches a variable by its slot.
+/// Executes this instruction, which stands at this place and reaches a variable by its slot; answers what comes next, which is not yet written
+/// back. The newest window begins with this cell.
 #[inline(always)]
-pub fn reach(engine: &mut Engine, code: &Code, instr: &Instr, place: usize)
+pub fn reach(engine: &mut Engine, window: usize, code: &Code, instr: &Instr, place: usize) -> Mode
     ghost s: { State }
     requires valid { IsValid code.now }
     requires before { Before code.now engine.old place instr.now s }
     requires reaches { Reaches instr.now }
     requires place { place + 1 < 2 ^ 64 }
-    ensures mode { engine.new.mode ≡ ModeOf.At (place + 1) }
-    ensures masters { reverse engine.new.masters.items ≡ reverse engine.old.masters.items }
-    ensures makes { Makes code.now engine.old engine.new (Table.by_instr code.now (Some instr.now) s.operands (here_of place s)) }
+    requires window { window ≡ first_window (reverse engine.old.masters.items) }
+    ensures going { IsGoing result }
+    ensures masters { engine.new.masters ≡ engine.old.masters }
+    ensures makes { Makes code.now engine.old (moded engine.new result) (Table.by_instr code.now (Some instr.now) s.operands (here_of place s)) }
 {
     match instr {
-        Instr::Fetch { variable, to, .. } => fetch(engine, code, variable, to, place),
+        Instr::Fetch { variable, to, .. } => {
+            fetch(engine, window, code, variable, to, place);
+            Mode::At(place + 1)
+        }
         Instr::Store {
             from,
             out,
             slot,
             ..
-        } => store(engine, code, from, *out, *slot, place),
+        } => {
+            store(engine, window, code, from, *out, *slot, place);
+            Mode::At(place + 1)
+        }
         Instr::CopyBack {
             depth,
             at,
             out,
             slot,
-        } => copy_back(engine, code, *depth, *at, *out, *slot, place),
+        } => {
+            copy_back(engine, window, code, *depth, *at, *out, *slot, place);
+            Mode::At(place + 1)
+        }
         _ => unreachable!(),
     }
 }

@@ -1,19 +1,22 @@
 //! The target of an assignment is finalized before it takes the value (RM 5.2, 7.6).
 
-ghost use Rattle.std.specs.Prelude.{◌+◌, ◌^◌, ◌<◌, List, ℕ, OnErr, OnOk, Some};
+ghost use Rattle.std.specs.Prelude.{◌≡◌, ◌+◌, ◌^◌, ◌<◌, List, ℕ, OnErr, OnOk, Some, length};
 ghost use Rattle.ctl_code.specs.Table as Table;
 ghost use Rattle.ctl_code.specs.Valid.{IsValid};
 ghost use Rattle.ctl_tree.specs.declared.event.Cause.TheVariants as CauseOf;
 ghost use Rattle.ctl_engine.specs.Assigning.{Assigned, Replaces, waiting_for};
+ghost use Rattle.ctl_engine.specs.Finishing.{AreDoubles};
 ghost use Rattle.ctl_engine.specs.Moves.{GoesOn, Makes};
+ghost use Rattle.ctl_frames.specs.Masters.{heads_of};
+ghost use Rattle.ctl_frames.specs.Under.{tall};
 
 use crate::finalizing::finalize_part;
 use ctl_code::code::Code;
 use ctl_engine::engine::Engine;
-use ctl_engine::finalizing::Finalization;
+use ctl_engine::finalizing::{Assignment, Doubles, Finalization};
 use ctl_frames::frame::{Frame, Value};
 use ctl_frames::parts::{parts_of, size_of};
-use ctl_lifetimes::assign::{double_part, save_value};
+use ctl_lifetimes::assign::{double_part, double_whole, save_value};
 use ctl_tree::event::Cause;
 use room::reserve;
 use std::alloc::AllocError;
@@ -35,8 +38,58 @@ pub fn finalize_target(
     ensures ok { OnOk result (Makes code.now engine.old engine.new (Table.finalize_part code.now (Table.parts_of code.now «record») CauseOf.Assign t.0.spot «record» (waiting_for «record» (Some t.1) t.0) t.0.world)) }
     ensures err { OnErr result (GoesOn engine.old engine.new engine.old.mode engine.old.cells.items) }
 {
-    let base = engine.window() + code.kinds.height_at(place, 0);
+    let assignment = Assignment {
+        record_type: record,
+        place,
+        base: engine.window() + code.kinds.height_at(place, 0),
+    };
+    match double_whole(engine, engine.count_spots() - 2) {
+        Some(doubles) => finalize_doubled(engine, code, assignment, is_value, doubles),
+        None => finalize_component(engine, code, assignment, is_value),
+    }
+}
+
+/// Saves the value and finalizes a target to which a way leads in its object, as `finalize_doubled` does.
+#[cold]
+#[inline(never)]
+fn finalize_component(
+    engine: &mut Engine,
+    code: &Code,
+    assignment: Assignment,
+    is_value: bool,
+) -> Result<(), AllocError>
+    ghost t: { Assigned × List ℕ }
+    requires valid { IsValid code.now }
+    requires replaces { Replaces code.now engine.old assignment.record_type is_value assignment.place t.0 t.1 }
+    requires base { assignment.base ≡ tall t.0.control (heads_of t.0.world.activations) + length t.0.point.operands }
+    requires number { engine.old.given_masters + 1 < 2 ^ 64 }
+    ensures ok { OnOk result (Makes code.now engine.old engine.new (Table.finalize_part code.now (Table.parts_of code.now assignment.record_type) CauseOf.Assign t.0.spot assignment.record_type (waiting_for assignment.record_type (Some t.1) t.0) t.0.world)) }
+    ensures err { OnErr result (GoesOn engine.old engine.new engine.old.mode engine.old.cells.items) }
+{
     let doubles = double_part(engine, engine.count_spots() - 2)?;
+    finalize_doubled(engine, code, assignment, is_value, doubles)
+}
+
+/// Saves the value of the newest part and finalizes the part below it, which is made three times so, as `finalize_target` does.
+#[inline(always)]
+fn finalize_doubled(
+    engine: &mut Engine,
+    code: &Code,
+    assignment: Assignment,
+    is_value: bool,
+    doubles: Doubles,
+) -> Result<(), AllocError>
+    ghost t: { Assigned × List ℕ }
+    requires valid { IsValid code.now }
+    requires replaces { Replaces code.now engine.old assignment.record_type is_value assignment.place t.0 t.1 }
+    requires base { assignment.base ≡ tall t.0.control (heads_of t.0.world.activations) + length t.0.point.operands }
+    requires doubles { AreDoubles doubles t.0.spot }
+    requires number { engine.old.given_masters + 1 < 2 ^ 64 }
+    ensures ok { OnOk result (Makes code.now engine.old engine.new (Table.finalize_part code.now (Table.parts_of code.now assignment.record_type) CauseOf.Assign t.0.spot assignment.record_type (waiting_for assignment.record_type (Some t.1) t.0) t.0.world)) }
+    ensures err { OnErr result (GoesOn engine.old engine.new engine.old.mode engine.old.cells.items) }
+{
+    let record = assignment.record_type;
+    let base = assignment.base;
     let size = size_of(code, record);
     reserve(&mut engine.saved, size)?;
     engine.prepare_finalization(code, base)?;
@@ -44,7 +97,7 @@ pub fn finalize_target(
     engine.control.push_reserved(Frame::Assigning {
         record,
         value: Value::Saved,
-        place,
+        place: assignment.place,
     });
     let finalization = Finalization {
         cause: Cause::Assign,

@@ -1,4 +1,4 @@
 use Rattle.ctl_places.proofs.variables.give.Given as goal
 
-abbrev pub ghost-variable : goal.ghost-variable
-ghost-variable g a = g.s
+abbrev pub ghost-set_variable : goal.ghost-set_variable
+ghost-set_variable g a = g.s

@@ -1,6 +1,7 @@
-use Rattle.std.specs.Prelude.{Some}
-use Rattle.ctl_lifetimes.proofs.Targets.{target_over}
 use Rattle.ctl_steps.proofs.assign.finalize_target.Given as goal
 
-abbrev pub ghost-finalize_part : goal.ghost-finalize_part
-ghost-finalize_part g a = target_over a.finalization.record_type (Some g.t.1) g.t.0
+abbrev pub ghost-finalize_doubled : goal.ghost-finalize_doubled
+ghost-finalize_doubled g a = g.t
+
+abbrev pub ghost-finalize_component : goal.ghost-finalize_component
+ghost-finalize_component g a = g.t
