@@ -31,7 +31,6 @@ CHECK_MEMORY = 4 * 1024**3
 MOST_JOBS = 8
 # How many lines of code take as long to prove as it takes to read what stands below a crate.
 READING = 200
-LARGE_PAGES = pathlib.Path("/sys/kernel/mm/transparent_hugepage/enabled")
 
 
 class Crate:
@@ -185,21 +184,6 @@ def build(program, processors, kit, log):
 
 
 @contextlib.contextmanager
-def large_pages():
-    """Lets the provers have large pages, where that may be asked for: they walk gigabytes that they have just written, and take some 5 in a
-    hundred less so. What was set is set back."""
-    if not os.access(LARGE_PAGES, os.W_OK):
-        yield
-        return
-    was = LARGE_PAGES.read_text(encoding="ascii").partition("[")[2].partition("]")[0]
-    LARGE_PAGES.write_text("always", encoding="ascii")
-    try:
-        yield
-    finally:
-        LARGE_PAGES.write_text(was, encoding="ascii")
-
-
-@contextlib.contextmanager
 def log_of_build():
     """Gives the log, empty, once no other build in this checkout goes on."""
     LIBRARIES.mkdir(parents=True, exist_ok=True)
@@ -225,9 +209,9 @@ def main():
     kit, crates = Kit(), read_crates()
     *libraries, program = crates
     processors = max(1, min(len(os.sched_getaffinity(0)), free_memory() // CHECK_MEMORY))
-    with log_of_build() as log, large_pages():
-        print(f"adactl: proving the {len(libraries)} libraries of the program, and then building it: half an hour or so on a new machine with"
-              " four processors", flush=True)
+    with log_of_build() as log:
+        print(f"adactl: proving the {len(libraries)} libraries of the program, and then building it: half an hour to an hour on a new machine"
+              " with four processors", flush=True)
         is_well = prove_all(Schedule(libraries, processors), kit, log)
         if is_well:
             print("adactl: building", flush=True)
