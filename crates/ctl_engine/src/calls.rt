@@ -278,7 +278,7 @@ impl Engine {
     /// Answers whose masters an operation of an object of this master is called among: it is the newest of so many. In an assignment it is
     /// the statement's, which sees the type of the operation, and else the object's (RM 7.6).
     #[inline(always)]
-    fn caller(&self, master: u64) -> usize
+    pub fn caller(&self, master: u64) -> usize
         requires { (bound : ℕ) × AreBelow (reverse self.now.masters.items) bound }
         ensures { IsCaller (is_assigning (reverse self.now.control.items)) self.now.masters.items master result }
     {
@@ -309,8 +309,30 @@ impl Engine {
         requires room { HasRoom code.now self.old base }
         ensures { Makes code.now self.old self.new (Table.call_operation code.now t.body event t.spot t.object t.control t.world) }
     {
-        let _ = code;
         let caller = self.caller(master);
+        self.call_among(code, entry, caller, base, event, spot);
+    }
+
+    /// Calls a body that the user wrote, as `call_operation` does, for an object whose operations are called among the masters that the
+    /// newest of so many sees.
+    #[inline(always)]
+    pub fn call_among(
+        &mut self,
+        code: &Code,
+        entry: &Entry,
+        caller: usize,
+        base: usize,
+        event: Event,
+        spot: Spot,
+    )
+        ghost t: { Called }
+        requires valid { IsValid code.now }
+        requires calls { (master : ℕ) × Calls code.now self.old entry.now master base t × IsCaller (is_assigning (reverse self.old.control.items)) self.old.masters.items master caller }
+        requires spot { spot ≡ t.spot }
+        requires room { HasRoom code.now self.old base }
+        ensures { Makes code.now self.old self.new (Table.call_operation code.now t.body event t.spot t.object t.control t.world) }
+    {
+        let _ = code;
         let link = self.around_from(caller, entry.level);
         let outer_formals = self.count_formals();
         let master = Master {

@@ -4,9 +4,9 @@ ghost use Rattle.std.specs.Prelude.{◌≡◌, ◌∷◌, [], IfOk, IsFalse, IsT
 ghost use Rattle.ctl_frames.specs.Owned.{started_from, IsSet};
 ghost use Rattle.ctl_code.specs.States.{object_of, worth};
 ghost use Rattle.ctl_frames.specs.Holders.{word_of_formal};
-ghost use Rattle.ctl_frames.specs.Spots.{located};
+ghost use Rattle.ctl_frames.specs.Spots.{located, spot_from};
 
-use crate::spots::Spot;
+use crate::spots::{Spot, Start};
 use ctl_code::code::Way;
 use ctl_storage::Place;
 use ctl_tree::ending::Stop;
@@ -338,16 +338,19 @@ impl Formal {
         if self.is_value { 0 } else { self.spot.object() }
     }
 
-    /// Answers what stands among the parts where what it stands for is an operand, if that is a part to which no way leads.
+    /// Answers where what it stands for begins, if that is a part to which no way leads.
     #[inline(always)]
-    pub fn whole(&self, alloc: Global) -> Option<Spot>
-        ensures part { IfSome result (λ s. located (word_of_formal self.now ∷ []) ≡ s ∷ []) }
-        ensures cell { IfSome result (λ s. s.object ≡ worth (word_of_formal self.now)) }
+    pub fn start(&self) -> Option<Start>
+        ensures part { IfSome result (λ p. located (word_of_formal self.now ∷ []) ≡ spot_from p ∷ []) }
+        ensures cell { IfSome result (λ p. p.object ≡ worth (word_of_formal self.now)) }
     {
         if self.is_value || !self.spot.has_no_path() {
             return None;
         }
-        Some(Spot::without_path(alloc, self.spot.object(), self.spot.offset()))
+        Some(Start {
+            object: self.spot.object(),
+            offset: self.spot.offset(),
+        })
     }
 
     /// Answers what stands among the parts where what it stands for is an operand: a copy of the part, or of the value of the record.

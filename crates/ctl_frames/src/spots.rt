@@ -25,6 +25,13 @@ pub struct Spot {
     path: Vec<u64>,
 }
 
+/// Where a part of an object begins to which no way leads: the number of the object, and the first cell of the part in it.
+#[derive(Clone, Copy)]
+pub struct Start {
+    pub object: u64,
+    pub offset: usize,
+}
+
 impl Model for Spot {
     ghost use Rattle.ctl_meaning.specs.Finalization as F;
 

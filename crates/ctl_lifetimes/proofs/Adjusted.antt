@@ -120,6 +120,17 @@ no_components code old new t creation type those failed are none made =
     let all = controlled_of code type in
     subst (λ (m : Move). Makes code old new m) (sym (left_none code creation t.spot type all failed t.control t.world (none_left all all those are none))) made
 
+-- and by its own Adjust, if it is controlled
+pub alone_adjusted : (code : Code) (old new : Engine) (t : Finished) (creation : Option Owner) (type : ℕ) (failed : Bool) → length (controlled_of code type) ≡ 0 → parts_of code type ≡ PartsOf.Controlled
+    → Makes code old new (adjust_by code (operation_of (λ y. y.adjust) code type) creation t.spot type failed (object_at t.spot.object t.world) t.control t.world) → Makes code old new (adjust_part code creation t.spot type failed t.control t.world)
+alone_adjusted code old new t creation type failed none controlled made =
+    subst (λ (m : Move). Makes code old new m) (sym (left_none code creation t.spot type (controlled_of code type) failed t.control t.world (empty_is (controlled_of code type) none)))
+    (subst (λ (p : Parts). Makes code old new (adjust_own code p creation t.spot type failed t.control t.world)) (sym controlled) made)
+  where
+    empty_is : (l : List Begun) → length l ≡ 0 → l ≡ []
+    empty_is [] none = refl
+    empty_is (x ∷ xs) none = absurd (omega (arith, none))
+
 -- those that it has are left
 pub some_components : (code : Code) (old new : Engine) (t : Finished) (creation : Option Owner) (type : ℕ) (those : Left) (failed : Bool) (ended : Ended) → Finishes code old t → IsNoting creation t.control → 0 < length (controlled_of code type) → AreLeft (controlled_of code type) those (controlled_of code type)
     → kept new ≡ with_frames (FrameOf.Adjusting creation type those ∷ reverse old.control.items) (old.spots.items ++ t.spot ∷ []) (kept old) → new.mode ≡ ModeOf.Giving ended → tried_of ended ≡ Fine (handed failed)

@@ -1,6 +1,6 @@
 //! Parts of objects are adjusted: their components with a controlled part, one chosen after another, and then the part itself (RM 7.6).
 
-ghost use Rattle.std.specs.Prelude.{◌≡◌, ◌≢◌, ◌+◌, ◌^◌, ◌<◌, ◌≤◌, ◌∷◌, [], List, IfNone, IfSome, None, OnErr, OnOk, length, reverse, vec_capacity, vec_len};
+ghost use Rattle.std.specs.Prelude.{◌≡◌, ◌≢◌, ◌+◌, ◌^◌, ◌<◌, ◌≤◌, ◌∷◌, [], ℕ, List, IfNone, IfSome, None, OnErr, OnOk, length, reverse, vec_capacity, vec_len};
 ghost use Rattle.ctl_code.specs.declared.code.Begun.{Begun};
 ghost use Rattle.ctl_code.specs.declared.code.Parts.TheVariants as PartsOf;
 ghost use Rattle.ctl_meaning.specs.Changes as Changes;
@@ -12,7 +12,9 @@ ghost use Rattle.ctl_code.specs.Valid.{IsValid};
 ghost use Rattle.ctl_frames.specs.declared.frame.Frame.{Frame};
 ghost use Rattle.ctl_frames.specs.declared.frame.Frame.TheVariants as FrameOf;
 ghost use Rattle.ctl_lifetimes.specs.Adjusting.{AdjustsParts, CallsAdjust, HasNoteRoom};
-ghost use Rattle.ctl_engine.specs.Assigning.{Called, IsAdjustOf};
+ghost use Rattle.ctl_engine.specs.Assigning.{Called, IsAdjustOf, IsCaller, is_assigning};
+ghost use Rattle.ctl_frames.specs.Owned.{IsObject};
+ghost use Rattle.ctl_meaning.specs.World.{Object};
 ghost use Rattle.ctl_engine.specs.Copying.{AwaitsCopy};
 ghost use Rattle.ctl_engine.specs.Declaring.{NewObject};
 ghost use Rattle.ctl_frames.specs.Filling.{AreLeft, noted_among, pick_among};
@@ -91,15 +93,15 @@ fn adjusted(engine: &mut Engine, code: &Code, adjustment: Adjustment, spot: Spot
     engine.noted.push_reserved(spot);
 }
 
-/// Calls the Adjust of a part, which the user wrote for its type with this body, and whose object is declared in this
-/// master (RM 7.6); there is room.
+/// Calls the Adjust of a part, which the user wrote for its type with this body, among the masters that the newest of so many
+/// sees (RM 7.6); there is room.
 #[inline(always)]
 fn call_adjust_of(
     engine: &mut Engine,
     code: &Code,
     entry: &Entry,
     adjustment: Adjustment,
-    master: u64,
+    caller: usize,
     doubles: Doubles,
 )
     ghost t: { Finished × Called }
@@ -109,7 +111,7 @@ fn call_adjust_of(
     requires room { HasRoomToFinish code.now engine.old adjustment.base }
     requires doubles { AreDoubles doubles t.0.spot }
     requires noting { IsNoting adjustment.creation t.0.control }
-    requires calls { CallsAdjust code.now engine.old entry.now adjustment master t.0 t.1 }
+    requires calls { (master : ℕ) × CallsAdjust code.now engine.old entry.now adjustment master t.0 t.1 × IsCaller (is_assigning (reverse engine.old.control.items)) engine.old.masters.items master caller }
     ensures { Makes code.now engine.old engine.new (Table.adjust_by code.now (Table.operation_of (λ x. x.adjust) code.now adjustment.record_type) adjustment.creation t.0.spot adjustment.record_type adjustment.failed (Changes.object_at t.0.spot.object t.0.world) t.0.control t.0.world) }
 {
     let Doubles { spot, formal, part } = doubles;
@@ -120,7 +122,7 @@ fn call_adjust_of(
     });
     engine.spots.push_reserved(spot);
     let event = Event::Adjust(part);
-    engine.call_operation(code, entry, master, adjustment.base, event, formal);
+    engine.call_among(code, entry, caller, adjustment.base, event, formal);
 }
 
 /// Adjusts a controlled part, whose components are adjusted, by its own Adjust, where the user wrote one for its type (RM 7.6). Where
@@ -141,8 +143,33 @@ fn adjust_controlled(engine: &mut Engine, code: &Code, adjustment: Adjustment, d
         engine.mode = Mode::Stopped(Stop::UseAfterFree);
         return;
     };
+    let caller = engine.caller(master);
+    adjust_among(engine, code, adjustment, caller, doubles);
+}
+
+/// Adjusts a controlled part, as `adjust_controlled` does, of an object that is there and whose operations are called among the masters that
+/// the newest of so many sees.
+#[inline(always)]
+pub fn adjust_among(
+    engine: &mut Engine,
+    code: &Code,
+    adjustment: Adjustment,
+    caller: usize,
+    doubles: Doubles,
+)
+    ghost t: { Finished }
+    requires valid { IsValid code.now }
+    requires finishes { Finishes code.now engine.old t }
+    requires base { BeginsOver adjustment.base t }
+    requires room { HasRoomToFinish code.now engine.old adjustment.base }
+    requires doubles { AreDoubles doubles t.spot }
+    requires noting { IsNoting adjustment.creation t.control }
+    requires notes { HasNoteRoom engine.old adjustment.creation }
+    requires there { (master : ℕ) × (o : Object) × IsObject engine.old.owned.items engine.old.stock.objects t.spot.object master o × IsCaller (is_assigning (reverse engine.old.control.items)) engine.old.masters.items master caller }
+    ensures { Makes code.now engine.old engine.new (Table.adjust_by code.now (Table.operation_of (λ x. x.adjust) code.now adjustment.record_type) adjustment.creation t.spot adjustment.record_type adjustment.failed (Changes.object_at t.spot.object t.world) t.control t.world) }
+{
     match adjust_of(code, adjustment.record_type) {
-        Some(entry) => call_adjust_of(engine, code, &entry, adjustment, master, doubles),
+        Some(entry) => call_adjust_of(engine, code, &entry, adjustment, caller, doubles),
         None => adjusted(engine, code, adjustment, doubles.spot, doubles.part),
     }
 }

@@ -14,22 +14,25 @@ ghost use Rattle.ctl_code.specs.Valid.{IsValid};
 ghost use Rattle.ctl_frames.specs.declared.frame.Frame.{Frame};
 ghost use Rattle.ctl_frames.specs.declared.frame.Frame.TheVariants as FrameOf;
 ghost use Rattle.ctl_frames.specs.declared.frame.Value.TheVariants as ValueOf;
-ghost use Rattle.ctl_engine.specs.Assigning.{Assigned, Assigns, Pending, Replaces, SavesValue, TakesValue};
+ghost use Rattle.ctl_engine.specs.Assigning.{Assigned, Assigns, Pending, Replaces, SavesValue, TakesValue, is_assigning};
 ghost use Rattle.ctl_engine.specs.Assigning as Assigning;
-ghost use Rattle.ctl_engine.specs.Finishing.{AreDoubles, HasRoomToFinish};
+ghost use Rattle.ctl_engine.specs.Finishing.{AreDoubles, BeginsOver, Finished, Finishes, HasRoomToFinish};
+ghost use Rattle.ctl_frames.specs.Noted.{IsNoting};
+ghost use Rattle.ctl_lifetimes.specs.Adjusting.{HasNoteRoom};
+ghost use Rattle.ctl_meaning.specs.World.{Object};
 ghost use Rattle.ctl_engine.specs.Moves.{BeforeResuming, GoesOn, Makes};
 ghost use Rattle.ctl_engine.specs.Saved as Saved;
 ghost use Rattle.ctl_frames.specs.Spots.{standing};
 ghost use Rattle.ctl_engine.specs.Shows as Shows;
 
-use crate::adjusting::{Adjustment, adjust_part};
+use crate::adjusting::{Adjustment, adjust_among, adjust_part};
 use ctl_code::code::{Code, Parts, Way};
 use ctl_engine::calls::replace_top;
 use ctl_engine::engine::Engine;
 use ctl_engine::finalizing::{Assignment, Doubles, doubled};
 use ctl_engine::layers::PROGRAM_ERROR;
 use ctl_frames::frame::{Ended, Frame, Mode, Value};
-use ctl_frames::parts::{parts_of, size_of};
+use ctl_frames::parts::{count_controlled, parts_of, size_of};
 use ctl_frames::spots::Spot;
 use ctl_objects::Objects;
 use ctl_tree::ending::Stop;
@@ -81,6 +84,31 @@ fn end_assignment(engine: &mut Engine, code: &Code, record: usize, value: Value,
     engine.mode = mode;
 }
 
+/// Adjusts the controlled target, which has taken the value, as `adjust_part` does: where no component is adjusted before it, its Adjust is
+/// called among the masters that the statement sees, which the newest one is (RM 7.6).
+#[inline(always)]
+fn adjust_assigned(engine: &mut Engine, code: &Code, adjustment: Adjustment, doubles: Doubles)
+    ghost t: { Finished }
+    requires valid { IsValid code.now }
+    requires finishes { Finishes code.now engine.old t }
+    requires base { BeginsOver adjustment.base t }
+    requires room { HasRoomToFinish code.now engine.old adjustment.base }
+    requires doubles { AreDoubles doubles t.spot }
+    requires noting { IsNoting adjustment.creation t.control }
+    requires notes { HasNoteRoom engine.old adjustment.creation }
+    requires controlled { Table.parts_of code.now adjustment.record_type ≡ PartsOf.Controlled }
+    requires there { (o : Object) × (object_in t.spot.object engine.old.stock.objects ≡ Some o) }
+    requires assigning { is_assigning (reverse engine.old.control.items) ≡ true }
+    ensures { Makes code.now engine.old engine.new (Table.adjust_part code.now adjustment.creation t.spot adjustment.record_type adjustment.failed t.control t.world) }
+{
+    if count_controlled(code, adjustment.record_type) > 0 {
+        adjust_part(engine, code, adjustment, doubles);
+        return;
+    }
+    let caller = engine.count_masters();
+    adjust_among(engine, code, adjustment, caller, doubles);
+}
+
 /// Adjusts the target, which has taken the value (RM 7.6); there is room. Where it has no controlled part the assignment has ended.
 #[inline(always)]
 fn adjust_target(engine: &mut Engine, code: &Code, assignment: Assignment, doubles: Doubles)
@@ -92,18 +120,20 @@ fn adjust_target(engine: &mut Engine, code: &Code, assignment: Assignment, doubl
     ensures { Makes code.now engine.old engine.new (Table.adjust_target code.now (Table.parts_of code.now assignment.record_type) t.spot assignment.record_type t.point t.control t.world) }
 {
     let record_type = assignment.record_type;
-    if let Parts::Plain = parts_of(code, record_type) {
-        let behind = Mode::At(assignment.place);
-        end_assignment(engine, code, record_type, Value::Taken, behind);
-        return;
-    }
     let adjustment = Adjustment {
         creation: None,
         record_type,
         failed: false,
         base: assignment.base,
     };
-    adjust_part(engine, code, adjustment, doubles);
+    match parts_of(code, record_type) {
+        Parts::Plain => {
+            let behind = Mode::At(assignment.place);
+            end_assignment(engine, code, record_type, Value::Taken, behind);
+        }
+        Parts::Controlled => adjust_assigned(engine, code, adjustment, doubles),
+        Parts::Within => adjust_part(engine, code, adjustment, doubles),
+    }
 }
 
 /// Writes these values into cells of an object, from one on, as `Objects::write_all` does.
@@ -320,7 +350,7 @@ fn resume_taking(
     let assignment = Assignment {
         record_type: record,
         place,
-        base: engine.window() + code.kinds.height_at(place, 0),
+        base: engine.window() + code.kinds.height_before(place),
     };
     match double_whole(engine, newest) {
         Some(doubles) => take_doubled(engine, code, assignment, doubles),

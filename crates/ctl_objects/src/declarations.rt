@@ -382,8 +382,8 @@ fn find_back(objects: &[Declaration], back: u64, number: u64) -> Option<usize>
 }
 
 /// Finds the declared object of this number; the numbers rise. It takes time in the logarithm of
-/// how many there are, and constant time for the newest, for what came after it, and for what has
-/// only declared objects with the numbers behind it.
+/// how many there are, and constant time for the newest, for what came after it, and for one behind
+/// which each number is that of a declared object.
 #[inline(always)]
 fn find(objects: &[Declaration], number: u64) -> Option<usize>
     requires { NumbersRise 0 objects.now }

@@ -13,7 +13,7 @@ ghost use Rattle.ctl_frames.specs.Holders.{IsThere, found_in};
 ghost use Rattle.ctl_frames.specs.Masters.{first_window};
 ghost use Rattle.ctl_engine.specs.Moves.{Before, GoesOn, Makes, here_of};
 ghost use Rattle.ctl_engine.specs.RecordValues.{IsPart};
-ghost use Rattle.ctl_frames.specs.Spots.{located};
+ghost use Rattle.ctl_frames.specs.Spots.{located, spot_from};
 ghost use Rattle.ctl_engine.specs.Windows.{Comes, moded};
 ghost use Rattle.ctl_tree.specs.declared.ending.Stop.TheVariants as StopOf;
 
@@ -24,7 +24,7 @@ use crate::variables::set_cell;
 use ctl_code::code::{Cell, Code, Named};
 use ctl_engine::engine::Engine;
 use ctl_frames::frame::{Holder, Mode};
-use ctl_frames::spots::Spot;
+use ctl_frames::spots::{Spot, Start};
 use ctl_program::types::Var;
 use room::reserve;
 use std::alloc::AllocError;
@@ -119,15 +119,15 @@ pub fn locate(
     Ok(Some(place + 1))
 }
 
-/// Answers the part that a slot holds, if no memory is asked for: the whole of an object, or a part to which no way leads.
+/// Answers where the part begins that a slot holds, if no way leads to it: the whole of an object, or such a part of one.
 #[inline(always)]
-fn whole_of(engine: &Engine, holder: Holder) -> Option<Spot>
+fn start_of(engine: &Engine, holder: Holder) -> Option<Start>
     requires { IsThere engine.now.formals.items holder }
-    ensures { IfSome result (λ spot. (x : Word) × (found_in engine.now.formals.items (Some holder) ≡ Some x) × (located (x ∷ []) ≡ spot ∷ []) × (spot.object ≡ worth x)) }
+    ensures { IfSome result (λ p. (x : Word) × (found_in engine.now.formals.items (Some holder) ≡ Some x) × (located (x ∷ []) ≡ spot_from p ∷ []) × (p.object ≡ worth x)) }
 {
     match holder {
-        Holder::Whole(object) => Some(Spot::whole(engine.alloc, object)),
-        Holder::Bound(at) => engine.formals[at].whole(engine.alloc),
+        Holder::Whole(object) => Some(Start { object, offset: 0 }),
+        Holder::Bound(at) => engine.formals[at].start(),
     }
 }
 
@@ -157,11 +157,12 @@ pub fn locate_at_once(
     let Some(holder) = holder_seen(engine, code, variable) else {
         return false;
     };
-    let Some(spot) = whole_of(engine, holder) else {
+    let Some(start) = start_of(engine, holder) else {
         return false;
     };
     let named = Named::Operand;
-    set_cell(engine, window, spot.object(), &Cell { at, named });
+    set_cell(engine, window, start.object, &Cell { at, named });
+    let spot = Spot::without_path(engine.alloc, start.object, start.offset);
     engine.spots.push_reserved(spot);
     true
 }

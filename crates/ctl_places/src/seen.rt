@@ -71,6 +71,7 @@ pub fn holder_seen(engine: &Engine, code: &Code, variable: &Var) -> Option<Holde
 }
 
 /// Reads a variable where it is seen; 0 where there is none.
+#[inline(always)]
 pub fn read_seen(engine: &Engine, code: &Code, variable: &Var) -> u64
     ghost s: { State }
     requires { Holds code.now (kept engine.now) s.control s.operands s.world }

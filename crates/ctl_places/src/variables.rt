@@ -24,6 +24,7 @@ use ctl_frames::frame::Mode;
 use ctl_program::types::Var;
 
 /// Answers the place of the master so many further out than the newest, by the links; None where there is none.
+#[inline(always)]
 pub fn master_out(engine: &Engine, out: usize) -> Option<usize>
     ghost hs: { List Head }
     requires { AreLinked engine.now.masters.items hs }
@@ -44,6 +45,7 @@ pub fn master_out(engine: &Engine, out: usize) -> Option<usize>
 }
 
 /// Answers the cell of the variable of this slot in the master so many further out than the newest; None where there is none.
+#[inline(always)]
 fn variable(engine: &Engine, code: &Code, out: usize, slot: usize) -> Option<usize>
     ghost s: { State }
     requires { Holds code.now (kept engine.now) s.control s.operands s.world }
@@ -83,6 +85,7 @@ pub fn set_cell(engine: &mut Engine, window: usize, value: u64, to: &Cell)
 }
 
 /// Puts the value of a variable of a body around; 0 where there is none. The newest window begins with this cell.
+#[inline(always)]
 fn fetch(engine: &mut Engine, window: usize, code: &Code, variable: &Var, to: &Cell, place: usize)
     ghost s: { State }
     requires valid { IsValid code.now }
@@ -139,6 +142,7 @@ pub fn give(engine: &mut Engine, code: &Code, out: usize, slot: usize, value: u6
 }
 
 /// Gives a variable of a body around the value of a cell; where there is none, nothing takes it. The newest window begins with this cell.
+#[inline(always)]
 fn store(
     engine: &mut Engine,
     window: usize,

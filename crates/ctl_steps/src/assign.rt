@@ -1,22 +1,23 @@
 //! The target of an assignment is finalized before it takes the value (RM 5.2, 7.6).
 
-ghost use Rattle.std.specs.Prelude.{◌≡◌, ◌+◌, ◌^◌, ◌<◌, List, ℕ, OnErr, OnOk, Some, length};
+ghost use Rattle.std.specs.Prelude.{◌≡◌, ◌+◌, ◌^◌, ◌<◌, List, ℕ, OnErr, OnOk, Some, length, reverse, true};
 ghost use Rattle.ctl_code.specs.Table as Table;
 ghost use Rattle.ctl_code.specs.Valid.{IsValid};
 ghost use Rattle.ctl_tree.specs.declared.event.Cause.TheVariants as CauseOf;
-ghost use Rattle.ctl_engine.specs.Assigning.{Assigned, Replaces, waiting_for};
-ghost use Rattle.ctl_engine.specs.Finishing.{AreDoubles};
+ghost use Rattle.ctl_engine.specs.Assigning.{Assigned, Replaces, is_assigning, waiting_for};
+ghost use Rattle.ctl_engine.specs.Finishing.{AreDoubles, BeginsOver, Finished, Finishes, HasRoomToFinish};
 ghost use Rattle.ctl_engine.specs.Moves.{GoesOn, Makes};
 ghost use Rattle.ctl_frames.specs.Masters.{heads_of};
 ghost use Rattle.ctl_frames.specs.Under.{tall};
 
-use crate::finalizing::finalize_part;
-use ctl_code::code::Code;
+use crate::finalizing::{finalize_among, finalize_part};
+use ctl_code::code::{Code, Parts};
 use ctl_engine::engine::Engine;
 use ctl_engine::finalizing::{Assignment, Doubles, Finalization};
-use ctl_frames::frame::{Frame, Value};
+use ctl_frames::frame::{Frame, Mode, Value};
 use ctl_frames::parts::{parts_of, size_of};
 use ctl_lifetimes::assign::{double_part, double_whole, save_value};
+use ctl_tree::ending::Stop;
 use ctl_tree::event::Cause;
 use room::reserve;
 use std::alloc::AllocError;
@@ -41,7 +42,7 @@ pub fn finalize_target(
     let assignment = Assignment {
         record_type: record,
         place,
-        base: engine.window() + code.kinds.height_at(place, 0),
+        base: engine.window() + code.kinds.height_before(place),
     };
     match double_whole(engine, engine.count_spots() - 2) {
         Some(doubles) => finalize_doubled(engine, code, assignment, is_value, doubles),
@@ -104,6 +105,31 @@ fn finalize_doubled(
         record_type: record,
         base,
     };
-    finalize_part(engine, code, finalization, doubles);
+    finalize_assigned(engine, code, finalization, doubles);
     Ok(())
+}
+
+/// Finalizes the target of an assignment, as `finalize_part` does: its operations are called among the masters that the statement sees, which
+/// the newest one is (RM 7.6).
+#[inline(always)]
+fn finalize_assigned(engine: &mut Engine, code: &Code, finalization: Finalization, doubles: Doubles)
+    ghost t: { Finished }
+    requires valid { IsValid code.now }
+    requires finishes { Finishes code.now engine.old t }
+    requires base { BeginsOver finalization.base t }
+    requires room { HasRoomToFinish code.now engine.old finalization.base }
+    requires doubles { AreDoubles doubles t.spot }
+    requires assigning { is_assigning (reverse engine.old.control.items) ≡ true }
+    ensures { Makes code.now engine.old engine.new (Table.finalize_part code.now (Table.parts_of code.now finalization.record_type) finalization.cause t.spot finalization.record_type t.control t.world) }
+{
+    let Parts::Controlled = parts_of(code, finalization.record_type) else {
+        finalize_part(engine, code, finalization, doubles);
+        return;
+    };
+    if !engine.stock.exists(doubles.spot.object()) {
+        engine.mode = Mode::Stopped(Stop::UseAfterFree);
+        return;
+    }
+    let caller = engine.count_masters();
+    finalize_among(engine, code, finalization, caller, doubles);
 }

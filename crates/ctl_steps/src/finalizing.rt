@@ -1,10 +1,12 @@
 //! A part of an object is finalized (RM 7.6.1): a controlled one by the body of a user-written Finalize, and then its components.
 
-ghost use Rattle.std.specs.Prelude.{◌≡◌};
+ghost use Rattle.std.specs.Prelude.{◌≡◌, ℕ, reverse};
 ghost use Rattle.ctl_meaning.specs.Changes as Changes;
 ghost use Rattle.ctl_code.specs.Table as Table;
 ghost use Rattle.ctl_code.specs.Valid.{IsValid};
-ghost use Rattle.ctl_engine.specs.Assigning.{Called};
+ghost use Rattle.ctl_engine.specs.Assigning.{Called, IsCaller, is_assigning};
+ghost use Rattle.ctl_frames.specs.Owned.{IsObject};
+ghost use Rattle.ctl_meaning.specs.World.{Object};
 ghost use Rattle.ctl_engine.specs.Finishing.{AreDoubles, BeginsOver, CallsOwn, Finished, Finishes, HasFrameRoom, HasRoomToFinish};
 ghost use Rattle.ctl_engine.specs.Moves.{Makes};
 
@@ -51,15 +53,15 @@ pub fn finalize_components(
     engine.mode = Mode::Giving(Ended::Complete);
 }
 
-/// Calls the Finalize of a part, which the user wrote for its type with this body, and whose object is declared in this
-/// master (RM 7.6.1); there is room.
+/// Calls the Finalize of a part, which the user wrote for its type with this body, among the masters that the newest of so many
+/// sees (RM 7.6.1); there is room.
 #[inline(always)]
 fn call_finalize(
     engine: &mut Engine,
     code: &Code,
     entry: &Entry,
     finalization: Finalization,
-    master: u64,
+    caller: usize,
     doubles: Doubles,
 )
     ghost t: { Finished × Called }
@@ -68,7 +70,7 @@ fn call_finalize(
     requires base { BeginsOver finalization.base t.0 }
     requires room { HasRoomToFinish code.now engine.old finalization.base }
     requires doubles { AreDoubles doubles t.0.spot }
-    requires calls { CallsOwn code.now engine.old entry.now finalization.cause finalization.record_type master t.0 t.1 }
+    requires calls { (master : ℕ) × CallsOwn code.now engine.old entry.now finalization.cause finalization.record_type master t.0 t.1 × IsCaller (is_assigning (reverse engine.old.control.items)) engine.old.masters.items master caller }
     ensures { Makes code.now engine.old engine.new (Table.finalize_own code.now (Table.operation_of (λ x. x.finalize) code.now finalization.record_type) finalization.cause t.0.spot finalization.record_type (Changes.object_at t.0.spot.object t.0.world) t.0.control t.0.world) }
 {
     let Doubles { spot, formal, part } = doubles;
@@ -78,7 +80,7 @@ fn call_finalize(
     });
     engine.spots.push_reserved(spot);
     let event = Event::Finalize(part, finalization.cause);
-    engine.call_operation(code, entry, master, finalization.base, event, formal);
+    engine.call_among(code, entry, caller, finalization.base, event, formal);
 }
 
 /// Finalizes a controlled part: by its own Finalize, where the user wrote one for its type, and then its components (RM 7.6.1). Where its
@@ -97,8 +99,31 @@ fn finalize_own(engine: &mut Engine, code: &Code, finalization: Finalization, do
         engine.mode = Mode::Stopped(Stop::UseAfterFree);
         return;
     };
+    let caller = engine.caller(master);
+    finalize_among(engine, code, finalization, caller, doubles);
+}
+
+/// Finalizes a controlled part, as `finalize_own` does, of an object that is there and whose operations are called among the masters that
+/// the newest of so many sees.
+#[inline(always)]
+pub fn finalize_among(
+    engine: &mut Engine,
+    code: &Code,
+    finalization: Finalization,
+    caller: usize,
+    doubles: Doubles,
+)
+    ghost t: { Finished }
+    requires valid { IsValid code.now }
+    requires finishes { Finishes code.now engine.old t }
+    requires base { BeginsOver finalization.base t }
+    requires room { HasRoomToFinish code.now engine.old finalization.base }
+    requires doubles { AreDoubles doubles t.spot }
+    requires there { (master : ℕ) × (o : Object) × IsObject engine.old.owned.items engine.old.stock.objects t.spot.object master o × IsCaller (is_assigning (reverse engine.old.control.items)) engine.old.masters.items master caller }
+    ensures { Makes code.now engine.old engine.new (Table.finalize_own code.now (Table.operation_of (λ x. x.finalize) code.now finalization.record_type) finalization.cause t.spot finalization.record_type (Changes.object_at t.spot.object t.world) t.control t.world) }
+{
     match finalize_of(code, finalization.record_type) {
-        Some(entry) => call_finalize(engine, code, &entry, finalization, master, doubles),
+        Some(entry) => call_finalize(engine, code, &entry, finalization, caller, doubles),
         None => finalize_components(
             engine,
             code,

@@ -4,11 +4,11 @@ use Rattle.ctl_tree.specs.declared.event.Part.{Part}
 use Rattle.ctl_frames.specs.declared.frame.Frame.TheVariants.{AdjustingOwn}
 use Rattle.ctl_engine.specs.Assigning.{Called}
 use Rattle.ctl_lifetimes.proofs.Adjusted.{adjust_makes, calls_adjust}
-use Rattle.ctl_lifetimes.proofs.Finishing.{pushed}
+use Rattle.ctl_lifetimes.proofs.Finishing.{caller_over, pushed}
 use Rattle.ctl_lifetimes.proofs.adjusting.call_adjust_of.Goals as goal
 
-pub call_operation-requires : goal.call_operation-requires
-call_operation-requires g c =
+pub call_among-requires : goal.call_among-requires
+call_among-requires g c =
     let code = c.args.code.now in
     let old = c.args.engine.now in
     let x = c.args.adjustment in
@@ -16,7 +16,7 @@ call_operation-requires g c =
     let room = c.requires.1.1.1.0 in
     let doubles = c.requires.1.1.1.1.0 in
     let noting = c.requires.1.1.1.1.1.0 in
-    let calls = c.requires.1.1.1.1.1.1 in
+    let calls = c.requires.1.1.1.1.1.1.1 in
     let frame = AdjustingOwn x.creation x.record_type x.failed in
     let are = pushed old c.push_reserved.new.self.items c.push_reserved-2.new.self.items frame c.args.doubles.spot t.spot c.push_reserved.ensures.items c.push_reserved-2.ensures.items doubles.spot in
     let len = c.push_reserved.ensures.len in
@@ -24,7 +24,11 @@ call_operation-requires g c =
     let more = room.control in (
       c.requires.0,
       (
-        calls_adjust code old _ c.args.entry.now x c.args.master x.base t g.t.1 c.requires.1.0 noting c.requires.1.1.0 calls are,
+        (
+          c.requires.1.1.1.1.1.1.0,
+          calls_adjust code old _ c.args.entry.now x c.requires.1.1.1.1.1.1.0 x.base t g.t.1 c.requires.1.0 noting c.requires.1.1.0 calls are,
+          caller_over old.control.items c.push_reserved.new.self.items frame old.masters.items c.requires.1.1.1.1.1.1.0 c.args.caller c.push_reserved.ensures.items refl c.requires.1.1.1.1.1.1.2,
+        ),
         (
           doubles.formal ∙ sym (ap (λ (y : Called). y.spot) calls.is),
           record { masters = room.call.masters; control = omega (arith, len, capacity, more); events = room.call.events; formals = room.call.formals; cells = room.call.cells; number = room.call.number },
@@ -35,5 +39,5 @@ call_operation-requires g c =
 pub returns : goal.returns
 returns g c =
     let x = c.args.adjustment in
-    adjust_makes c.args.code.now c.args.engine.now _ c.call_operation.new.self c.args.entry.now x c.args.master g.t.0 g.t.1 (Adjust c.args.doubles.part) c.requires.1.0 c.requires.1.1.1.1.1.1
-    (ap (λ (p : Part). Adjust p) c.requires.1.1.1.1.0.part) refl refl c.call_operation.ensures
+    adjust_makes c.args.code.now c.args.engine.now _ c.call_among.new.self c.args.entry.now x c.requires.1.1.1.1.1.1.0 g.t.0 g.t.1 (Adjust c.args.doubles.part) c.requires.1.0 c.requires.1.1.1.1.1.1.1
+    (ap (λ (p : Part). Adjust p) c.requires.1.1.1.1.0.part) refl refl c.call_among.ensures

@@ -5,15 +5,15 @@ use Rattle.ctl_engine.specs.declared.engine.Engine.{Engine}
 use Rattle.ctl_frames.specs.declared.frame.Frame.{Frame}
 use Rattle.ctl_frames.specs.declared.frame.Frame.TheVariants.{Assigning}
 use Rattle.ctl_frames.specs.declared.frame.Value.TheVariants.{Saved}
-use Rattle.ctl_engine.specs.Assigning.{Pending}
+use Rattle.ctl_engine.specs.Assigning.{Pending, is_assigning}
 use Rattle.ctl_engine.specs.Shows.{Kept, kept, with_cells}
 use Rattle.ctl_lifetimes.proofs.Assignments.{assign_waits, replaces_more, value_saved}
 use Rattle.ctl_engine.proofs.Following.{makes_later}
 use Rattle.ctl_lifetimes.proofs.Targets.{finishes_over}
 use Rattle.ctl_steps.proofs.assign.finalize_doubled.Goals as goal
 
-pub finalize_part-requires : goal.finalize_part-requires
-finalize_part-requires g c =
+pub finalize_assigned-requires : goal.finalize_assigned-requires
+finalize_assigned-requires g c =
     let code = c.args.code.now in
     let old = c.args.engine.now in
     let ready = c.prepare_finalization.new.self in
@@ -48,7 +48,7 @@ finalize_part-requires g c =
               control = omega (arith, len, capacity, more);
               spots = room.spots;
             },
-            c.requires.1.1.1.0,
+            (c.requires.1.1.1.0, ap is_assigning control),
           ),
         ),
       ),
@@ -58,4 +58,4 @@ pub returns-clause-ok : goal.returns-clause-ok
 returns-clause-ok g c =
     let saves = c.save_value.ensures.saves in
     let goes = c.in_ok-prepare_finalization.ensures.ok.1 in
-    makes_later c.args.code.now c.args.engine.now _ c.finalize_part.new.engine _ (saves.events ∙ goes.events) (saves.picks ∙ goes.picks) c.finalize_part.ensures
+    makes_later c.args.code.now c.args.engine.now _ c.finalize_assigned.new.engine _ (saves.events ∙ goes.events) (saves.picks ∙ goes.picks) c.finalize_assigned.ensures

@@ -2,5 +2,5 @@ use Rattle.std.specs.Prelude.{Some}
 use Rattle.ctl_lifetimes.proofs.Targets.{target_over}
 use Rattle.ctl_steps.proofs.assign.finalize_doubled.Given as goal
 
-abbrev pub ghost-finalize_part : goal.ghost-finalize_part
-ghost-finalize_part g a = target_over a.finalization.record_type (Some g.t.1) g.t.0
+abbrev pub ghost-finalize_assigned : goal.ghost-finalize_assigned
+ghost-finalize_assigned g a = target_over a.finalization.record_type (Some g.t.1) g.t.0

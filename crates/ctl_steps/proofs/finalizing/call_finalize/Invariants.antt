@@ -1,4 +1,4 @@
 use Rattle.ctl_steps.proofs.finalizing.call_finalize.Given as goal
 
-abbrev pub ghost-call_operation : goal.ghost-call_operation
-ghost-call_operation g a = g.t.1
+abbrev pub ghost-call_among : goal.ghost-call_among
+ghost-call_among g a = g.t.1
