@@ -1,5 +1,6 @@
 pub mod Adjusting
 pub mod Emptying
 pub mod GivingUp
+pub mod NewValues
 pub mod Resuming
 pub mod Undoing

@@ -1,11 +1,10 @@
 //! Records are assigned to (RM 5.2, 7.6): the target is finalized, takes the value, and is adjusted.
 
-ghost use Rattle.std.specs.Prelude.{◌≡◌, ◌+◌, ◌^◌, ◌<◌, ◌≤◌, ◌∷◌, List, Option, ℕ, IfOk, None, OnErr, OnOk, Some, false, length, reverse, slice_get, true, vec_capacity, vec_len, IfSome, [], ◌++◌};
-ghost use Rattle.std.specs.Option.{option_map_or};
+ghost use Rattle.std.specs.Prelude.{◌≡◌, ◌+◌, ◌^◌, ◌<◌, ◌≤◌, ◌∷◌, List, Option, ℕ, IfOk, None, OnErr, OnOk, Some, drop, false, length, reverse, slice_get, true, vec_capacity, vec_len, IfSome};
 ghost use Rattle.ctl_code.specs.declared.code.Code.{Code};
 ghost use Rattle.ctl_code.specs.declared.code.Parts.TheVariants as PartsOf;
 ghost use Rattle.ctl_meaning.specs.Changes.{object_at};
-ghost use Rattle.ctl_meaning.specs.Objects.{cells_at, change_in, object_in, with_cells};
+ghost use Rattle.ctl_meaning.specs.Objects.{change_in, object_in, with_cells};
 ghost use Rattle.ctl_meaning.specs.Finalization as S;
 ghost use Rattle.ctl_meaning.specs.Outcome.{Fine};
 ghost use Rattle.ctl_code.specs.Table as Table;
@@ -19,10 +18,14 @@ ghost use Rattle.ctl_engine.specs.Assigning as Assigning;
 ghost use Rattle.ctl_engine.specs.Finishing.{AreDoubles, BeginsOver, Finished, Finishes, HasRoomToFinish};
 ghost use Rattle.ctl_frames.specs.Noted.{IsNoting};
 ghost use Rattle.ctl_lifetimes.specs.Adjusting.{HasNoteRoom};
+ghost use Rattle.ctl_lifetimes.specs.declared.assign.NewValue.TheVariants as NewValueOf;
+ghost use Rattle.ctl_lifetimes.specs.NewValues.{IsRead, is_of_record};
 ghost use Rattle.ctl_meaning.specs.World.{Object};
 ghost use Rattle.ctl_engine.specs.Moves.{BeforeResuming, GoesOn, Makes};
 ghost use Rattle.ctl_engine.specs.Saved as Saved;
+ghost use Rattle.ctl_frames.specs.Masters.{heads_of};
 ghost use Rattle.ctl_frames.specs.Spots.{standing};
+ghost use Rattle.ctl_frames.specs.Under.{tall};
 ghost use Rattle.ctl_engine.specs.Shows as Shows;
 
 use crate::adjusting::{Adjustment, adjust_among, adjust_part};
@@ -40,6 +43,13 @@ use ctl_tree::event::Part;
 use ctl_tree::text::Path;
 use room::reserve;
 use std::alloc::AllocError;
+
+/// The value that an assignment gives: that of a record, which stands among the parts, or of a part of an object, whose first cell holds this.
+#[derive(Clone, Copy)]
+pub enum NewValue {
+    OfRecord,
+    OfPart(u64),
+}
 
 /// Answers how many of so many saved cells lie below the value of an assignment, which has this size, if it is saved.
 fn cells_below(value: Value, size: usize, total: usize) -> usize
@@ -167,6 +177,22 @@ fn take_value(engine: &mut Engine, size: usize)
     engine.saved.truncate(start);
 }
 
+/// Notes in the newest frame, which is that of this assignment, that the target has taken the value.
+// The frame stays where it is, so that one byte is written of it.
+#[inline(always)]
+fn note_taken(control: &mut Vec<Frame>, assignment: Assignment)
+    requires { (fs : List Frame) × (reverse control.old.items ≡ FrameOf.Assigning assignment.record_type ValueOf.Saved assignment.place ∷ fs) }
+    ensures items { reverse control.new.items ≡ FrameOf.Assigning assignment.record_type ValueOf.Taken assignment.place ∷ drop 1 (reverse control.old.items) }
+    ensures len { vec_len control.new ≡ vec_len control.old }
+    ensures capacity { vec_capacity control.new ≡ vec_capacity control.old }
+{
+    let _ = assignment;
+    let top = control.as_slice().len() - 1;
+    if let Frame::Assigning { value, .. } = &mut control[top] {
+        *value = Value::Taken;
+    }
+}
+
 /// Lets the target take the value that is saved for it, and adjusts it (RM 7.6); there is room.
 #[inline(always)]
 fn take_over(engine: &mut Engine, code: &Code, assignment: Assignment, doubles: Doubles)
@@ -179,29 +205,23 @@ fn take_over(engine: &mut Engine, code: &Code, assignment: Assignment, doubles: 
 {
     let size = size_of(code, assignment.record_type);
     take_value(engine, size);
-    let frame = Frame::Assigning {
-        record: assignment.record_type,
-        value: Value::Taken,
-        place: assignment.place,
-    };
-    replace_top(&mut engine.control, frame);
+    note_taken(&mut engine.control, assignment);
     adjust_target(engine, code, assignment, doubles);
 }
 
-/// Takes the newest part off, and saves its value, so many cells, for which there is room: that of a part of an object, or of a record that
-/// stands among the parts.
+/// Takes the newest part off, and saves its value, so many cells, for which there is room.
 #[inline(always)]
-pub fn save_value(engine: &mut Engine, size: usize, is_value: bool)
+pub fn save_value(engine: &mut Engine, size: usize, value: NewValue)
     requires spots { 0 < length engine.old.spots.items }
     requires saved { vec_len engine.old.saved + size ≤ vec_capacity engine.old.saved }
-    ensures saves { SavesValue engine.old engine.new size is_value }
+    requires read { IsRead value engine.old.spots.items engine.old.stock.objects }
+    ensures saves { SavesValue engine.old engine.new size (is_of_record value) }
     ensures room { (code : Code) (base : ℕ) → HasRoomToFinish code engine.old base → HasRoomToFinish code engine.new base }
     ensures waiting { engine.new.control ≡ engine.old.control }
 {
-    if is_value {
-        save_record(engine, size);
-    } else {
-        save_part(engine, size);
+    match value {
+        NewValue::OfRecord => save_record(engine, size),
+        NewValue::OfPart(first) => save_part(engine, size, first),
     }
 }
 
@@ -217,49 +237,24 @@ fn save_record(engine: &mut Engine, size: usize)
     source.save(size, &mut engine.saved);
 }
 
-/// Takes the newest part off, and saves its value, as `save_value` does.
+/// Takes the newest part off, whose first cell holds this, and saves its value, as `save_value` does.
 #[inline(always)]
-fn save_part(engine: &mut Engine, size: usize)
+fn save_part(engine: &mut Engine, size: usize, first: u64)
     requires spots { 0 < length engine.old.spots.items }
     requires saved { vec_len engine.old.saved + size ≤ vec_capacity engine.old.saved }
+    requires read { IsRead (NewValueOf.OfPart first) engine.old.spots.items engine.old.stock.objects }
     ensures saves { SavesValue engine.old engine.new size false }
     ensures room { (code : Code) (base : ℕ) → HasRoomToFinish code engine.old base → HasRoomToFinish code engine.new base }
     ensures waiting { engine.new.control ≡ engine.old.control }
 {
     let source = engine.spots.take_last();
-    save_cells(
-        &engine.stock,
-        source.object(),
-        source.offset(),
-        size,
-        &mut engine.saved,
-    );
-}
-
-/// Saves one cell of an object, the one that is so many behind its first, as `save_cells` does.
-#[inline(always)]
-#[tactic(auto, using(crate::proofs::OneCell::cell_saved, crate::proofs::OneCell::cell_gone))]
-fn save_cell(stock: &Objects, number: u64, start: usize, saved: &mut Vec<u64>)
-    requires { vec_len saved.old < vec_capacity saved.old }
-    ensures { saved.new.items ≡ saved.old.items ++ option_map_or (cells_at start 1) (object_in number stock.now.objects) [] }
-{
-    if let Some(value) = stock.read_part(number, start, 0) {
-        saved.push_reserved(value);
-    }
-}
-
-/// Saves so many cells of an object, from one on, behind those that are saved already, for which there is room: 0 for one that it does not
-/// have, and nothing where it does not exist.
-#[inline(always)]
-fn save_cells(stock: &Objects, number: u64, start: usize, count: usize, saved: &mut Vec<u64>)
-    requires { vec_len saved.old + count ≤ vec_capacity saved.old }
-    ensures { saved.new.items ≡ saved.old.items ++ option_map_or (cells_at start count) (object_in number stock.now.objects) [] }
-{
     // Most records with a controlled part have one cell.
-    if count == 1 {
-        save_cell(stock, number, start, saved);
+    if size == 1 {
+        engine.saved.push_reserved(first);
     } else {
-        let _ = stock.save(number, start, count, saved);
+        let _ = engine
+            .stock
+            .save(source.object(), source.offset(), size, &mut engine.saved);
     }
 }
 
@@ -269,11 +264,12 @@ pub fn replace_at_once(
     engine: &mut Engine,
     code: &Code,
     record: usize,
-    is_value: bool,
+    value: NewValue,
     place: usize,
 ) -> Result<(), AllocError>
     ghost t: { Assigned × List ℕ }
-    requires replaces { Replaces code.now engine.old «record» is_value place t.0 t.1 }
+    requires replaces { Replaces code.now engine.old «record» (is_of_record value) place t.0 t.1 }
+    requires read { IsRead value engine.old.spots.items engine.old.stock.objects }
     requires plain { Table.parts_of code.now «record» ≡ PartsOf.Plain }
     ensures ok { OnOk result (Makes code.now engine.old engine.new (Table.replace_value code.now t.0.spot «record» t.1 t.0.point t.0.control t.0.world)) }
     ensures err { OnErr result (GoesOn engine.old engine.new engine.old.mode engine.old.cells.items) }
@@ -285,7 +281,7 @@ pub fn replace_at_once(
     }
     let size = size_of(code, record);
     reserve(&mut engine.saved, size)?;
-    save_value(engine, size, is_value);
+    save_value(engine, size, value);
     take_value(engine, size);
     let _ = engine.spots.take_last();
     engine.mode = Mode::At(place);
@@ -342,11 +338,6 @@ fn resume_taking(
     ensures err { OnErr result (GoesOn engine.old engine.new engine.old.mode engine.old.cells.items) }
 {
     let newest = engine.count_spots() - 1;
-    if !engine.stock.exists(engine.spots[newest].object()) {
-        let stopped = Mode::Stopped(Stop::UseAfterFree);
-        end_assignment(engine, code, record, Value::Saved, stopped);
-        return Ok(());
-    }
     let assignment = Assignment {
         record_type: record,
         place,
@@ -354,12 +345,13 @@ fn resume_taking(
     };
     match double_whole(engine, newest) {
         Some(doubles) => take_doubled(engine, code, assignment, doubles),
-        None => take_component(engine, code, assignment),
+        None => take_component(engine, code, record, place, assignment.base),
     }
 }
 
-/// Lets the target take the value that is saved for it, as `take_over` does, with what it is made three times of; unchanged where memory is
-/// refused.
+/// Lets the target take the value that is saved for it, as `take_over` does, with what it is made three times of, if it is still there
+/// (RM 13.11.2); unchanged where memory is refused.
+// The target is looked for once there is room: so it stands in registers where it takes the value.
 #[inline(always)]
 fn take_doubled(
     engine: &mut Engine,
@@ -369,33 +361,49 @@ fn take_doubled(
 ) -> Result<(), AllocError>
     ghost t: { Assigned × List ℕ }
     requires valid { IsValid code.now }
-    requires assigns { Assigns code.now engine.old assignment (Some t.1) t.0 }
+    requires pending { Pending code.now engine.old assignment.record_type assignment.place (Some t.1) t.0 }
+    requires base { assignment.base ≡ tall t.0.control (heads_of t.0.world.activations) + length t.0.point.operands }
     requires doubles { AreDoubles doubles t.0.spot }
     requires number { engine.old.given_masters + 1 < 2 ^ 64 }
     ensures ok { OnOk result (Makes code.now engine.old engine.new (Table.take_over code.now t.0.spot assignment.record_type t.1 (object_at t.0.spot.object t.0.world) t.0.point t.0.control t.0.world)) }
     ensures err { OnErr result (GoesOn engine.old engine.new engine.old.mode engine.old.cells.items) }
 {
     engine.prepare_finalization(code, assignment.base)?;
+    let newest = engine.count_spots() - 1;
+    if !engine.stock.exists(engine.spots[newest].object()) {
+        let stopped = Mode::Stopped(Stop::UseAfterFree);
+        end_assignment(engine, code, assignment.record_type, Value::Saved, stopped);
+        return Ok(());
+    }
     take_over(engine, code, assignment, doubles);
     Ok(())
 }
 
 /// Lets a target to which a way leads in its object take the value that is saved for it, as `take_doubled` does.
+// The assignment comes in pieces: as one it would be written to memory before it is known whether a way leads to the target.
 #[cold]
 #[inline(never)]
 fn take_component(
     engine: &mut Engine,
     code: &Code,
-    assignment: Assignment,
+    record: usize,
+    place: usize,
+    base: usize,
 ) -> Result<(), AllocError>
     ghost t: { Assigned × List ℕ }
     requires valid { IsValid code.now }
-    requires assigns { Assigns code.now engine.old assignment (Some t.1) t.0 }
+    requires pending { Pending code.now engine.old «record» place (Some t.1) t.0 }
+    requires base { base ≡ tall t.0.control (heads_of t.0.world.activations) + length t.0.point.operands }
     requires number { engine.old.given_masters + 1 < 2 ^ 64 }
-    ensures ok { OnOk result (Makes code.now engine.old engine.new (Table.take_over code.now t.0.spot assignment.record_type t.1 (object_at t.0.spot.object t.0.world) t.0.point t.0.control t.0.world)) }
+    ensures ok { OnOk result (Makes code.now engine.old engine.new (Table.take_over code.now t.0.spot «record» t.1 (object_at t.0.spot.object t.0.world) t.0.point t.0.control t.0.world)) }
     ensures err { OnErr result (GoesOn engine.old engine.new engine.old.mode engine.old.cells.items) }
 {
     let doubles = double_part(engine, engine.count_spots() - 1)?;
+    let assignment = Assignment {
+        record_type: record,
+        place,
+        base,
+    };
     take_doubled(engine, code, assignment, doubles)
 }
 

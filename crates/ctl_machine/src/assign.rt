@@ -8,12 +8,13 @@ ghost use Rattle.ctl_code.specs.Valid.{IsValid};
 ghost use Rattle.ctl_engine.specs.Assigning.{Assigned, Replaces};
 ghost use Rattle.ctl_engine.specs.Moves.{Before, GoesOn, Makes, here_of};
 ghost use Rattle.ctl_engine.specs.RecordValues.{IsPart};
+ghost use Rattle.ctl_lifetimes.specs.NewValues.{IsRead, is_of_record};
 
 use ctl_code::code::{Code, Parts};
 use ctl_engine::engine::Engine;
 use ctl_frames::frame::Mode;
 use ctl_frames::parts::parts_of;
-use ctl_lifetimes::assign::replace_at_once;
+use ctl_lifetimes::assign::{NewValue, replace_at_once};
 use ctl_places::record_values::{is_newest_value, is_value_below};
 use ctl_steps::assign::finalize_target;
 use ctl_tree::ending::Stop;
@@ -26,19 +27,20 @@ fn replace_value(
     engine: &mut Engine,
     code: &Code,
     record: usize,
-    is_value: bool,
+    value: NewValue,
     place: usize,
 ) -> Result<(), AllocError>
     ghost t: { Assigned × List ℕ }
     requires valid { IsValid code.now }
-    requires replaces { Replaces code.now engine.old «record» is_value place t.0 t.1 }
+    requires replaces { Replaces code.now engine.old «record» (is_of_record value) place t.0 t.1 }
+    requires read { IsRead value engine.old.spots.items engine.old.stock.objects }
     requires number { engine.old.given_masters + 1 < 2 ^ 64 }
     ensures ok { OnOk result (Makes code.now engine.old engine.new (Table.replace_value code.now t.0.spot «record» t.1 t.0.point t.0.control t.0.world)) }
     ensures err { OnErr result (GoesOn engine.old engine.new engine.old.mode engine.old.cells.items) }
 {
     match parts_of(code, record) {
-        Parts::Plain => replace_at_once(engine, code, record, is_value, place),
-        _ => finalize_target(engine, code, record, is_value, place),
+        Parts::Plain => replace_at_once(engine, code, record, value, place),
+        _ => finalize_target(engine, code, record, value, place),
     }
 }
 
@@ -65,7 +67,7 @@ pub(crate) fn assign(
         return Ok(());
     }
     if is_newest_value(engine, code, place) {
-        return replace_value(engine, code, record, true, place + 1);
+        return replace_value(engine, code, record, NewValue::OfRecord, place + 1);
     }
     assign_part(engine, code, record, place)
 }
@@ -91,14 +93,14 @@ fn assign_part(
     let count = engine.count_spots();
     let source = &engine.spots[count - 1];
     let target = &engine.spots[count - 2];
-    if !engine.stock.exists(source.object()) {
+    let Some(first) = engine.stock.read_part(source.object(), source.offset(), 0) else {
         engine.mode = Mode::Stopped(Stop::UseAfterFree);
         return Ok(());
-    }
+    };
     if target.is_same(source) {
         engine.spots.truncate(count - 2);
         engine.mode = Mode::At(place + 1);
         return Ok(());
     }
-    replace_value(engine, code, record, false, place + 1)
+    replace_value(engine, code, record, NewValue::OfPart(first), place + 1)
 }

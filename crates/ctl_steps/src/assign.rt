@@ -9,6 +9,7 @@ ghost use Rattle.ctl_engine.specs.Finishing.{AreDoubles, BeginsOver, Finished, F
 ghost use Rattle.ctl_engine.specs.Moves.{GoesOn, Makes};
 ghost use Rattle.ctl_frames.specs.Masters.{heads_of};
 ghost use Rattle.ctl_frames.specs.Under.{tall};
+ghost use Rattle.ctl_lifetimes.specs.NewValues.{IsRead, is_of_record};
 
 use crate::finalizing::{finalize_among, finalize_part};
 use ctl_code::code::{Code, Parts};
@@ -16,7 +17,7 @@ use ctl_engine::engine::Engine;
 use ctl_engine::finalizing::{Assignment, Doubles, Finalization};
 use ctl_frames::frame::{Frame, Mode, Value};
 use ctl_frames::parts::{parts_of, size_of};
-use ctl_lifetimes::assign::{double_part, double_whole, save_value};
+use ctl_lifetimes::assign::{NewValue, double_part, double_whole, save_value};
 use ctl_tree::ending::Stop;
 use ctl_tree::event::Cause;
 use room::reserve;
@@ -29,12 +30,13 @@ pub fn finalize_target(
     engine: &mut Engine,
     code: &Code,
     record: usize,
-    is_value: bool,
+    value: NewValue,
     place: usize,
 ) -> Result<(), AllocError>
     ghost t: { Assigned × List ℕ }
     requires valid { IsValid code.now }
-    requires replaces { Replaces code.now engine.old «record» is_value place t.0 t.1 }
+    requires replaces { Replaces code.now engine.old «record» (is_of_record value) place t.0 t.1 }
+    requires read { IsRead value engine.old.spots.items engine.old.stock.objects }
     requires number { engine.old.given_masters + 1 < 2 ^ 64 }
     ensures ok { OnOk result (Makes code.now engine.old engine.new (Table.finalize_part code.now (Table.parts_of code.now «record») CauseOf.Assign t.0.spot «record» (waiting_for «record» (Some t.1) t.0) t.0.world)) }
     ensures err { OnErr result (GoesOn engine.old engine.new engine.old.mode engine.old.cells.items) }
@@ -45,30 +47,39 @@ pub fn finalize_target(
         base: engine.window() + code.kinds.height_before(place),
     };
     match double_whole(engine, engine.count_spots() - 2) {
-        Some(doubles) => finalize_doubled(engine, code, assignment, is_value, doubles),
-        None => finalize_component(engine, code, assignment, is_value),
+        Some(doubles) => finalize_doubled(engine, code, assignment, value, doubles),
+        None => finalize_component(engine, code, record, value, place, assignment.base),
     }
 }
 
 /// Saves the value and finalizes a target to which a way leads in its object, as `finalize_doubled` does.
+// The assignment comes in pieces: as one it would be written to memory before it is known whether a way leads to the target.
 #[cold]
 #[inline(never)]
 fn finalize_component(
     engine: &mut Engine,
     code: &Code,
-    assignment: Assignment,
-    is_value: bool,
+    record: usize,
+    value: NewValue,
+    place: usize,
+    base: usize,
 ) -> Result<(), AllocError>
     ghost t: { Assigned × List ℕ }
     requires valid { IsValid code.now }
-    requires replaces { Replaces code.now engine.old assignment.record_type is_value assignment.place t.0 t.1 }
-    requires base { assignment.base ≡ tall t.0.control (heads_of t.0.world.activations) + length t.0.point.operands }
+    requires replaces { Replaces code.now engine.old «record» (is_of_record value) place t.0 t.1 }
+    requires read { IsRead value engine.old.spots.items engine.old.stock.objects }
+    requires base { base ≡ tall t.0.control (heads_of t.0.world.activations) + length t.0.point.operands }
     requires number { engine.old.given_masters + 1 < 2 ^ 64 }
-    ensures ok { OnOk result (Makes code.now engine.old engine.new (Table.finalize_part code.now (Table.parts_of code.now assignment.record_type) CauseOf.Assign t.0.spot assignment.record_type (waiting_for assignment.record_type (Some t.1) t.0) t.0.world)) }
+    ensures ok { OnOk result (Makes code.now engine.old engine.new (Table.finalize_part code.now (Table.parts_of code.now «record») CauseOf.Assign t.0.spot «record» (waiting_for «record» (Some t.1) t.0) t.0.world)) }
     ensures err { OnErr result (GoesOn engine.old engine.new engine.old.mode engine.old.cells.items) }
 {
     let doubles = double_part(engine, engine.count_spots() - 2)?;
-    finalize_doubled(engine, code, assignment, is_value, doubles)
+    let assignment = Assignment {
+        record_type: record,
+        place,
+        base,
+    };
+    finalize_doubled(engine, code, assignment, value, doubles)
 }
 
 /// Saves the value of the newest part and finalizes the part below it, which is made three times so, as `finalize_target` does.
@@ -77,12 +88,13 @@ fn finalize_doubled(
     engine: &mut Engine,
     code: &Code,
     assignment: Assignment,
-    is_value: bool,
+    value: NewValue,
     doubles: Doubles,
 ) -> Result<(), AllocError>
     ghost t: { Assigned × List ℕ }
     requires valid { IsValid code.now }
-    requires replaces { Replaces code.now engine.old assignment.record_type is_value assignment.place t.0 t.1 }
+    requires replaces { Replaces code.now engine.old assignment.record_type (is_of_record value) assignment.place t.0 t.1 }
+    requires read { IsRead value engine.old.spots.items engine.old.stock.objects }
     requires base { assignment.base ≡ tall t.0.control (heads_of t.0.world.activations) + length t.0.point.operands }
     requires doubles { AreDoubles doubles t.0.spot }
     requires number { engine.old.given_masters + 1 < 2 ^ 64 }
@@ -94,7 +106,7 @@ fn finalize_doubled(
     let size = size_of(code, record);
     reserve(&mut engine.saved, size)?;
     engine.prepare_finalization(code, base)?;
-    save_value(engine, size, is_value);
+    save_value(engine, size, value);
     engine.control.push_reserved(Frame::Assigning {
         record,
         value: Value::Saved,

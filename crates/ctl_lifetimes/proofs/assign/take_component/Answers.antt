@@ -10,7 +10,7 @@ use Rattle.ctl_lifetimes.proofs.assign.take_component.Goals as goal
 pub double_part-requires : goal.double_part-requires
 double_part-requires g c =
     let t = g.t.0 in
-    let many = many_of c.args.engine.now.spots.items (standing t.control t.point.operands) t.spot c.requires.1.0.pending.spots in
+    let many = many_of c.args.engine.now.spots.items (standing t.control t.point.operands) t.spot c.requires.1.0.spots in
     let count = c.count_spots.ensures.count in
     omega (arith, many, count)
 
@@ -18,7 +18,7 @@ pub take_doubled-requires : goal.take_doubled-requires
 take_doubled-requires g c =
     let old = c.args.engine.now in
     let t = g.t.0 in
-    let there = c.requires.1.0.pending.spots in
+    let there = c.requires.1.0.spots in
     let copied = c.in_ok-doubles.ensures in
     let same : copied.0 ≡ t.spot = same_at copied.0 t.spot (slice_get old.spots.items (c.count_spots.result - 1)) copied.1 (newest_there old.spots.items (standing t.control t.point.operands) t.spot c.count_spots.result there c.count_spots.ensures.count) in
-    (c.requires.0, (c.requires.1.0, (subst (λ (z : Spot). AreDoubles c.in_ok-doubles.doubles z) same copied.2, c.requires.1.1)))
+    (c.requires.0, (c.requires.1.0, (c.requires.1.1.0, (subst (λ (z : Spot). AreDoubles c.in_ok-doubles.doubles z) same copied.2, c.requires.1.1.1))))

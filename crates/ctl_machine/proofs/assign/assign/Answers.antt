@@ -22,7 +22,7 @@ is_newest_value-requires g c = let b = c.requires.1.0 in (InstrOf.Assign c.args.
 
 pub replace_value-requires : goal.replace_value-requires
 replace_value-requires g c =
-    (c.requires.0, (gives_now c.args.code.now c.args.engine.now c.args.place g.s c.args.record c.requires.0 c.requires.1.0 (c.is_newest_value.ensures.value c.if-is_newest_value.true), c.requires.1.1.1))
+    (c.requires.0, (gives_now c.args.code.now c.args.engine.now c.args.place g.s c.args.record c.requires.0 c.requires.1.0 (c.is_newest_value.ensures.value c.if-is_newest_value.true), (tt, c.requires.1.1.1)))
 
 pub returns-then-is_newest_value-clause-ok : goal.returns-then-is_newest_value-clause-ok
 returns-then-is_newest_value-clause-ok g c =

@@ -15,4 +15,4 @@ finalize_doubled-requires g c =
     let copied = c.in_ok-doubles.ensures in
     let there = next_there old.spots.items (standing t.control t.point.operands) t.spot r.from c.count_spots.result r.spots c.count_spots.ensures.count in
     let same : copied.0 ≡ t.spot = same_at copied.0 t.spot (slice_get old.spots.items (c.count_spots.result - 2)) copied.1 there in
-    (c.requires.0, (r, (c.requires.1.1.0, (subst (λ (s : Spot). AreDoubles c.in_ok-doubles.doubles s) same copied.2, c.requires.1.1.1))))
+    (c.requires.0, (r, (c.requires.1.1.0, (c.requires.1.1.1.0, (subst (λ (s : Spot). AreDoubles c.in_ok-doubles.doubles s) same copied.2, c.requires.1.1.1.1)))))

@@ -10,7 +10,18 @@ use Rattle.ctl_engine.specs.Shows.{Kept, kept, with_cells}
 use Rattle.ctl_lifetimes.proofs.Assignments.{assign_waits, replaces_more, value_saved}
 use Rattle.ctl_engine.proofs.Following.{makes_later}
 use Rattle.ctl_lifetimes.proofs.Targets.{finishes_over}
+use Rattle.ctl_meaning.specs.Finalization.{Spot}
+use Rattle.ctl_meaning.specs.World.{Object}
+use Rattle.ctl_lifetimes.specs.NewValues.{IsRead, is_of_record}
 use Rattle.ctl_steps.proofs.assign.finalize_doubled.Goals as goal
+
+pub save_value-requires-clause-read : goal.save_value-requires-clause-read
+save_value-requires-clause-read g c =
+    let old = c.args.engine.now in
+    let ready = c.prepare_finalization.new.self in
+    let room = c.in_ok-prepare_finalization.ensures in
+    let spots = ap (λ (z : Kept). z.spots) room.ok.1.kept in
+    subst (λ (os : List Object). IsRead c.args.value ready.spots.items os) (sym (ap (λ v. v.objects) room.existing)) (subst (λ (l : List Spot). IsRead c.args.value l old.stock.objects) (sym spots) c.requires.1.1.0)
 
 pub finalize_assigned-requires : goal.finalize_assigned-requires
 finalize_assigned-requires g c =
@@ -25,13 +36,13 @@ finalize_assigned-requires g c =
     let r = c.requires.1.0 in
     let goes = c.in_ok-prepare_finalization.ensures.ok in
     let kept_ready : kept ready ≡ with_cells (kept old) (old.cells.items ++ goes.0) = goes.1.kept ∙ ap (λ (l : List ℕ). with_cells (record (kept old) { saved = l }) (old.cells.items ++ goes.0)) c.reserve.ensures.items in
-    let r' = replaces_more code old ready type c.args.is_value place t v goes.0 r kept_ready in
-    let saved = value_saved code ready mid c.size_of-size.result type c.args.is_value place t v r' c.size_of-size.ensures c.save_value.ensures.saves in
+    let r' = replaces_more code old ready type (is_of_record c.args.value) place t v goes.0 r kept_ready in
+    let saved = value_saved code ready mid c.size_of-size.result type (is_of_record c.args.value) place t v r' c.size_of-size.ensures c.save_value.ensures.saves in
     let frame = Assigning type Saved place in
     let control : reverse c.push_reserved.new.self.items ≡ frame ∷ reverse mid.control.items = ap (λ (l : List Frame). reverse l) c.push_reserved.ensures.items ∙ reverse-append mid.control.items (frame ∷ []) in
     let are = ap (λ (l : List Frame). record (kept mid) { control = l }) control ∙ ap (λ (z : Kept). record z { control = frame ∷ z.control }) saved in
     let new : Engine = record mid { control = c.push_reserved.new.self } in
-    let pending : Pending code new type place (Some v) t = assign_waits code ready new type c.args.is_value place v t r' are in
+    let pending : Pending code new type place (Some v) t = assign_waits code ready new type (is_of_record c.args.value) place v t r' are in
     let len = c.push_reserved.ensures.len in
     let capacity = c.push_reserved.ensures.capacity in
     let more = subst (λ x. vec_len x + 3 ≤ vec_capacity x) (sym c.save_value.ensures.waiting) c.in_ok-prepare_finalization.ensures.control in
@@ -41,14 +52,14 @@ finalize_assigned-requires g c =
       (
         finishes_over code new type place (Some v) t pending,
         (
-          c.requires.1.1.0,
+          c.requires.1.1.1.0,
           (
             record {
               call = record { masters = room.call.masters; control = omega (arith, len, capacity, more); events = room.call.events; formals = room.call.formals; cells = room.call.cells; number = room.call.number };
               control = omega (arith, len, capacity, more);
               spots = room.spots;
             },
-            (c.requires.1.1.1.0, ap is_assigning control),
+            (c.requires.1.1.1.1.0, ap is_assigning control),
           ),
         ),
       ),
