@@ -94,6 +94,23 @@ fn end_assignment(engine: &mut Engine, code: &Code, record: usize, value: Value,
     engine.mode = mode;
 }
 
+/// Adjusts the target, which has taken the value, by its components, as `adjust_part` does.
+// Apart from what adjusts a target without components: with both inlined, what the target takes its value by is so long that it is not.
+#[inline(never)]
+fn adjust_by_components(engine: &mut Engine, code: &Code, adjustment: Adjustment, doubles: Doubles)
+    ghost t: { Finished }
+    requires valid { IsValid code.now }
+    requires finishes { Finishes code.now engine.old t }
+    requires base { BeginsOver adjustment.base t }
+    requires room { HasRoomToFinish code.now engine.old adjustment.base }
+    requires doubles { AreDoubles doubles t.spot }
+    requires noting { IsNoting adjustment.creation t.control }
+    requires notes { HasNoteRoom engine.old adjustment.creation }
+    ensures { Makes code.now engine.old engine.new (Table.adjust_part code.now adjustment.creation t.spot adjustment.record_type adjustment.failed t.control t.world) }
+{
+    adjust_part(engine, code, adjustment, doubles);
+}
+
 /// Adjusts the controlled target, which has taken the value, as `adjust_part` does: where no component is adjusted before it, its Adjust is
 /// called among the masters that the statement sees, which the newest one is (RM 7.6).
 #[inline(always)]
@@ -112,7 +129,7 @@ fn adjust_assigned(engine: &mut Engine, code: &Code, adjustment: Adjustment, dou
     ensures { Makes code.now engine.old engine.new (Table.adjust_part code.now adjustment.creation t.spot adjustment.record_type adjustment.failed t.control t.world) }
 {
     if count_controlled(code, adjustment.record_type) > 0 {
-        adjust_part(engine, code, adjustment, doubles);
+        adjust_by_components(engine, code, adjustment, doubles);
         return;
     }
     let caller = engine.count_masters();
@@ -142,7 +159,7 @@ fn adjust_target(engine: &mut Engine, code: &Code, assignment: Assignment, doubl
             end_assignment(engine, code, record_type, Value::Taken, behind);
         }
         Parts::Controlled => adjust_assigned(engine, code, adjustment, doubles),
-        Parts::Within => adjust_part(engine, code, adjustment, doubles),
+        Parts::Within => adjust_by_components(engine, code, adjustment, doubles),
     }
 }
 

@@ -121,6 +121,26 @@ fn finalize_doubled(
     Ok(())
 }
 
+/// Finalizes the target of an assignment, which is not controlled itself, as `finalize_part` does.
+// Apart from what finalizes a controlled one, so that this is inlined.
+#[inline(never)]
+fn finalize_by_components(
+    engine: &mut Engine,
+    code: &Code,
+    finalization: Finalization,
+    doubles: Doubles,
+)
+    ghost t: { Finished }
+    requires valid { IsValid code.now }
+    requires finishes { Finishes code.now engine.old t }
+    requires base { BeginsOver finalization.base t }
+    requires room { HasRoomToFinish code.now engine.old finalization.base }
+    requires doubles { AreDoubles doubles t.spot }
+    ensures { Makes code.now engine.old engine.new (Table.finalize_part code.now (Table.parts_of code.now finalization.record_type) finalization.cause t.spot finalization.record_type t.control t.world) }
+{
+    finalize_part(engine, code, finalization, doubles);
+}
+
 /// Finalizes the target of an assignment, as `finalize_part` does: its operations are called among the masters that the statement sees, which
 /// the newest one is (RM 7.6).
 #[inline(always)]
@@ -135,7 +155,7 @@ fn finalize_assigned(engine: &mut Engine, code: &Code, finalization: Finalizatio
     ensures { Makes code.now engine.old engine.new (Table.finalize_part code.now (Table.parts_of code.now finalization.record_type) finalization.cause t.spot finalization.record_type t.control t.world) }
 {
     let Parts::Controlled = parts_of(code, finalization.record_type) else {
-        finalize_part(engine, code, finalization, doubles);
+        finalize_by_components(engine, code, finalization, doubles);
         return;
     };
     if !engine.stock.exists(doubles.spot.object()) {

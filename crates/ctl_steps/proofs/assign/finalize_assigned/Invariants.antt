@@ -1,7 +1,7 @@
 use Rattle.ctl_steps.proofs.assign.finalize_assigned.Given as goal
 
-abbrev pub ghost-finalize_part : goal.ghost-finalize_part
-ghost-finalize_part g a = g.t
+abbrev pub ghost-finalize_by_components : goal.ghost-finalize_by_components
+ghost-finalize_by_components g a = g.t
 
 abbrev pub ghost-finalize_among : goal.ghost-finalize_among
 ghost-finalize_among g a = g.t
