@@ -3,4 +3,5 @@ pub mod Emptying
 pub mod GivingUp
 pub mod NewValues
 pub mod Resuming
+pub mod Takings
 pub mod Undoing

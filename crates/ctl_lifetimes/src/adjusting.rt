@@ -1,6 +1,6 @@
 //! Parts of objects are adjusted: their components with a controlled part, one chosen after another, and then the part itself (RM 7.6).
 
-ghost use Rattle.std.specs.Prelude.{◌≡◌, ◌≢◌, ◌+◌, ◌^◌, ◌<◌, ◌≤◌, ◌∷◌, [], ℕ, List, IfNone, IfSome, None, OnErr, OnOk, length, reverse, vec_capacity, vec_len};
+ghost use Rattle.std.specs.Prelude.{◌≡◌, ◌≢◌, ◌+◌, ◌^◌, ◌<◌, ◌≤◌, ◌∷◌, [], ℕ, List, IfNone, IfSome, None, OnErr, OnOk, Some, length, reverse, vec_capacity, vec_len};
 ghost use Rattle.ctl_code.specs.declared.code.Begun.{Begun};
 ghost use Rattle.ctl_code.specs.declared.code.Parts.TheVariants as PartsOf;
 ghost use Rattle.ctl_meaning.specs.Changes as Changes;
@@ -9,6 +9,7 @@ ghost use Rattle.ctl_code.specs.States as T;
 ghost use Rattle.ctl_code.specs.States.{Giving, Maker, State};
 ghost use Rattle.ctl_code.specs.Table as Table;
 ghost use Rattle.ctl_code.specs.Valid.{IsValid};
+ghost use Rattle.ctl_frames.specs.declared.frame.Ended.TheVariants as EndedOf;
 ghost use Rattle.ctl_frames.specs.declared.frame.Frame.{Frame};
 ghost use Rattle.ctl_frames.specs.declared.frame.Frame.TheVariants as FrameOf;
 ghost use Rattle.ctl_lifetimes.specs.Adjusting.{AdjustsParts, CallsAdjust, HasNoteRoom};
@@ -383,18 +384,43 @@ pub fn resume_adjusting_own(
         engine.mode = Mode::Giving(Ended::OperationFailed);
         return Ok(());
     }
-    if let None = creation {
-        let _ = engine.drop_frame();
-        engine.mode = Mode::Giving(handed(failed));
-        return Ok(());
+    match creation {
+        Some(owner) => come_to_life_adjusted(engine, code, ended, owner, record, failed),
+        None => {
+            let _ = engine.drop_frame();
+            engine.mode = Mode::Giving(handed(failed));
+            Ok(())
+        }
     }
+}
+
+/// Goes on behind the Adjust of the newest part, of an object that is created for this owner by a copy, as `resume_adjusting_own` does: the
+/// part is shown to have come to life, and noted.
+// Apart from what goes on behind other Adjusts.
+#[inline(never)]
+fn come_to_life_adjusted(
+    engine: &mut Engine,
+    code: &Code,
+    ended: Ended,
+    owner: Owner,
+    record: usize,
+    failed: bool,
+) -> Result<(), AllocError>
+    ghost s: { State }
+    requires before { BeforeResuming code.now engine.old s }
+    requires top { (fs : List Frame) × (reverse engine.old.control.items ≡ FrameOf.AdjustingOwn (Some owner) «record» failed ∷ fs) }
+    requires plain { (exception : ℕ) → ended ≢ EndedOf.Raised exception }
+    ensures ok { OnOk result (Makes code.now engine.old engine.new (Table.act code.now (Giving (Shows.tried_of ended)) s.control s.operands s.world 0)) }
+    ensures err { OnErr result (GoesOn engine.old engine.new engine.old.mode engine.old.cells.items) }
+{
+    let _ = ended;
     let newest = engine.count_spots() - 1;
     let part = engine.spots[newest].part(engine.alloc)?;
     reserve(&mut engine.events, 1)?;
     reserve(&mut engine.noted, 1)?;
     let spot = engine.drop_frame();
     let adjustment = Adjustment {
-        creation,
+        creation: Some(owner),
         record_type: record,
         failed,
         base: 0,

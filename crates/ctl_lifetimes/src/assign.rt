@@ -1,10 +1,10 @@
 //! Records are assigned to (RM 5.2, 7.6): the target is finalized, takes the value, and is adjusted.
 
-ghost use Rattle.std.specs.Prelude.{◌≡◌, ◌+◌, ◌^◌, ◌<◌, ◌≤◌, ◌∷◌, List, Option, ℕ, IfOk, None, OnErr, OnOk, Some, drop, false, length, reverse, slice_get, true, vec_capacity, vec_len, IfSome};
+ghost use Rattle.std.specs.Prelude.{◌≡◌, ◌+◌, ◌^◌, ◌<◌, ◌≤◌, ◌∷◌, List, Option, ℕ, IfOk, IsFalse, IsTrue, None, OnErr, OnOk, Some, drop, false, length, reverse, slice_get, true, vec_capacity, vec_len, IfSome};
 ghost use Rattle.ctl_code.specs.declared.code.Code.{Code};
 ghost use Rattle.ctl_code.specs.declared.code.Parts.TheVariants as PartsOf;
 ghost use Rattle.ctl_meaning.specs.Changes.{object_at};
-ghost use Rattle.ctl_meaning.specs.Objects.{change_in, object_in, with_cells};
+ghost use Rattle.ctl_meaning.specs.Objects.{change_in, with_cells};
 ghost use Rattle.ctl_meaning.specs.Finalization as S;
 ghost use Rattle.ctl_meaning.specs.Outcome.{Fine};
 ghost use Rattle.ctl_code.specs.Table as Table;
@@ -13,14 +13,12 @@ ghost use Rattle.ctl_code.specs.Valid.{IsValid};
 ghost use Rattle.ctl_frames.specs.declared.frame.Frame.{Frame};
 ghost use Rattle.ctl_frames.specs.declared.frame.Frame.TheVariants as FrameOf;
 ghost use Rattle.ctl_frames.specs.declared.frame.Value.TheVariants as ValueOf;
-ghost use Rattle.ctl_engine.specs.Assigning.{Assigned, Assigns, Pending, Replaces, SavesValue, TakesValue, is_assigning};
+ghost use Rattle.ctl_engine.specs.Assigning.{Assigned, Assigns, Pending, Replaces, SavesValue, TakesValue};
 ghost use Rattle.ctl_engine.specs.Assigning as Assigning;
-ghost use Rattle.ctl_engine.specs.Finishing.{AreDoubles, BeginsOver, Finished, Finishes, HasRoomToFinish};
-ghost use Rattle.ctl_frames.specs.Noted.{IsNoting};
-ghost use Rattle.ctl_lifetimes.specs.Adjusting.{HasNoteRoom};
+ghost use Rattle.ctl_engine.specs.Finishing.{AreDoubles, HasRoomToFinish};
 ghost use Rattle.ctl_lifetimes.specs.declared.assign.NewValue.TheVariants as NewValueOf;
 ghost use Rattle.ctl_lifetimes.specs.NewValues.{IsRead, is_of_record};
-ghost use Rattle.ctl_meaning.specs.World.{Object};
+ghost use Rattle.ctl_lifetimes.specs.Takings.{IsAdjustedAlone, TakesOver};
 ghost use Rattle.ctl_engine.specs.Moves.{BeforeResuming, GoesOn, Makes};
 ghost use Rattle.ctl_engine.specs.Saved as Saved;
 ghost use Rattle.ctl_frames.specs.Masters.{heads_of};
@@ -30,7 +28,6 @@ ghost use Rattle.ctl_engine.specs.Shows as Shows;
 
 use crate::adjusting::{Adjustment, adjust_among, adjust_part};
 use ctl_code::code::{Code, Parts, Way};
-use ctl_engine::calls::replace_top;
 use ctl_engine::engine::Engine;
 use ctl_engine::finalizing::{Assignment, Doubles, doubled};
 use ctl_engine::layers::PROGRAM_ERROR;
@@ -94,50 +91,41 @@ fn end_assignment(engine: &mut Engine, code: &Code, record: usize, value: Value,
     engine.mode = mode;
 }
 
-/// Adjusts the target, which has taken the value, by its components, as `adjust_part` does.
-// Apart from what adjusts a target without components: with both inlined, what the target takes its value by is so long that it is not.
-#[inline(never)]
-fn adjust_by_components(engine: &mut Engine, code: &Code, adjustment: Adjustment, doubles: Doubles)
-    ghost t: { Finished }
-    requires valid { IsValid code.now }
-    requires finishes { Finishes code.now engine.old t }
-    requires base { BeginsOver adjustment.base t }
-    requires room { HasRoomToFinish code.now engine.old adjustment.base }
-    requires doubles { AreDoubles doubles t.spot }
-    requires noting { IsNoting adjustment.creation t.control }
-    requires notes { HasNoteRoom engine.old adjustment.creation }
-    ensures { Makes code.now engine.old engine.new (Table.adjust_part code.now adjustment.creation t.spot adjustment.record_type adjustment.failed t.control t.world) }
+/// Tells whether nothing but the target itself is adjusted in an assignment of a record type: it is controlled, and no component of it has a
+/// controlled part (RM 7.6).
+#[inline(always)]
+fn is_adjusted_alone(code: &Code, record: usize) -> bool
+    ensures { IsTrue result → IsAdjustedAlone code.now «record» }
 {
-    adjust_part(engine, code, adjustment, doubles);
+    match parts_of(code, record) {
+        Parts::Controlled => count_controlled(code, record) == 0,
+        _ => false,
+    }
 }
 
-/// Adjusts the controlled target, which has taken the value, as `adjust_part` does: where no component is adjusted before it, its Adjust is
-/// called among the masters that the statement sees, which the newest one is (RM 7.6).
+/// Adjusts the target, which has taken the value, where nothing else is adjusted in the assignment: its Adjust is called among the masters
+/// that the statement sees, which the newest one is (RM 7.6). There is room.
 #[inline(always)]
-fn adjust_assigned(engine: &mut Engine, code: &Code, adjustment: Adjustment, doubles: Doubles)
-    ghost t: { Finished }
+fn adjust_alone(engine: &mut Engine, code: &Code, assignment: Assignment, doubles: Doubles)
+    ghost t: { Assigned }
     requires valid { IsValid code.now }
-    requires finishes { Finishes code.now engine.old t }
-    requires base { BeginsOver adjustment.base t }
-    requires room { HasRoomToFinish code.now engine.old adjustment.base }
+    requires assigns { Assigns code.now engine.old assignment None t }
+    requires room { HasRoomToFinish code.now engine.old assignment.base }
     requires doubles { AreDoubles doubles t.spot }
-    requires noting { IsNoting adjustment.creation t.control }
-    requires notes { HasNoteRoom engine.old adjustment.creation }
-    requires controlled { Table.parts_of code.now adjustment.record_type ≡ PartsOf.Controlled }
-    requires there { (o : Object) × (object_in t.spot.object engine.old.stock.objects ≡ Some o) }
-    requires assigning { is_assigning (reverse engine.old.control.items) ≡ true }
-    ensures { Makes code.now engine.old engine.new (Table.adjust_part code.now adjustment.creation t.spot adjustment.record_type adjustment.failed t.control t.world) }
+    requires alone { IsAdjustedAlone code.now assignment.record_type }
+    ensures { Makes code.now engine.old engine.new (Table.adjust_target code.now (Table.parts_of code.now assignment.record_type) t.spot assignment.record_type t.point t.control t.world) }
 {
-    if count_controlled(code, adjustment.record_type) > 0 {
-        adjust_by_components(engine, code, adjustment, doubles);
-        return;
-    }
+    let adjustment = Adjustment {
+        creation: None,
+        record_type: assignment.record_type,
+        failed: false,
+        base: assignment.base,
+    };
     let caller = engine.count_masters();
     adjust_among(engine, code, adjustment, caller, doubles);
 }
 
 /// Adjusts the target, which has taken the value (RM 7.6); there is room. Where it has no controlled part the assignment has ended.
-#[inline(always)]
 fn adjust_target(engine: &mut Engine, code: &Code, assignment: Assignment, doubles: Doubles)
     ghost t: { Assigned }
     requires valid { IsValid code.now }
@@ -158,8 +146,7 @@ fn adjust_target(engine: &mut Engine, code: &Code, assignment: Assignment, doubl
             let behind = Mode::At(assignment.place);
             end_assignment(engine, code, record_type, Value::Taken, behind);
         }
-        Parts::Controlled => adjust_assigned(engine, code, adjustment, doubles),
-        Parts::Within => adjust_by_components(engine, code, adjustment, doubles),
+        _ => adjust_part(engine, code, adjustment, doubles),
     }
 }
 
@@ -210,20 +197,41 @@ fn note_taken(control: &mut Vec<Frame>, assignment: Assignment)
     }
 }
 
-/// Lets the target take the value that is saved for it, and adjusts it (RM 7.6); there is room.
+/// Lets the target, which is there, take the value that is saved for it (RM 7.6).
 #[inline(always)]
-fn take_over(engine: &mut Engine, code: &Code, assignment: Assignment, doubles: Doubles)
+fn take_there(engine: &mut Engine, code: &Code, assignment: Assignment)
     ghost t: { Assigned × List ℕ }
-    requires valid { IsValid code.now }
     requires assigns { Assigns code.now engine.old assignment (Some t.1) t.0 }
     requires room { HasRoomToFinish code.now engine.old assignment.base }
-    requires doubles { AreDoubles doubles t.0.spot }
-    ensures { Makes code.now engine.old engine.new (Table.take_over code.now t.0.spot assignment.record_type t.1 (object_at t.0.spot.object t.0.world) t.0.point t.0.control t.0.world) }
+    ensures { TakesOver code.now engine.old engine.new assignment t.1 t.0 }
 {
     let size = size_of(code, assignment.record_type);
     take_value(engine, size);
     note_taken(&mut engine.control, assignment);
-    adjust_target(engine, code, assignment, doubles);
+}
+
+/// Lets the target take the value that is saved for it, if it is still there, and makes room to adjust it (RM 7.6); tells whether it is. Where
+/// it is not, the program is erroneous (RM 13.11.2). Unchanged where memory is refused.
+// The target is looked for once there is room: so it stands in registers where it takes the value.
+#[inline(always)]
+fn take_over(engine: &mut Engine, code: &Code, assignment: Assignment) -> Result<bool, AllocError>
+    ghost t: { Assigned × List ℕ }
+    requires pending { Pending code.now engine.old assignment.record_type assignment.place (Some t.1) t.0 }
+    requires base { assignment.base ≡ tall t.0.control (heads_of t.0.world.activations) + length t.0.point.operands }
+    requires number { engine.old.given_masters + 1 < 2 ^ 64 }
+    ensures taken { IfOk result (λ there. IsTrue there → TakesOver code.now engine.old engine.new assignment t.1 t.0) }
+    ensures gone { IfOk result (λ there. IsFalse there → Makes code.now engine.old engine.new (Table.take_over code.now t.0.spot assignment.record_type t.1 (object_at t.0.spot.object t.0.world) t.0.point t.0.control t.0.world)) }
+    ensures err { OnErr result (GoesOn engine.old engine.new engine.old.mode engine.old.cells.items) }
+{
+    engine.prepare_finalization(code, assignment.base)?;
+    let newest = engine.count_spots() - 1;
+    if !engine.stock.exists(engine.spots[newest].object()) {
+        let stopped = Mode::Stopped(Stop::UseAfterFree);
+        end_assignment(engine, code, assignment.record_type, Value::Saved, stopped);
+        return Ok(false);
+    }
+    take_there(engine, code, assignment);
+    Ok(true)
 }
 
 /// Takes the newest part off, and saves its value, so many cells, for which there is room.
@@ -354,53 +362,54 @@ fn resume_taking(
     ensures ok { OnOk result ((h : Handed) → Makes code.now engine.old engine.new (Table.act code.now (Giving (Fine h)) s.control s.operands s.world 0)) }
     ensures err { OnErr result (GoesOn engine.old engine.new engine.old.mode engine.old.cells.items) }
 {
-    let newest = engine.count_spots() - 1;
-    let assignment = Assignment {
-        record_type: record,
-        place,
-        base: engine.window() + code.kinds.height_before(place),
-    };
-    match double_whole(engine, newest) {
-        Some(doubles) => take_doubled(engine, code, assignment, doubles),
-        None => take_component(engine, code, record, place, assignment.base),
+    let base = engine.window() + code.kinds.height_before(place);
+    if !is_adjusted_alone(code, record) {
+        return take_and_adjust(engine, code, record, place, base);
+    }
+    match double_whole(engine, engine.count_spots() - 1) {
+        Some(doubles) => take_alone(engine, code, record, place, base, doubles),
+        None => take_and_adjust(engine, code, record, place, base),
     }
 }
 
-/// Lets the target take the value that is saved for it, as `take_over` does, with what it is made three times of, if it is still there
-/// (RM 13.11.2); unchanged where memory is refused.
-// The target is looked for once there is room: so it stands in registers where it takes the value.
+/// Lets the target take the value that is saved for it, and adjusts it, as `take_and_adjust` does, where nothing else is adjusted in the
+/// assignment.
 #[inline(always)]
-fn take_doubled(
+fn take_alone(
     engine: &mut Engine,
     code: &Code,
-    assignment: Assignment,
+    record: usize,
+    place: usize,
+    base: usize,
     doubles: Doubles,
 ) -> Result<(), AllocError>
     ghost t: { Assigned × List ℕ }
     requires valid { IsValid code.now }
-    requires pending { Pending code.now engine.old assignment.record_type assignment.place (Some t.1) t.0 }
-    requires base { assignment.base ≡ tall t.0.control (heads_of t.0.world.activations) + length t.0.point.operands }
+    requires pending { Pending code.now engine.old «record» place (Some t.1) t.0 }
+    requires base { base ≡ tall t.0.control (heads_of t.0.world.activations) + length t.0.point.operands }
     requires doubles { AreDoubles doubles t.0.spot }
+    requires alone { IsAdjustedAlone code.now «record» }
     requires number { engine.old.given_masters + 1 < 2 ^ 64 }
-    ensures ok { OnOk result (Makes code.now engine.old engine.new (Table.take_over code.now t.0.spot assignment.record_type t.1 (object_at t.0.spot.object t.0.world) t.0.point t.0.control t.0.world)) }
+    ensures ok { OnOk result (Makes code.now engine.old engine.new (Table.take_over code.now t.0.spot «record» t.1 (object_at t.0.spot.object t.0.world) t.0.point t.0.control t.0.world)) }
     ensures err { OnErr result (GoesOn engine.old engine.new engine.old.mode engine.old.cells.items) }
 {
-    engine.prepare_finalization(code, assignment.base)?;
-    let newest = engine.count_spots() - 1;
-    if !engine.stock.exists(engine.spots[newest].object()) {
-        let stopped = Mode::Stopped(Stop::UseAfterFree);
-        end_assignment(engine, code, assignment.record_type, Value::Saved, stopped);
-        return Ok(());
+    let assignment = Assignment {
+        record_type: record,
+        place,
+        base,
+    };
+    let is_there = take_over(engine, code, assignment)?;
+    if is_there {
+        adjust_alone(engine, code, assignment, doubles);
     }
-    take_over(engine, code, assignment, doubles);
     Ok(())
 }
 
-/// Lets a target to which a way leads in its object take the value that is saved for it, as `take_doubled` does.
-// The assignment comes in pieces: as one it would be written to memory before it is known whether a way leads to the target.
-#[cold]
+/// Lets the target take the value that is saved for it, if it is still there (RM 13.11.2), and adjusts it, its components before it (RM 7.6);
+/// unchanged where memory is refused.
+// The assignment comes in pieces: as one it would be written to memory before it is known whether this is called.
 #[inline(never)]
-fn take_component(
+fn take_and_adjust(
     engine: &mut Engine,
     code: &Code,
     record: usize,
@@ -421,7 +430,11 @@ fn take_component(
         place,
         base,
     };
-    take_doubled(engine, code, assignment, doubles)
+    let is_there = take_over(engine, code, assignment)?;
+    if is_there {
+        adjust_target(engine, code, assignment, doubles);
+    }
+    Ok(())
 }
 
 /// Goes on with an assignment behind the finalization of its target, or behind its adjustment, which has ended so (RM 7.6): it takes the

@@ -22,7 +22,7 @@ use ctl_engine::engine::Engine;
 use ctl_engine::finalizing::{Doubles, Finalization, handed};
 use ctl_engine::layers::{PROGRAM_ERROR, fails_with};
 use ctl_frames::frame::{Apart, Ended, Frame, Mode};
-use ctl_frames::parts::{controlled_at, parts_of};
+use ctl_frames::parts::{controlled_at, count_controlled};
 use ctl_lifetimes::filling::note_pick;
 use ctl_steps::finalizing::{finalize_components, finalize_part};
 use ctl_tree::event::Cause;
@@ -60,6 +60,7 @@ pub(crate) fn finalize_whole(
 
 /// Goes on with a part behind its own Finalize, which has ended so: its components are finalized. An exception is remembered, and in an
 /// assignment it is Program_Error at once (RM 7.6.1).
+// Where no component is left to finalize it is known behind this what is handed on.
 #[inline(always)]
 pub(crate) fn resume_finalizing_own(
     engine: &mut Engine,
@@ -68,6 +69,24 @@ pub(crate) fn resume_finalizing_own(
     cause: Cause,
     record: usize,
 )
+    ghost s: { State }
+    requires before { BeforeResuming code.now engine.old s }
+    requires top { (fs : List Frame) × (reverse engine.old.control.items ≡ FrameOf.FinalizingOwn cause «record» ∷ fs) }
+    ensures { Makes code.now engine.old engine.new (Table.act code.now (Giving (Shows.tried_of ended)) s.control s.operands s.world 0) }
+{
+    if let Ended::Raised(_) = ended {
+        return finalize_behind(engine, code, ended, cause, record);
+    }
+    if count_controlled(code, record) > 0 {
+        return finalize_behind(engine, code, ended, cause, record);
+    }
+    let _ = engine.drop_frame();
+    engine.mode = Mode::Giving(Ended::Complete);
+}
+
+/// Goes on with a part behind its own Finalize, as `resume_finalizing_own` does, whatever its components are and however that ended.
+#[inline(never)]
+fn finalize_behind(engine: &mut Engine, code: &Code, ended: Ended, cause: Cause, record: usize)
     ghost s: { State }
     requires before { BeforeResuming code.now engine.old s }
     requires top { (fs : List Frame) × (reverse engine.old.control.items ≡ FrameOf.FinalizingOwn cause «record» ∷ fs) }

@@ -1,10 +1,11 @@
 //! The target of an assignment is finalized before it takes the value (RM 5.2, 7.6).
 
 ghost use Rattle.std.specs.Prelude.{◌≡◌, ◌+◌, ◌^◌, ◌<◌, List, ℕ, OnErr, OnOk, Some, length, reverse, true};
+ghost use Rattle.ctl_code.specs.declared.code.Parts.TheVariants as PartsOf;
 ghost use Rattle.ctl_code.specs.Table as Table;
 ghost use Rattle.ctl_code.specs.Valid.{IsValid};
 ghost use Rattle.ctl_tree.specs.declared.event.Cause.TheVariants as CauseOf;
-ghost use Rattle.ctl_engine.specs.Assigning.{Assigned, Replaces, is_assigning, waiting_for};
+ghost use Rattle.ctl_engine.specs.Assigning.{Assigned, Pending, Replaces, is_assigning, waiting_for};
 ghost use Rattle.ctl_engine.specs.Finishing.{AreDoubles, BeginsOver, Finished, Finishes, HasRoomToFinish};
 ghost use Rattle.ctl_engine.specs.Moves.{GoesOn, Makes};
 ghost use Rattle.ctl_frames.specs.Masters.{heads_of};
@@ -14,7 +15,7 @@ ghost use Rattle.ctl_lifetimes.specs.NewValues.{IsRead, is_of_record};
 use crate::finalizing::{finalize_among, finalize_part};
 use ctl_code::code::{Code, Parts};
 use ctl_engine::engine::Engine;
-use ctl_engine::finalizing::{Assignment, Doubles, Finalization};
+use ctl_engine::finalizing::{Doubles, Finalization};
 use ctl_frames::frame::{Frame, Mode, Value};
 use ctl_frames::parts::{parts_of, size_of};
 use ctl_lifetimes::assign::{NewValue, double_part, double_whole, save_value};
@@ -41,22 +42,20 @@ pub fn finalize_target(
     ensures ok { OnOk result (Makes code.now engine.old engine.new (Table.finalize_part code.now (Table.parts_of code.now «record») CauseOf.Assign t.0.spot «record» (waiting_for «record» (Some t.1) t.0) t.0.world)) }
     ensures err { OnErr result (GoesOn engine.old engine.new engine.old.mode engine.old.cells.items) }
 {
-    let assignment = Assignment {
-        record_type: record,
-        place,
-        base: engine.window() + code.kinds.height_before(place),
+    let base = engine.window() + code.kinds.height_before(place);
+    let Parts::Controlled = parts_of(code, record) else {
+        return finalize_any(engine, code, record, value, place, base);
     };
     match double_whole(engine, engine.count_spots() - 2) {
-        Some(doubles) => finalize_doubled(engine, code, assignment, value, doubles),
-        None => finalize_component(engine, code, record, value, place, assignment.base),
+        Some(doubles) => finalize_controlled(engine, code, record, value, place, base, doubles),
+        None => finalize_any(engine, code, record, value, place, base),
     }
 }
 
-/// Saves the value and finalizes a target to which a way leads in its object, as `finalize_doubled` does.
-// The assignment comes in pieces: as one it would be written to memory before it is known whether a way leads to the target.
-#[cold]
+/// Saves the value and finalizes a target as `finalize_target` does, whatever it is.
+// The assignment comes in pieces: as one it would be written to memory before it is known whether this is called.
 #[inline(never)]
-fn finalize_component(
+fn finalize_any(
     engine: &mut Engine,
     code: &Code,
     record: usize,
@@ -74,44 +73,39 @@ fn finalize_component(
     ensures err { OnErr result (GoesOn engine.old engine.new engine.old.mode engine.old.cells.items) }
 {
     let doubles = double_part(engine, engine.count_spots() - 2)?;
-    let assignment = Assignment {
+    begin_assignment(engine, code, record, value, place, base)?;
+    let finalization = Finalization {
+        cause: Cause::Assign,
         record_type: record,
-        place,
         base,
     };
-    finalize_doubled(engine, code, assignment, value, doubles)
+    finalize_part(engine, code, finalization, doubles);
+    Ok(())
 }
 
-/// Saves the value of the newest part and finalizes the part below it, which is made three times so, as `finalize_target` does.
+/// Saves the value and finalizes a controlled target, which is made three times so, as `finalize_target` does.
 #[inline(always)]
-fn finalize_doubled(
+fn finalize_controlled(
     engine: &mut Engine,
     code: &Code,
-    assignment: Assignment,
+    record: usize,
     value: NewValue,
+    place: usize,
+    base: usize,
     doubles: Doubles,
 ) -> Result<(), AllocError>
     ghost t: { Assigned × List ℕ }
     requires valid { IsValid code.now }
-    requires replaces { Replaces code.now engine.old assignment.record_type (is_of_record value) assignment.place t.0 t.1 }
+    requires replaces { Replaces code.now engine.old «record» (is_of_record value) place t.0 t.1 }
     requires read { IsRead value engine.old.spots.items engine.old.stock.objects }
-    requires base { assignment.base ≡ tall t.0.control (heads_of t.0.world.activations) + length t.0.point.operands }
+    requires base { base ≡ tall t.0.control (heads_of t.0.world.activations) + length t.0.point.operands }
     requires doubles { AreDoubles doubles t.0.spot }
+    requires controlled { Table.parts_of code.now «record» ≡ PartsOf.Controlled }
     requires number { engine.old.given_masters + 1 < 2 ^ 64 }
-    ensures ok { OnOk result (Makes code.now engine.old engine.new (Table.finalize_part code.now (Table.parts_of code.now assignment.record_type) CauseOf.Assign t.0.spot assignment.record_type (waiting_for assignment.record_type (Some t.1) t.0) t.0.world)) }
+    ensures ok { OnOk result (Makes code.now engine.old engine.new (Table.finalize_part code.now (Table.parts_of code.now «record») CauseOf.Assign t.0.spot «record» (waiting_for «record» (Some t.1) t.0) t.0.world)) }
     ensures err { OnErr result (GoesOn engine.old engine.new engine.old.mode engine.old.cells.items) }
 {
-    let record = assignment.record_type;
-    let base = assignment.base;
-    let size = size_of(code, record);
-    reserve(&mut engine.saved, size)?;
-    engine.prepare_finalization(code, base)?;
-    save_value(engine, size, value);
-    engine.control.push_reserved(Frame::Assigning {
-        record,
-        value: Value::Saved,
-        place: assignment.place,
-    });
+    begin_assignment(engine, code, record, value, place, base)?;
     let finalization = Finalization {
         cause: Cause::Assign,
         record_type: record,
@@ -121,28 +115,41 @@ fn finalize_doubled(
     Ok(())
 }
 
-/// Finalizes the target of an assignment, which is not controlled itself, as `finalize_part` does.
-// Apart from what finalizes a controlled one, so that this is inlined.
-#[inline(never)]
-fn finalize_by_components(
+/// Begins an assignment, which goes on at this place: saves the value of the newest part and lets the assignment wait. There is room then to
+/// finalize the part below, which is its target. Unchanged where memory is refused.
+#[inline(always)]
+fn begin_assignment(
     engine: &mut Engine,
     code: &Code,
-    finalization: Finalization,
-    doubles: Doubles,
-)
-    ghost t: { Finished }
-    requires valid { IsValid code.now }
-    requires finishes { Finishes code.now engine.old t }
-    requires base { BeginsOver finalization.base t }
-    requires room { HasRoomToFinish code.now engine.old finalization.base }
-    requires doubles { AreDoubles doubles t.spot }
-    ensures { Makes code.now engine.old engine.new (Table.finalize_part code.now (Table.parts_of code.now finalization.record_type) finalization.cause t.spot finalization.record_type t.control t.world) }
+    record: usize,
+    value: NewValue,
+    place: usize,
+    base: usize,
+) -> Result<(), AllocError>
+    ghost t: { Assigned × List ℕ }
+    requires replaces { Replaces code.now engine.old «record» (is_of_record value) place t.0 t.1 }
+    requires read { IsRead value engine.old.spots.items engine.old.stock.objects }
+    requires number { engine.old.given_masters + 1 < 2 ^ 64 }
+    ensures pending { OnOk result (Pending code.now engine.new «record» place (Some t.1) t.0) }
+    ensures room { OnOk result (HasRoomToFinish code.now engine.new base) }
+    ensures events { OnOk result (engine.new.events.items ≡ engine.old.events.items) }
+    ensures picks { OnOk result (engine.new.picks.items ≡ engine.old.picks.items) }
+    ensures err { OnErr result (GoesOn engine.old engine.new engine.old.mode engine.old.cells.items) }
 {
-    finalize_part(engine, code, finalization, doubles);
+    let size = size_of(code, record);
+    reserve(&mut engine.saved, size)?;
+    engine.prepare_finalization(code, base)?;
+    save_value(engine, size, value);
+    engine.control.push_reserved(Frame::Assigning {
+        record,
+        value: Value::Saved,
+        place,
+    });
+    Ok(())
 }
 
-/// Finalizes the target of an assignment, as `finalize_part` does: its operations are called among the masters that the statement sees, which
-/// the newest one is (RM 7.6).
+/// Finalizes the controlled target of an assignment, as `finalize_part` does: its operations are called among the masters that the statement
+/// sees, which the newest one is (RM 7.6).
 #[inline(always)]
 fn finalize_assigned(engine: &mut Engine, code: &Code, finalization: Finalization, doubles: Doubles)
     ghost t: { Finished }
@@ -151,13 +158,10 @@ fn finalize_assigned(engine: &mut Engine, code: &Code, finalization: Finalizatio
     requires base { BeginsOver finalization.base t }
     requires room { HasRoomToFinish code.now engine.old finalization.base }
     requires doubles { AreDoubles doubles t.spot }
+    requires controlled { Table.parts_of code.now finalization.record_type ≡ PartsOf.Controlled }
     requires assigning { is_assigning (reverse engine.old.control.items) ≡ true }
     ensures { Makes code.now engine.old engine.new (Table.finalize_part code.now (Table.parts_of code.now finalization.record_type) finalization.cause t.spot finalization.record_type t.control t.world) }
 {
-    let Parts::Controlled = parts_of(code, finalization.record_type) else {
-        finalize_by_components(engine, code, finalization, doubles);
-        return;
-    };
     if !engine.stock.exists(doubles.spot.object()) {
         engine.mode = Mode::Stopped(Stop::UseAfterFree);
         return;

@@ -1,5 +1,4 @@
-use Rattle.ctl_lifetimes.proofs.AfterFinalize.{finished_in}
 use Rattle.ctl_lifetimes.proofs.adjusting.resume_adjusting_own.Given as goal
 
-abbrev pub ghost-adjusted : goal.ghost-adjusted
-ghost-adjusted g a = finished_in g.s.control g.s.world
+abbrev pub ghost-come_to_life_adjusted : goal.ghost-come_to_life_adjusted
+ghost-come_to_life_adjusted g a = g.s

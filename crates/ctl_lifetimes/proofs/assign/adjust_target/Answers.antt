@@ -1,21 +1,13 @@
-use Rattle.std.proofs.Common.{None, ◌∙◌, ap, sym}
-use Rattle.ctl_engine.specs.Assigning.{is_assigning}
+use Rattle.std.proofs.Common.{None, ◌∙◌, sym}
 use Rattle.ctl_lifetimes.proofs.Assignments.{at_makes}
 use Rattle.ctl_lifetimes.proofs.Targets.{finishes_over, target_plain}
 use Rattle.ctl_lifetimes.proofs.assign.adjust_target.Goals as goal
 
-pub adjust_by_components-requires : goal.adjust_by_components-requires
-adjust_by_components-requires g c =
+pub adjust_part-requires : goal.adjust_part-requires
+adjust_part-requires g c =
     let x = c.args.assignment in
     let a = c.requires.1.0 in
     (c.requires.0, (finishes_over c.args.code.now c.args.engine.now x.record_type x.place None g.t a.pending, (a.base, (c.requires.1.1.0, (c.requires.1.1.1, (tt, tt))))))
-
-pub adjust_assigned-requires : goal.adjust_assigned-requires
-adjust_assigned-requires g c =
-    let x = c.args.assignment in
-    let a = c.requires.1.0 in
-    let controlled = sym c.parts_of.ensures ∙ c.in-Controlled.is in
-    (c.requires.0, (finishes_over c.args.code.now c.args.engine.now x.record_type x.place None g.t a.pending, (a.base, (c.requires.1.1.0, (c.requires.1.1.1, (tt, (tt, (controlled, ((a.object, a.found), ap is_assigning a.pending.top)))))))))
 
 pub returns-in-Plain : goal.returns-in-Plain
 returns-in-Plain g c =

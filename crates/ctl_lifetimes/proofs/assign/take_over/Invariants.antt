@@ -1,5 +1,8 @@
-use Rattle.ctl_engine.specs.Assigning.{with_value}
+use Rattle.std.specs.Prelude.{Some}
 use Rattle.ctl_lifetimes.proofs.assign.take_over.Given as goal
 
-abbrev pub ghost-adjust_target : goal.ghost-adjust_target
-ghost-adjust_target g a = with_value g.t.1 g.t.0
+abbrev pub ghost-end_assignment : goal.ghost-end_assignment
+ghost-end_assignment g a = (g.t.0, Some g.t.1)
+
+abbrev pub ghost-take_there : goal.ghost-take_there
+ghost-take_there g a = g.t

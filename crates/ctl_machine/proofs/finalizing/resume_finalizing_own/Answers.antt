@@ -1,30 +1,24 @@
-use Rattle.std.proofs.Common.{refl}
-use Rattle.ctl_lifetimes.proofs.AfterFinalize.{after_assigning, after_fine, after_raised, own_drops}
+use Rattle.std.proofs.Common.{◌≡◌, arith, false, length, refl}
+use Rattle.ctl_code.specs.Table.{controlled_of}
+use Rattle.ctl_engine.specs.declared.engine.Engine.{Engine}
+use Rattle.ctl_frames.specs.declared.frame.Ended.TheVariants.{Complete}
+use Rattle.ctl_frames.specs.declared.frame.Mode.TheVariants.{Giving}
+use Rattle.ctl_lifetimes.proofs.AfterFinalize.{after_fine, finished_in, own_drops}
+use Rattle.ctl_lifetimes.proofs.Finishing.{no_components}
 use Rattle.ctl_machine.proofs.finalizing.resume_finalizing_own.Goals as goal
 
-pub finalize_components-requires : goal.finalize_components-requires
-finalize_components-requires g c =
-    let d = c.drop_frame-spot in
-    let x = own_drops c.args.code.now c.args.engine.now d.new.self g.s c.args.cause c.args.record c.requires.1.0 d.result c.requires.0 c.requires.1.1 d.ensures in
-    (x.0, (d.ensures.room, x.1))
-
-pub finalize_components-requires-in_default : goal.finalize_components-requires-in_default
-finalize_components-requires-in_default g c =
-    let d = c.drop_frame-spot in
-    let x = own_drops c.args.code.now c.args.engine.now d.new.self g.s c.args.cause c.args.record c.requires.1.0 d.result c.requires.0 c.requires.1.1 d.ensures in
-    (x.0, (d.ensures.room, x.1))
-
-pub returns-in-Assign : goal.returns-in-Assign
-returns-in-Assign g c =
-    let d = c.drop_frame-spot in
-    after_assigning c.args.code.now c.args.engine.now d.new.self _ c.args.ended c.in-Raised.field-0 1 c.args.cause c.args.record g.s c.requires.1.0 d.result c.requires.0 c.requires.1.1 c.in-Raised.is c.in-Assign.is d.ensures refl refl refl refl refl
-
-pub returns-in_default-cause : goal.returns-in_default-cause
-returns-in_default-cause g c =
-    let d = c.drop_frame-spot in
-    after_raised c.args.code.now c.args.engine.now d.new.self c.finalize_components.new.engine c.args.ended c.in-Raised.field-0 c.args.cause c.args.record g.s c.requires.1.0 d.result c.requires.0 c.requires.1.1 c.in-Raised.is c.in_default-cause.not-Assign d.ensures c.finalize_components.ensures
-
-pub returns-in_default : goal.returns-in_default
-returns-in_default g c =
-    let d = c.drop_frame-spot in
-    after_fine c.args.code.now c.args.engine.now d.new.self c.finalize_components-in_default.new.engine c.args.ended c.args.cause c.args.record g.s c.requires.1.0 d.result c.requires.0 c.requires.1.1 c.in_default.not-Raised d.ensures c.finalize_components-in_default.ensures
+pub returns : goal.returns
+returns g c =
+    let code = c.args.code.now in
+    let old = c.args.engine.now in
+    let cause = c.args.cause in
+    let top = c.requires.1 in
+    let d = c.drop_frame in
+    let mid = d.new.self in
+    let drops = own_drops code old mid g.s cause c.args.record top.0 d.result c.requires.0 top.1 d.ensures in
+    let new : Engine = record mid { mode = Giving Complete } in
+    let count = c.count_controlled.ensures.count in
+    let few = c.if-count_controlled-gt0.false in
+    let none : length (controlled_of code c.args.record) ≡ 0 = omega (arith, count, few) in
+    let made = no_components code mid new (finished_in g.s.control g.s.world) cause (controlled_of code c.args.record) false Complete drops.0 none refl refl refl refl refl in
+    after_fine code old mid new c.args.ended cause c.args.record g.s top.0 d.result c.requires.0 top.1 c.in_default.not-Raised d.ensures made

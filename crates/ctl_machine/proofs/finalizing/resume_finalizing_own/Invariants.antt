@@ -1,5 +1,4 @@
-use Rattle.ctl_lifetimes.proofs.AfterFinalize.{finished_in}
 use Rattle.ctl_machine.proofs.finalizing.resume_finalizing_own.Given as goal
 
-abbrev pub ghost-finalize_components : goal.ghost-finalize_components
-ghost-finalize_components g a = finished_in g.s.control g.s.world
+abbrev pub ghost-finalize_behind : goal.ghost-finalize_behind
+ghost-finalize_behind g a = g.s

@@ -1,9 +1,8 @@
-use Rattle.std.proofs.Common.{◌≡◌, ◌∙◌, [], ap, refl, reverse, subst, sym}
+use Rattle.std.proofs.Common.{◌∙◌, [], ap, refl, reverse, subst, sym}
 use Rattle.ctl_meaning.specs.Finalization.{Spot}
 use Rattle.ctl_meaning.specs.Objects.{object_in}
 use Rattle.ctl_code.specs.declared.code.Parts.{Parts}
-use Rattle.ctl_code.specs.declared.code.Parts.TheVariants.{Controlled}
-use Rattle.ctl_code.specs.Table.{finalize_part, operation_of, parts_of}
+use Rattle.ctl_code.specs.Table.{finalize_part, operation_of}
 use Rattle.ctl_frames.specs.Owned.{home_among, sets_owned}
 use Rattle.ctl_engine.specs.Moves.{Makes}
 use Rattle.ctl_engine.specs.Shows.{kept}
@@ -22,7 +21,7 @@ finalize_among-requires g c =
     let here = some_there (object_in c.object.result old.stock.objects) (sym c.exists.ensures ∙ c.if-not-exists.false) in
     let found = ap (λ n. object_in n old.stock.objects) (sym (c.object.ensures ∙ ap (λ (s : Spot). s.object) doubles.spot)) ∙ here.1 in
     let master = home_among (sets_owned old.owned.items) here.0.origin in
-    (c.requires.0, (c.requires.1.0, (c.requires.1.1.0, (c.requires.1.1.1.0, (doubles, (master, here.0, record { found = found; home = refl }, newest_calls (reverse old.control.items) old.masters.items master c.count_masters-caller.result c.requires.1.1.1.1.1 c.count_masters-caller.ensures.count))))))
+    (c.requires.0, (c.requires.1.0, (c.requires.1.1.0, (c.requires.1.1.1.0, (doubles, (master, here.0, record { found = found; home = refl }, newest_calls (reverse old.control.items) old.masters.items master c.count_masters-caller.result c.requires.1.1.1.1.1.1 c.count_masters-caller.ensures.count))))))
 
 pub returns-then-not-exists : goal.returns-then-not-exists
 returns-then-not-exists g c =
@@ -31,7 +30,7 @@ returns-then-not-exists g c =
     let t = g.t in
     let x = c.args.finalization in
     let b = c.requires.1.0 in
-    let controlled : parts_of code x.record_type ≡ Controlled = sym c.parts_of.ensures ∙ c.in-Controlled.is in
+    let controlled = c.requires.1.1.1.1.1.0 in
     let none = ap (λ n. object_in n old.stock.objects) (sym (c.object.ensures ∙ ap (λ (s : Spot). s.object) c.requires.1.1.1.1.0.spot)) ∙ none_there (object_in c.object.result old.stock.objects) (sym c.exists.ensures ∙ c.if-not-exists.true) in
     let new = moded old (Stopped UseAfterFree) in
     subst (λ (p : Parts). Makes code old new (finalize_part code p x.cause t.spot x.record_type t.control t.world)) (sym controlled)
@@ -43,5 +42,4 @@ returns g c =
     let code = c.args.code.now in
     let x = c.args.finalization in
     let t = g.t in
-    let controlled : parts_of code x.record_type ≡ Controlled = sym c.parts_of.ensures ∙ c.in-Controlled.is in
-    subst (λ (p : Parts). Makes code c.args.engine.now c.finalize_among.new.engine (finalize_part code p x.cause t.spot x.record_type t.control t.world)) (sym controlled) c.finalize_among.ensures
+    subst (λ (p : Parts). Makes code c.args.engine.now c.finalize_among.new.engine (finalize_part code p x.cause t.spot x.record_type t.control t.world)) (sym c.requires.1.1.1.1.1.0) c.finalize_among.ensures

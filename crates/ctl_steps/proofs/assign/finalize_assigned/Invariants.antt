@@ -1,7 +1,4 @@
 use Rattle.ctl_steps.proofs.assign.finalize_assigned.Given as goal
 
-abbrev pub ghost-finalize_by_components : goal.ghost-finalize_by_components
-ghost-finalize_by_components g a = g.t
-
 abbrev pub ghost-finalize_among : goal.ghost-finalize_among
 ghost-finalize_among g a = g.t

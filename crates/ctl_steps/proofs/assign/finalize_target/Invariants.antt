@@ -1,7 +1,7 @@
 use Rattle.ctl_steps.proofs.assign.finalize_target.Given as goal
 
-abbrev pub ghost-finalize_doubled : goal.ghost-finalize_doubled
-ghost-finalize_doubled g a = g.t
+abbrev pub ghost-finalize_controlled : goal.ghost-finalize_controlled
+ghost-finalize_controlled g a = g.t
 
-abbrev pub ghost-finalize_component : goal.ghost-finalize_component
-ghost-finalize_component g a = g.t
+abbrev pub ghost-finalize_any : goal.ghost-finalize_any
+ghost-finalize_any g a = g.t
