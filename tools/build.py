@@ -31,6 +31,8 @@ CHECK_MEMORY = 4 * 1024**3
 MOST_JOBS = 8
 # How many lines of code take as long to prove as it takes to read what stands below a crate.
 READING = 200
+# A chain of crates is late that takes so many times as long as all that is left would, over all processors.
+LATE = 1.5
 
 
 class Crate:
@@ -117,13 +119,20 @@ class Schedule:
         self.left = sorted(crates, key=lambda it: -self.behind[it])
         self.under_way, self.proved = {}, set()
 
+    def is_late(self, crate):
+        """Tells whether processors would idle behind a crate: its chain takes longer than all that is left, over all of them."""
+        left = sum(it.work() for it in [*self.left, *self.under_way])
+        return self.behind[crate] * self.processors > LATE * left
+
     def begin(self):
-        """Takes out the crate that is begun next, and gives it with its share of the idle processors; None where none can be begun."""
+        """Takes out the crate that is begun next, and gives it with its share of the idle processors, two at least where it is late; None
+        where none can be begun."""
         ready = [it for it in self.left if self.proved.issuperset(it.named)]
         idle = self.processors - sum(self.under_way.values())
-        if not ready or not idle:
+        if not ready or idle <= 0:
             return None
-        crate, share = ready[0], min(max(idle // len(ready), 1), MOST_JOBS)
+        crate = ready[0]
+        share = min(max(idle // len(ready), 1 + self.is_late(crate)), MOST_JOBS)
         self.left.remove(crate)
         self.under_way[crate] = share
         return crate, share

@@ -1,1 +1,3 @@
 pub mod Headline
+pub mod Refusals
+pub mod Shown

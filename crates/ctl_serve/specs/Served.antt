@@ -3,7 +3,7 @@ use Rattle.std.specs.Prelude.{◌≡◌, ◌≤◌, ◌<◌, ◌⊎◌, ℕ, Boo
 use Rattle.std.specs.Io.KnownBytes.{Appends, Consumes, IsAtEnd, Keeps}
 use Rattle.ctl_job.specs.declared.job.Job.{Job}
 use Rattle.ctl_job.specs.declared.job.Job.TheVariants.{Check, Run}
-use Rattle.ctl_output.specs.Shown.{shown_by}
+use Rattle.ctl_run.specs.Shown.{shown_by}
 use Rattle.ctl_serve.specs.Statuses.{end_status, exit_code, fault_status}
 use Rattle.ctl_serve.specs.declared.status.Status.{Status}
 use Rattle.ctl_serve.specs.declared.status.Status.TheVariants.{Done, Raised, Refused, Stopped, StepLimit, HostMemory, Usage, InputOutput}

@@ -11,7 +11,7 @@ use crate::report::{say, say_run};
 use crate::source::{ReadFault, Reading, read_source};
 use crate::status::{Status, status_of_end, status_of_fault, status_of_usage};
 use ctl_job::{Job, UsageFault};
-use ctl_output::{RunFault, run_into};
+use ctl_run::{RunFault, run_into};
 use ctl_sink::{PutFault, Sink, put_all};
 use ctl_tree::fault::Fault;
 use ctl_tree::request::{Order, Show};

@@ -7,5 +7,5 @@ mod source;
 pub mod status;
 
 pub use command::{READ_LIMIT, refuse_file, refuse_words, serve, serve_into};
-pub use ctl_output::{RunFault, Summary, put_run, run_into};
+pub use ctl_run::{RunFault, Summary, put_run, run_into};
 pub use source::Reading;

@@ -1,6 +1,6 @@
 //! The lines on standard error. A fault in writing one is passed over.
 
-use ctl_output::Summary;
+use ctl_run::Summary;
 use ctl_tree::ending::End;
 use ctl_tree::request::Show;
 use std::fmt;

@@ -1,4 +1,4 @@
-//! Tests of `ctl_serve` and `ctl_output` through their public calls.
+//! Tests of `ctl_serve` and `ctl_run` through their public calls.
 #![tactic(auto)]
 
 #[cfg(test)]

@@ -1,4 +1,0 @@
-pub mod BrokenOff
-pub mod Going
-pub mod Printed
-pub mod Refused
