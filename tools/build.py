@@ -25,14 +25,18 @@ LIBRARIES = OUT / "rlib"
 TARGET = "x86_64-unknown-linux-gnu"
 # What a check of a crate reads in its folder.
 PARTS = ("src", "specs", "proofs")
+# Where a machine says which memory it gives in large pages.
+PAGES = pathlib.Path("/sys/kernel/mm/transparent_hugepage/enabled")
 # How much memory a check takes at most, in bytes.
 CHECK_MEMORY = 4 * 1024**3
 # With how many processors a check is still faster than with fewer.
 MOST_JOBS = 8
 # How many lines of code take as long to prove as it takes to read what stands below a crate.
-READING = 200
+READING = 300
 # A chain of crates is late that takes so many times as long as all that is left would, over all processors.
-LATE = 1.5
+LATE = 1.6
+# How many processors a late crate has at least, though others have them too.
+LATE_JOBS = 3
 
 
 class Crate:
@@ -125,14 +129,16 @@ class Schedule:
         return self.behind[crate] * self.processors > LATE * left
 
     def begin(self):
-        """Takes out the crate that is begun next, and gives it with its share of the idle processors, two at least where it is late; None
-        where none can be begun."""
+        """Takes out the crate that is begun next, and gives it with its share of the processors: of the idle ones, and where it is late of all;
+        None where none can be begun."""
         ready = [it for it in self.left if self.proved.issuperset(it.named)]
-        idle = self.processors - sum(self.under_way.values())
-        if not ready or idle <= 0:
+        if not ready or len(self.under_way) == self.processors:
             return None
-        crate = ready[0]
-        share = min(max(idle // len(ready), 1 + self.is_late(crate)), MOST_JOBS)
+        crate, idle = ready[0], max(self.processors - sum(self.under_way.values()), 0)
+        least = min(LATE_JOBS, self.processors) if self.is_late(crate) else min(idle, 1)
+        if not least:
+            return None
+        share = min(max(idle // len(ready), least), MOST_JOBS)
         self.left.remove(crate)
         self.under_way[crate] = share
         return crate, share
@@ -206,6 +212,22 @@ def log_of_build():
         yield log
 
 
+@contextlib.contextmanager
+def large_pages():
+    """Asks for large pages for its time, with which provers take a tenth less, and sets back what was set before. It is a setting of the whole
+    machine: who may not ask for it does without."""
+    try:
+        before = PAGES.read_text(encoding="ascii").partition("[")[2].partition("]")[0]
+        PAGES.write_text("always", encoding="ascii")
+    except OSError:
+        yield
+        return
+    try:
+        yield
+    finally:
+        PAGES.write_text(before, encoding="ascii")
+
+
 def free_memory():
     """Gives the free memory, in bytes."""
     with open("/proc/meminfo", encoding="ascii") as file:
@@ -218,7 +240,7 @@ def main():
     kit, crates = Kit(), read_crates()
     *libraries, program = crates
     processors = max(1, min(len(os.sched_getaffinity(0)), free_memory() // CHECK_MEMORY))
-    with log_of_build() as log:
+    with log_of_build() as log, large_pages():
         print(f"adactl: proving the {len(libraries)} libraries of the program, and then building it: half an hour to an hour on a new machine"
               " with four processors", flush=True)
         is_well = prove_all(Schedule(libraries, processors), kit, log)
