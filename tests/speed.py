@@ -1,11 +1,12 @@
 #!/usr/bin/env python3
 """How fast a built adactl runs the loops of `speed/`, beside Lua and CPython where these are found.
 
-    speed.py PATH_OF_ADACTL [--turns N] [--only WORD]
+    speed.py PATH_OF_ADACTL [--turns N] [--rounds N] [--only WORD]
 
 Each program has `TURNS` where the number of turns of its loop stands, and does the same in Ada, Lua and Python. One line for each
 program and runner: machine instructions a turn, as valgrind counts them (the difference of two runs, and so nothing of what a run
-costs once; `-` where valgrind is not found), and seconds for N turns, the best of five runs that take turns with the others'."""
+costs once; `-` where valgrind is not found), and seconds for N turns, the best of five rounds or as many as are asked for, in each of
+which the runners take turns."""
 import argparse
 import os
 import re
@@ -18,8 +19,6 @@ FOLDER = os.path.join(os.path.dirname(os.path.abspath(__file__)), "speed")
 
 # how many turns the two counted runs have
 COUNTED = 20_000, 60_000
-
-ROUNDS = 5
 
 STEPS = str(2**63)
 
@@ -67,11 +66,11 @@ def seconds(words):
     return time.perf_counter() - start
 
 
-def measure(program, all_runners, turns, folder):
+def measure(program, all_runners, turns, rounds, folder):
     """Prints a line for each runner."""
     words = [before + [written(program, ending, turns, folder)] + behind for _, ending, before, behind in all_runners]
-    rounds = [[seconds(run) for run in words] for _ in range(ROUNDS)]
-    for runner, times in zip(all_runners, zip(*rounds)):
+    taken = [[seconds(run) for run in words] for _ in range(rounds)]
+    for runner, times in zip(all_runners, zip(*taken)):
         count = instructions_a_turn(program, runner, folder)
         shown = "-" if count is None else f"{count:.0f}"
         print(f"{program:18} {runner[0]:8} {shown:>6} instructions a turn {min(times):8.3f} s", flush=True)
@@ -81,13 +80,14 @@ def main():
     parser = argparse.ArgumentParser(description=__doc__, formatter_class=argparse.RawDescriptionHelpFormatter)
     parser.add_argument("adactl")
     parser.add_argument("--turns", type=int, default=1_000_000)
+    parser.add_argument("--rounds", type=int, default=5)
     parser.add_argument("--only", default="")
     words = parser.parse_args()
     programs = sorted(file.removesuffix(".adb") for file in os.listdir(FOLDER) if file.endswith(".adb"))
     with tempfile.TemporaryDirectory() as folder:
         for program in programs:
             if words.only in program:
-                measure(program, runners(words.adactl), words.turns, folder)
+                measure(program, runners(words.adactl), words.turns, words.rounds, folder)
 
 
 if __name__ == "__main__":

@@ -241,7 +241,7 @@ def main():
     *libraries, program = crates
     processors = max(1, min(len(os.sched_getaffinity(0)), free_memory() // CHECK_MEMORY))
     with log_of_build() as log, large_pages():
-        print(f"adactl: proving the {len(libraries)} libraries of the program, and then building it: half an hour to an hour on a new machine"
+        print(f"adactl: proving the {len(libraries)} libraries of the program, and then building it: twenty minutes to an hour on a new machine"
               " with four processors", flush=True)
         is_well = prove_all(Schedule(libraries, processors), kit, log)
         if is_well:
