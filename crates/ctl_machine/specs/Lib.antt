@@ -1,2 +1,2 @@
 pub mod Machine
-pub mod Successors
+pub mod NextAdjusts

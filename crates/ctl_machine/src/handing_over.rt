@@ -11,7 +11,7 @@ ghost use Rattle.ctl_code.specs.Valid.{IsValid};
 ghost use Rattle.ctl_frames.specs.declared.frame.Mode.TheVariants as ModeOf;
 ghost use Rattle.ctl_engine.specs.Shows.{Shows};
 ghost use Rattle.ctl_engine.specs.Windows.{moded};
-ghost use Rattle.ctl_machine.specs.Successors.{EndsFinalize, IsCalled, IsOnePart, Succeeds, awaiting_adjust, succeeded};
+ghost use Rattle.ctl_machine.specs.NextAdjusts.{ComesNext, EndsFinalize, IsCalled, IsOnePart, awaiting_adjust, with_next_body};
 
 use ctl_code::code::{Code, Entry};
 use ctl_engine::engine::{Engine, clear};
@@ -27,7 +27,7 @@ use ctl_tree::text::Path;
 /// An Adjust that can be called in the place of the Finalize whose statements end: the record type of the target, the body, the object of the
 /// target, and how many masters the caller sees.
 #[derive(Clone, Copy)]
-pub(crate) struct Successor {
+pub(crate) struct NextAdjust {
     pub record_type: usize,
     pub entry: Entry,
     pub object: u64,
@@ -95,7 +95,8 @@ fn is_one_start(part: &Spot, other: &Spot) -> bool
         && other.has_no_path()
 }
 
-/// Answers the object of the newest part, if no way leads to the part, the part before it is the same, and the newest formal stands for it.
+/// Answers the object of the newest part, if no way leads to the part, and the part before it is the same, and so is what the newest formal
+/// stands for, which has the first slot.
 #[inline(always)]
 fn object_of_target(engine: &Engine) -> Option<u64>
     ensures { IfSome result (λ object. IsOnePart engine.now object) }
@@ -121,9 +122,9 @@ fn object_of_target(engine: &Engine) -> Option<u64>
 /// once, if nothing else is adjusted and there is room (RM 7.6).
 // Whatever else stands there goes the longer way.
 #[inline(always)]
-pub(crate) fn successor_of(engine: &Engine, code: &Code) -> Option<Successor>
+pub(crate) fn next_adjust(engine: &Engine, code: &Code) -> Option<NextAdjust>
     requires { IsValid code.now }
-    ensures { IfSome result (λ next. Succeeds code.now engine.now next) }
+    ensures { IfSome result (λ next. ComesNext code.now engine.now next) }
 {
     let record_type = record_finalized(engine)?;
     if !is_adjusted_alone(code, record_type) {
@@ -138,7 +139,7 @@ pub(crate) fn successor_of(engine: &Engine, code: &Code) -> Option<Successor>
     if !engine.stock.exists(object) || engine.events.len() == engine.events.capacity() {
         return None;
     }
-    Some(Successor {
+    Some(NextAdjust {
         record_type,
         entry,
         object,
@@ -171,12 +172,19 @@ fn wait_for_adjust(control: &mut Vec<Frame>, record: usize)
     }
 }
 
-/// Makes the newest master, at this place, that of the body of an Adjust, of this number; there are so many formals with its own.
+/// Puts the master of an Adjust's body in the place of the newest one, which is at this place: it has this number, and there are so many
+/// formals with its own.
 #[inline(always)]
-fn succeed(masters: &mut Vec<Master>, newest: usize, number: u64, next: Successor, formals: usize)
+fn replace_body(
+    masters: &mut Vec<Master>,
+    newest: usize,
+    number: u64,
+    next: NextAdjust,
+    formals: usize,
+)
     requires newest { length masters.old.items ≡ newest + 1 }
     requires depth { next.depth ≤ newest }
-    ensures { reverse masters.new.items ≡ succeeded number next formals (reverse masters.old.items) }
+    ensures { reverse masters.new.items ≡ with_next_body number next formals (reverse masters.old.items) }
 {
     let master = &mut masters[newest];
     master.number = number;
@@ -194,7 +202,7 @@ pub(crate) fn hand_over(
     code: &Code,
     order: Order,
     place: usize,
-    next: Successor,
+    next: NextAdjust,
 )
     ghost s: { State }
     requires valid { IsValid code.now }
@@ -203,7 +211,7 @@ pub(crate) fn hand_over(
     requires shows { Shows code.now (moded engine.old (ModeOf.At place)) s }
     requires fits { Fits code.now s }
     requires number { engine.old.given_masters + 1 < 2 ^ 64 }
-    requires next { Succeeds code.now engine.old next }
+    requires next { ComesNext code.now engine.old next }
     ensures { Shows code.now engine.new (Steps.steps (answer order) code.now 3 s) }
 {
     let _ = order;
@@ -213,7 +221,7 @@ pub(crate) fn hand_over(
     let formals = engine.count_formals();
     wait_for_adjust(&mut engine.control, next.record_type);
     engine.given_masters += 1;
-    succeed(
+    replace_body(
         &mut engine.masters,
         newest,
         engine.given_masters,

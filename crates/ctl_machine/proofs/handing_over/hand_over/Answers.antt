@@ -18,14 +18,14 @@ use Rattle.ctl_frames.proofs.Lists.{same_at}
 use Rattle.ctl_engine.proofs.Cleared.{length_cleared}
 use Rattle.ctl_engine.proofs.Entered.{take_front}
 use Rattle.ctl_engine.proofs.Leaves.{last_is}
-use Rattle.ctl_machine.specs.declared.handing_over.Successor.{Successor}
-use Rattle.ctl_machine.specs.Successors.{Succeeds, succeeded}
-use Rattle.ctl_machine.proofs.Succeeded.{Ends, depth_within, slots_within, succeeds, value_there}
+use Rattle.ctl_machine.specs.declared.handing_over.NextAdjust.{NextAdjust}
+use Rattle.ctl_machine.specs.NextAdjusts.{ComesNext, with_next_body}
+use Rattle.ctl_machine.proofs.InPlace.{Ends, depth_within, slots_within, called_in_place, value_there}
 use Rattle.ctl_machine.proofs.handing_over.hand_over.Goals as goal
 
 -- what is asked for
-ends : (code : Code) (e : Engine) (place : ℕ) (s : State) (x : Successor)
-    → IsValid code × (KeepsToItsCode code × ((slice_get code.instructions.items place ≡ Some Leave) × (Shows code (moded e (At place)) s × (Fits code s × ((e.given_masters + 1 < 2 ^ 64) × Succeeds code e x))))) → Ends code e place s
+ends : (code : Code) (e : Engine) (place : ℕ) (s : State) (x : NextAdjust)
+    → IsValid code × (KeepsToItsCode code × ((slice_get code.instructions.items place ≡ Some Leave) × (Shows code (moded e (At place)) s × (Fits code s × ((e.given_masters + 1 < 2 ^ 64) × ComesNext code e x))))) → Ends code e place s
 ends code e place s x r = record { valid = r.0; keeps = r.1.0; found = r.1.1.0; shows = r.1.1.1.0; fits = r.1.1.1.1.0; number = r.1.1.1.1.1.0 }
 
 -- the newest master, as it is read
@@ -39,8 +39,8 @@ newest_is items m body below count is many read =
 written : (len : ℕ) (old new : List ℕ) → len ≡ length old → length new ≡ length old → take len (new ++ drop (length new) old) ≡ new
 written len old new all same = ap (λ n. take n (new ++ drop (length new) old)) (all ∙ sym same) ∙ take_front new (drop (length new) old)
 
-pub succeed-requires-clause-depth : goal.succeed-requires-clause-depth
-succeed-requires-clause-depth g c =
+pub replace_body-requires-clause-depth : goal.replace_body-requires-clause-depth
+replace_body-requires-clause-depth g c =
     let depth = depth_within c.args.code.now c.args.engine.now c.args.place g.s c.args.next c.requires.1.1.1.1.1.1 (ends c.args.code.now c.args.engine.now c.args.place g.s c.args.next c.requires) in
     let count = c.count_masters-newest.ensures.count in
     omega (arith, depth, count)
@@ -66,10 +66,10 @@ returns g c =
     let e = c.args.engine.now in
     let same = newest_is e.masters.items c.index.result.now y.called.body (y.called.caller ∷ y.called.masters) c.count_masters-newest.result y.called.newest c.count_masters-newest.ensures.count c.index.ensures in
     let long : length c.clear.new.cells ≡ length e.cells.items = ap (λ (l : List ℕ). length l) c.clear.ensures ∙ (length_cleared c.index.result.now.base c.args.next.entry.slots c.deref_mut.result.now ∙ ap (λ (l : List ℕ). length l) c.deref_mut.ensures.value) in
-    succeeds c.args.order c.args.code.now e c.take_value.new.engine c.args.place c.size_of.result g.s c.args.next y (ends c.args.code.now c.args.engine.now c.args.place g.s c.args.next c.requires) c.size_of.ensures c.take_value.ensures.takes
+    called_in_place c.args.order c.args.code.now e c.take_value.new.engine c.args.place c.size_of.result g.s c.args.next y (ends c.args.code.now c.args.engine.now c.args.place g.s c.args.next c.requires) c.size_of.ensures c.take_value.ensures.takes
     (record {
       frames = c.wait_for_adjust.ensures.items;
-      newest = c.succeed.ensures ∙ ap (λ k. succeeded (e.given_masters + 1) c.args.next k (reverse e.masters.items)) c.count_formals-formals.ensures.count;
+      newest = c.replace_body.ensures ∙ ap (λ k. with_next_body (e.given_masters + 1) c.args.next k (reverse e.masters.items)) c.count_formals-formals.ensures.count;
       shown = c.push_reserved.ensures.items ∙ ap (λ (l : List ℕ). e.events.items ++ Adjust (record { object = c.args.next.object; path = l }) ∷ []) c.new.ensures;
       cleared = written e.cells.len e.cells.items c.clear.new.cells e.cells.ok.0 long ∙ (c.clear.ensures ∙ (ap (λ (m : Master). cleared m.base c.args.next.entry.slots c.deref_mut.result.now) same ∙ ap (λ (l : List ℕ). cleared y.called.body.base c.args.next.entry.slots l) c.deref_mut.ensures.value));
       others = refl;

@@ -9,7 +9,7 @@ use Rattle.ctl_frames.specs.declared.frame.Value.TheVariants.{Saved, Taken}
 use Rattle.ctl_engine.specs.Shows.{handling}
 use Rattle.ctl_frames.proofs.Links.{got}
 use Rattle.ctl_frames.proofs.Lists.{length_set, same_at}
-use Rattle.ctl_machine.specs.Successors.{EndsFinalize, awaiting_adjust}
+use Rattle.ctl_machine.specs.NextAdjusts.{EndsFinalize, awaiting_adjust}
 use Rattle.ctl_machine.proofs.Newest.{third_there, three_long, three_set}
 use Rattle.ctl_machine.proofs.handing_over.wait_for_adjust.Goals as goal
 

@@ -17,7 +17,7 @@ use Rattle.ctl_engine.specs.declared.engine.Engine.{Engine}
 use Rattle.ctl_engine.specs.Assigning.{IsAdjustOf}
 use Rattle.ctl_engine.specs.Shows.{handling}
 use Rattle.ctl_lifetimes.specs.Takings.{IsAdjustedAlone}
-use Rattle.ctl_machine.specs.declared.handing_over.Successor.{Successor}
+use Rattle.ctl_machine.specs.declared.handing_over.NextAdjust.{NextAdjust}
 
 -- of these frames the newest is the body of a Finalize, which is called for the target of an assignment to this record type
 pub record EndsFinalize (control : List Frame) (type : ℕ) : Type 0 where
@@ -53,7 +53,7 @@ pub record IsOnePart (e : Engine) (object : ℕ) : Type 0 where
 
 -- the Adjust can be called in the place of the Finalize: it is all that is adjusted, its body is declared inside the masters that its caller
 -- sees, and the target is there
-pub record Succeeds (code : Code) (e : Engine) (x : Successor) : Type 0 where
+pub record ComesNext (code : Code) (e : Engine) (x : NextAdjust) : Type 0 where
   pub ends : EndsFinalize e.control.items x.record_type
   pub called : IsCalled e x.depth
   pub target : IsOnePart e x.object
@@ -65,6 +65,6 @@ pub record Succeeds (code : Code) (e : Engine) (x : Successor) : Type 0 where
   pub events : vec_len e.events < vec_capacity e.events
 
 -- of these masters the newest has this number and is that of the Adjust's body, where there are so many formals with its own
-abbrev pub succeeded : ℕ → Successor → ℕ → List Master → List Master
-succeeded number x formals [] = []
-succeeded number x formals (m ∷ ms) = record m { number = number; slots = x.entry.slots; link = length ms; depth = x.depth + 1; formals = formals } ∷ ms
+abbrev pub with_next_body : ℕ → NextAdjust → ℕ → List Master → List Master
+with_next_body number x formals [] = []
+with_next_body number x formals (m ∷ ms) = record m { number = number; slots = x.entry.slots; link = length ms; depth = x.depth + 1; formals = formals } ∷ ms

@@ -5,16 +5,16 @@ use Rattle.ctl_frames.specs.declared.frame.Master.{Master}
 use Rattle.ctl_frames.proofs.Links.{got}
 use Rattle.ctl_engine.proofs.Leaves.{newest_item}
 use Rattle.ctl_engine.proofs.Tops.{top_replaced_at}
-use Rattle.ctl_machine.specs.declared.handing_over.Successor.{Successor}
-use Rattle.ctl_machine.specs.Successors.{succeeded}
-use Rattle.ctl_machine.proofs.handing_over.succeed.Goals as goal
+use Rattle.ctl_machine.specs.declared.handing_over.NextAdjust.{NextAdjust}
+use Rattle.ctl_machine.specs.NextAdjusts.{with_next_body}
+use Rattle.ctl_machine.proofs.handing_over.replace_body.Goals as goal
 
 -- the newest, at this place, and those below it
-succeeds_at : (number : ℕ) (x : Successor) (formals at : ℕ) (all below : List Master) (m : Master) → all ≡ m ∷ below → at ≡ length below
-    → record m { number = number; slots = x.entry.slots; link = at; depth = x.depth + 1; formals = formals } ∷ drop 1 all ≡ succeeded number x formals all
-succeeds_at number x formals at all below m is place =
+replaced_at : (number : ℕ) (x : NextAdjust) (formals at : ℕ) (all below : List Master) (m : Master) → all ≡ m ∷ below → at ≡ length below
+    → record m { number = number; slots = x.entry.slots; link = at; depth = x.depth + 1; formals = formals } ∷ drop 1 all ≡ with_next_body number x formals all
+replaced_at number x formals at all below m is place =
     ap (λ (l : List Master). record m { number = number; slots = x.entry.slots; link = at; depth = x.depth + 1; formals = formals } ∷ drop 1 l) is
-    ∙ (ap (λ k. record m { number = number; slots = x.entry.slots; link = k; depth = x.depth + 1; formals = formals } ∷ below) place ∙ sym (ap (λ (l : List Master). succeeded number x formals l) is))
+    ∙ (ap (λ k. record m { number = number; slots = x.entry.slots; link = k; depth = x.depth + 1; formals = formals } ∷ below) place ∙ sym (ap (λ (l : List Master). with_next_body number x formals l) is))
 
 pub returns : goal.returns
 returns c =
@@ -28,4 +28,4 @@ returns c =
     let all : length items ≡ length (m ∷ newest.0) = sym (length-reverse items) ∙ ap (λ (l : List Master). length l) newest.1 in
     let x = c.args.next in
     top_replaced_at items n (record m { number = c.args.number; slots = x.entry.slots; link = n; depth = x.depth + 1; formals = c.args.formals }) (omega (arith, long))
-    ∙ succeeds_at c.args.number x c.args.formals n (reverse items) newest.0 m newest.1 (omega (arith, long, all))
+    ∙ replaced_at c.args.number x c.args.formals n (reverse items) newest.0 m newest.1 (omega (arith, long, all))

@@ -57,8 +57,8 @@ use Rattle.ctl_lifetimes.proofs.NextWindow.{end_so}
 use Rattle.ctl_lifetimes.proofs.TakenOver.{pending_now}
 use Rattle.ctl_lifetimes.proofs.Targets.{finishes_over, target_over}
 use Rattle.ctl_allocations.proofs.GoingOn.{before_end}
-use Rattle.ctl_machine.specs.declared.handing_over.Successor.{Successor}
-use Rattle.ctl_machine.specs.Successors.{Succeeds, awaiting_adjust, succeeded}
+use Rattle.ctl_machine.specs.declared.handing_over.NextAdjust.{NextAdjust}
+use Rattle.ctl_machine.specs.NextAdjusts.{ComesNext, awaiting_adjust, with_next_body}
 use Rattle.ctl_machine.proofs.HandedOver.{IsBodyAlone, IsOwnAlone, IsTaking, adjust_called, adjusting, behind, called_behind, finalize_ended, handed_back, handed_on, mode_kept, shorter, taken, value_is_taken}
 
 -- The body that is left --------------------------------------------------------------------------------
@@ -85,7 +85,7 @@ body_there code (master_waits {after' = T.AfterFunction given p} g i w) a inside
 abbrev above : ℕ → ℕ → List Frame → List Frame
 above type at frames = FinalizingOwn CauseOf.Assign type ∷ Assigning type Saved at ∷ frames
 
-abbrev alone_in : (code : Code) (e : Engine) (x : Successor) (y : Succeeds code e x) → IsBodyAlone e (above x.record_type y.ends.place y.ends.frames) (y.called.caller ∷ y.called.masters)
+abbrev alone_in : (code : Code) (e : Engine) (x : NextAdjust) (y : ComesNext code e x) → IsBodyAlone e (above x.record_type y.ends.place y.ends.frames) (y.called.caller ∷ y.called.masters)
 alone_in code e x y = record {
   handling = y.ends.handling;
   frame = y.ends.frame;
@@ -95,7 +95,7 @@ alone_in code e x y = record {
   formals = let many = y.called.formals in omega (arith, many);
 }
 
-own_in : (code : Code) (e : Engine) (x : Successor) (y : Succeeds code e x)
+own_in : (code : Code) (e : Engine) (x : NextAdjust) (y : ComesNext code e x)
     → IsOwnAlone code (behind e (above x.record_type y.ends.place y.ends.frames) (y.called.caller ∷ y.called.masters) (alone_in code e x y)) CauseOf.Assign x.record_type (Assigning x.record_type Saved y.ends.place ∷ y.ends.frames) (y.target.spots ++ y.target.part ∷ [])
 unfolding behind shorter
 own_in code e x y = record {
@@ -107,7 +107,7 @@ own_in code e x y = record {
 }
 
 -- the engine whose Finalize has been handed on
-abbrev back : (code : Code) (e : Engine) (x : Successor) → Succeeds code e x → Engine
+abbrev back : (code : Code) (e : Engine) (x : NextAdjust) → ComesNext code e x → Engine
 back code e x y = handed_back code e x.record_type y.ends.place y.ends.frames (y.called.caller ∷ y.called.masters) (y.target.spots ++ y.target.part ∷ []) (alone_in code e x y) (own_in code e x y)
 
 -- where a body is left
@@ -119,24 +119,24 @@ pub record Ends (code : Code) (e : Engine) (place : ℕ) (s : State) : Type 0 wh
   pub fits : Fits code s
   pub number : e.given_masters + 1 < 2 ^ 64
 
-back_shows : (order : Order) (code : Code) (e : Engine) (place : ℕ) (s : State) (x : Successor) (y : Succeeds code e x) → Ends code e place s → Shows code (back code e x y) (steps (answer order) code 2 s)
+back_shows : (order : Order) (code : Code) (e : Engine) (place : ℕ) (s : State) (x : NextAdjust) (y : ComesNext code e x) → Ends code e place s → Shows code (back code e x y) (steps (answer order) code 2 s)
 back_shows order code e place s x y z = finalize_ended order code e place s x.record_type y.ends.place y.ends.frames (y.called.caller ∷ y.called.masters) (y.target.spots ++ y.target.part ∷ []) (alone_in code e x y) (own_in code e x y) z.valid z.keeps z.found z.shows z.fits
 
-back_mode : (code : Code) (e : Engine) (x : Successor) (y : Succeeds code e x) → (back code e x y).mode ≡ ModeOf.Giving Complete
+back_mode : (code : Code) (e : Engine) (x : NextAdjust) (y : ComesNext code e x) → (back code e x y).mode ≡ ModeOf.Giving Complete
 back_mode code e x y = mode_kept code (behind e (above x.record_type y.ends.place y.ends.frames) (y.called.caller ∷ y.called.masters) (alone_in code e x y)) CauseOf.Assign x.record_type (Assigning x.record_type Saved y.ends.place ∷ y.ends.frames) (y.target.spots ++ y.target.part ∷ []) (own_in code e x y)
 
 -- before the target takes its value
-back_resumes : (order : Order) (code : Code) (e : Engine) (place : ℕ) (s : State) (x : Successor) (y : Succeeds code e x) → Ends code e place s → BeforeResuming code (back code e x y) (steps (answer order) code 2 s)
+back_resumes : (order : Order) (code : Code) (e : Engine) (place : ℕ) (s : State) (x : NextAdjust) (y : ComesNext code e x) → Ends code e place s → BeforeResuming code (back code e x y) (steps (answer order) code 2 s)
 back_resumes order code e place s x y z =
     let ask = answer order in
     let fits = fits_next ask code 1 s z.keeps (fits_next ask code 0 s z.keeps z.fits) in
     (before_frame code (back code e x y) (steps ask code 2 s) Complete (back_shows order code e place s x y z) fits (back_mode code e x y)).0
 
-back_frame : (code : Code) (e : Engine) (x : Successor) (y : Succeeds code e x) → reverse (back code e x y).control.items ≡ Assigning x.record_type Saved y.ends.place ∷ y.ends.frames
+back_frame : (code : Code) (e : Engine) (x : NextAdjust) (y : ComesNext code e x) → reverse (back code e x y).control.items ≡ Assigning x.record_type Saved y.ends.place ∷ y.ends.frames
 unfolding handed_on shorter
 back_frame code e x y = reverse-reverse (Assigning x.record_type Saved y.ends.place ∷ y.ends.frames)
 
-back_spots : (code : Code) (e : Engine) (x : Successor) (y : Succeeds code e x) → (back code e x y).spots.items ≡ y.target.spots ++ y.target.part ∷ []
+back_spots : (code : Code) (e : Engine) (x : NextAdjust) (y : ComesNext code e x) → (back code e x y).spots.items ≡ y.target.spots ++ y.target.part ∷ []
 unfolding handed_on shorter
 back_spots code e x y = refl
 
@@ -152,13 +152,13 @@ abbrev target_then : Order → Code → State → Assigned
 target_then order code s = assigned_of (then order code s).control (then order code s).world
 
 -- that is the newest part
-target_is : (order : Order) (code : Code) (e : Engine) (place : ℕ) (s : State) (x : Successor) (y : Succeeds code e x) → Ends code e place s → (target_then order code s).spot ≡ y.target.part
+target_is : (order : Order) (code : Code) (e : Engine) (place : ℕ) (s : State) (x : NextAdjust) (y : ComesNext code e x) → Ends code e place s → (target_then order code s).spot ≡ y.target.part
 target_is order code e place s x y z =
     let there = spot_there code (back code e x y) (then order code s) x.record_type y.ends.place Saved y.ends.frames (back_resumes order code e place s x y z) (back_frame code e x y) in
     (same_front _ y.target.spots (target_then order code s).spot y.target.part (sym there ∙ back_spots code e x y)).1
 
 -- The body that is left, in the state where it is left
-body_is : (code : Code) (e : Engine) (place : ℕ) (s : State) (x : Successor) (y : Succeeds code e x) → Ends code e place s → IsBodyThere code y.called.body (y.called.caller ∷ y.called.masters) y.ends.place s.control
+body_is : (code : Code) (e : Engine) (place : ℕ) (s : State) (x : NextAdjust) (y : ComesNext code e x) → Ends code e place s → IsBodyThere code y.called.body (y.called.caller ∷ y.called.masters) y.ends.place s.control
 body_is code e place s x y z =
     let hs = heads_of s.world.activations in
     let b = before_end code e place s z.valid z.found z.shows z.fits in
@@ -167,12 +167,12 @@ body_is code e place s x y z =
     let masters = subst (λ (l : List Master). AreMasters l hs s.world.ledger.masters e.owned.items) y.called.newest b.holds.masters in
     body_there code those masters b.inside b.sized
 
-body_mark : (code : Code) (e : Engine) (place : ℕ) (s : State) (x : Successor) (y : Succeeds code e x) → Ends code e place s → y.called.body.spots ≡ length e.spots.items
+body_mark : (code : Code) (e : Engine) (place : ℕ) (s : State) (x : NextAdjust) (y : ComesNext code e x) → Ends code e place s → y.called.body.spots ≡ length e.spots.items
 body_mark code e place s x y z =
     let b = before_end code e place s z.valid z.found z.shows z.fits in
     (body_is code e place s x y z).mark ∙ sym (ap (λ (l : List Spot). length l) b.spots)
 
-body_room : (code : Code) (e : Engine) (place : ℕ) (s : State) (x : Successor) (y : Succeeds code e x) → Ends code e place s → y.called.body.base + code.room ≤ length e.cells.items
+body_room : (code : Code) (e : Engine) (place : ℕ) (s : State) (x : NextAdjust) (y : ComesNext code e x) → Ends code e place s → y.called.body.base + code.room ≤ length e.cells.items
 body_room code e place s x y z =
     let b = before_end code e place s z.valid z.found z.shows z.fits in
     let room = (subst (λ (l : List Master). HaveRoom code.room l (length e.cells.items)) y.called.newest b.holds.room).0 in
@@ -183,7 +183,7 @@ body_room code e place s x y z =
 depth_there : {m c : Master} {ms : List Master} {hs : List Head} {ks : List W.Master} {owned : List Owned} → AreMasters (m ∷ c ∷ ms) hs ks owned → c.depth ≤ length ms + 1
 depth_there (newest_master h o (newest_master caller its a)) = let shallow = caller.shallow in let many = as_many a in omega (arith, shallow, many)
 
-pub depth_within : (code : Code) (e : Engine) (place : ℕ) (s : State) (x : Successor) (y : Succeeds code e x) → Ends code e place s → x.depth < length e.masters.items
+pub depth_within : (code : Code) (e : Engine) (place : ℕ) (s : State) (x : NextAdjust) (y : ComesNext code e x) → Ends code e place s → x.depth < length e.masters.items
 depth_within code e place s x y z =
     let b = before_end code e place s z.valid z.found z.shows z.fits in
     let c = y.called in
@@ -195,7 +195,7 @@ depth_within code e place s x y z =
 -- Room -------------------------------------------------------------------------------------------------
 
 -- there is room for a body over fewer frames, by two at least
-back_room : (code : Code) (e : Engine) (place : ℕ) (s : State) (x : Successor) (y : Succeeds code e x) → Ends code e place s → HasRoomToFinish code (back code e x y) y.called.body.base
+back_room : (code : Code) (e : Engine) (place : ℕ) (s : State) (x : NextAdjust) (y : ComesNext code e x) → Ends code e place s → HasRoomToFinish code (back code e x y) y.called.body.base
 unfolding behind handed_on shorter
 back_room code e place s x y z =
     let c = y.called in
@@ -227,7 +227,7 @@ back_room code e place s x y z =
     }
 
 -- the slots of the body that is called have cells
-pub slots_within : (code : Code) (e : Engine) (place : ℕ) (s : State) (x : Successor) (y : Succeeds code e x) → Ends code e place s → y.called.body.base + x.entry.slots ≤ length e.cells.items
+pub slots_within : (code : Code) (e : Engine) (place : ℕ) (s : State) (x : NextAdjust) (y : ComesNext code e x) → Ends code e place s → y.called.body.base + x.entry.slots ≤ length e.cells.items
 slots_within code e place s x y z =
     let a = y.adjust in
     let fits : 0 + x.entry.slots ≤ code.room = z.valid.room x.entry.place (KindOf.Body x.entry.level x.entry.slots a.body ∷ []) (z.valid.entries a.body x.entry a.found) in
@@ -236,7 +236,7 @@ slots_within code e place s x y z =
 
 -- The target takes its value ---------------------------------------------------------------------------
 
-taking_now : (order : Order) (code : Code) (e : Engine) (place : ℕ) (s : State) (x : Successor) (y : Succeeds code e x) → Ends code e place s → IsTaking code (back code e x y) (then order code s) x.record_type y.ends.place y.called.body.base y.ends.frames
+taking_now : (order : Order) (code : Code) (e : Engine) (place : ℕ) (s : State) (x : NextAdjust) (y : ComesNext code e x) → Ends code e place s → IsTaking code (back code e x y) (then order code s) x.record_type y.ends.place y.called.body.base y.ends.frames
 unfolding behind handed_on shorter
 taking_now order code e place s x y z =
     let below = y.called.caller ∷ y.called.masters in
@@ -248,11 +248,11 @@ taking_now order code e place s x y z =
       room = back_room code e place s x y z;
     }
 
-pending_then : (order : Order) (code : Code) (e : Engine) (place : ℕ) (s : State) (x : Successor) (y : Succeeds code e x) → Ends code e place s → Pending code (back code e x y) x.record_type y.ends.place (Some (value_then order code s)) (target_then order code s)
+pending_then : (order : Order) (code : Code) (e : Engine) (place : ℕ) (s : State) (x : NextAdjust) (y : ComesNext code e x) → Ends code e place s → Pending code (back code e x y) x.record_type y.ends.place (Some (value_then order code s)) (target_then order code s)
 pending_then order code e place s x y z = pending_now code (back code e x y) (then order code s) x.record_type y.ends.place y.ends.frames (back_resumes order code e place s x y z) (taking_now order code e place s x y z).frame
 
 -- so many saved cells are there
-pub value_there : (order : Order) (code : Code) (e : Engine) (place : ℕ) (s : State) (x : Successor) (y : Succeeds code e x) → Ends code e place s → size_of code x.record_type ≤ length e.saved.items
+pub value_there : (order : Order) (code : Code) (e : Engine) (place : ℕ) (s : State) (x : NextAdjust) (y : ComesNext code e x) → Ends code e place s → size_of code x.record_type ≤ length e.saved.items
 unfolding behind handed_on shorter
 value_there order code e place s x y z =
     let saved = (pending_then order code e place s x y z).holds.saved in
@@ -262,7 +262,7 @@ value_there order code e place s x y z =
     omega (arith, all, both, whole)
 
 -- the engine whose target has taken its value
-abbrev took : (order : Order) (code : Code) (e : Engine) (place : ℕ) (s : State) (x : Successor) (y : Succeeds code e x) → Ends code e place s → Engine
+abbrev took : (order : Order) (code : Code) (e : Engine) (place : ℕ) (s : State) (x : NextAdjust) (y : ComesNext code e x) → Ends code e place s → Engine
 took order code e place s x y z = taken code (back code e x y) x.record_type y.ends.place y.ends.frames (value_then order code s) (target_then order code s)
     (pending_now code (back code e x y) (then order code s) x.record_type y.ends.place y.ends.frames (back_resumes order code e place s x y z) (taking_now order code e place s x y z).frame) (taking_now order code e place s x y z).frame
 
@@ -272,24 +272,24 @@ took order code e place s x y z = taken code (back code e x y) x.record_type y.e
 abbrev awaiting : ℕ → ℕ → List Frame → List Frame
 awaiting type at frames = AdjustingOwn None type false ∷ Assigning type Taken at ∷ frames
 
-fewer_waiting : (code : Code) (e : Engine) (x : Successor) (y : Succeeds code e x) → length (reverse (awaiting x.record_type y.ends.place y.ends.frames)) ≤ length e.control.items
+fewer_waiting : (code : Code) (e : Engine) (x : NextAdjust) (y : ComesNext code e x) → length (reverse (awaiting x.record_type y.ends.place y.ends.frames)) ≤ length e.control.items
 fewer_waiting code e x y =
     let control : length e.control.items ≡ length (InMaster y.ends.handling Body ∷ above x.record_type y.ends.place y.ends.frames) = sym (length-reverse e.control.items) ∙ ap (λ (l : List Frame). length l) y.ends.frame in
     let now = length-reverse (awaiting x.record_type y.ends.place y.ends.frames) in
     omega (arith, control, now)
 
-abbrev waiting_frames : (code : Code) (e : Engine) (x : Successor) (y : Succeeds code e x) → Vec Frame
+abbrev waiting_frames : (code : Code) (e : Engine) (x : NextAdjust) (y : ComesNext code e x) → Vec Frame
 waiting_frames code e x y = shorter e.control (reverse (awaiting x.record_type y.ends.place y.ends.frames)) (fewer_waiting code e x y)
 
 -- the engine over whose frames its body is entered
-abbrev waits_for_it : (order : Order) (code : Code) (e : Engine) (place : ℕ) (s : State) (x : Successor) (y : Succeeds code e x) → Ends code e place s → Engine
+abbrev waits_for_it : (order : Order) (code : Code) (e : Engine) (place : ℕ) (s : State) (x : NextAdjust) (y : ComesNext code e x) → Ends code e place s → Engine
 waits_for_it order code e place s x y z = adjusting (took order code e place s x y z) (waiting_frames code e x y) e.spots
 
 -- the master of its body
-abbrev its_master : (code : Code) (e : Engine) (x : Successor) (y : Succeeds code e x) → Master
+abbrev its_master : (code : Code) (e : Engine) (x : NextAdjust) (y : ComesNext code e x) → Master
 its_master code e x y = record y.called.body { number = e.given_masters + 1; slots = x.entry.slots; link = length (y.called.caller ∷ y.called.masters); depth = x.depth + 1; formals = length e.formals.items }
 
-call_room : (order : Order) (code : Code) (e : Engine) (place : ℕ) (s : State) (x : Successor) (y : Succeeds code e x) (z : Ends code e place s) → HasRoom code (waits_for_it order code e place s x y z) y.called.body.base
+call_room : (order : Order) (code : Code) (e : Engine) (place : ℕ) (s : State) (x : NextAdjust) (y : ComesNext code e x) (z : Ends code e place s) → HasRoom code (waits_for_it order code e place s x y z) y.called.body.base
 unfolding taken behind handed_on shorter
 call_room order code e place s x y z =
     let room = (back_room code e place s x y z).call in
@@ -299,7 +299,7 @@ call_room order code e place s x y z =
     record { masters = room.masters; control = omega (arith, control, now, waits.0, waits.1); events = room.events; formals = room.formals; cells = room.cells; number = room.number }
 
 -- its body sees what its caller sees
-is_call : (order : Order) (code : Code) (e : Engine) (place : ℕ) (s : State) (x : Successor) (y : Succeeds code e x) (z : Ends code e place s) (hs : List Head) → AreLinked (reverse (y.called.caller ∷ y.called.masters)) hs
+is_call : (order : Order) (code : Code) (e : Engine) (place : ℕ) (s : State) (x : NextAdjust) (y : ComesNext code e x) (z : Ends code e place s) (hs : List Head) → AreLinked (reverse (y.called.caller ∷ y.called.masters)) hs
     → IsCall (waits_for_it order code e place s x y z) (its_master code e x y) x.entry y.called.body.base (display_from (length (took order code e place s x y z).masters.items) hs) hs (first_formal (target_then order code s).spot ∷ [])
 unfolding taken behind handed_on shorter
 is_call order code e place s x y z hs linked =
@@ -335,9 +335,9 @@ is_call order code e place s x y z hs linked =
 -- What the machine writes ------------------------------------------------------------------------------
 
 -- in the engine before the target takes its value: the frames, masters, events and cells, and nothing else has changed
-pub record Writes (e new : Engine) (x : Successor) (base : ℕ) : Type 0 where
+pub record Writes (e new : Engine) (x : NextAdjust) (base : ℕ) : Type 0 where
   pub frames : reverse new.control.items ≡ awaiting_adjust (reverse e.control.items)
-  pub newest : reverse new.masters.items ≡ succeeded (e.given_masters + 1) x (length e.formals.items) (reverse e.masters.items)
+  pub newest : reverse new.masters.items ≡ with_next_body (e.given_masters + 1) x (length e.formals.items) (reverse e.masters.items)
   pub shown : new.events.items ≡ e.events.items ++ Adjust (record { object = x.object; path = [] }) ∷ []
   pub cleared : new.cells.items ≡ cleared base x.entry.slots e.cells.items
   pub others : kept new ≡ record (kept e) { control = reverse new.control.items; masters = reverse new.masters.items; cells = new.cells.items; next_master = e.given_masters + 1 + 1 }
@@ -347,7 +347,7 @@ pub record Writes (e new : Engine) (x : Successor) (base : ℕ) : Type 0 where
 abbrev kept_so : Engine → List Frame → List Master → List ℕ → List Formal → List Object → List ℕ → Kept
 kept_so e control masters cells formals objects saved = record (kept e) { control = control; masters = masters; cells = cells; formals = formals; objects = objects; saved = saved; next_master = e.given_masters + 1 + 1 }
 
-enters_it : (order : Order) (code : Code) (e f mid : Engine) (place size : ℕ) (s : State) (x : Successor) (y : Succeeds code e x) (z : Ends code e place s) → size ≡ size_of code x.record_type → Writes e f x y.called.body.base → TakesValue f mid size
+enters_it : (order : Order) (code : Code) (e f mid : Engine) (place size : ℕ) (s : State) (x : NextAdjust) (y : ComesNext code e x) (z : Ends code e place s) → size ≡ size_of code x.record_type → Writes e f x y.called.body.base → TakesValue f mid size
     → (let w = waits_for_it order code e place s x y z in let p = (target_then order code s).spot in let b = its_master code e x y in
     EntersIt w (record mid { mode = ModeOf.At x.entry.place }) (kept w) x.entry Body b (first_formal p ∷ []) (cleared b.base x.entry.slots (took order code e place s x y z).cells.items) (Adjust (part_at p) ∷ []))
 unfolding taken behind handed_on shorter
@@ -371,7 +371,7 @@ enters_it order code e f mid place size s x y z long writes takes =
     let frames : reverse f.control.items ≡ InMaster (handling 0) Body ∷ reverse (reverse (awaiting x.record_type y.ends.place y.ends.frames)) =
     writes.frames ∙ (ap (λ (l : List Frame). awaiting_adjust l) y.ends.frame ∙ ap (λ (l : List Frame). InMaster (handling 0) Body ∷ l) (sym (reverse-reverse (awaiting x.record_type y.ends.place y.ends.frames)))) in
     let newest : reverse f.masters.items ≡ b ∷ reverse (reverse below) =
-    writes.newest ∙ (ap (λ (l : List Master). succeeded (e.given_masters + 1) x (length e.formals.items) l) c.newest ∙ ap (λ (l : List Master). b ∷ l) (sym (reverse-reverse below))) in
+    writes.newest ∙ (ap (λ (l : List Master). with_next_body (e.given_masters + 1) x (length e.formals.items) l) c.newest ∙ ap (λ (l : List Master). b ∷ l) (sym (reverse-reverse below))) in
     let objects : change_in part.object (with_cells part.offset v) e.stock.objects ≡ change_in a.spot.object (with_cells a.spot.offset v) e.stock.objects =
     ap (λ (q : Spot). change_in q.object (with_cells q.offset v) e.stock.objects) (sym same) in
     let now = cleared c.body.base x.entry.slots e.cells.items in
@@ -390,10 +390,10 @@ enters_it order code e f mid place size s x y z long writes takes =
 
 -- All three steps --------------------------------------------------------------------------------------
 
-pub succeeds : (order : Order) (code : Code) (e : Engine) {f : Engine} (mid : Engine) (place size : ℕ) (s : State) (x : Successor) (y : Succeeds code e x) → Ends code e place s → size ≡ size_of code x.record_type → TakesValue f mid size → Writes e f x y.called.body.base
+pub called_in_place : (order : Order) (code : Code) (e : Engine) {f : Engine} (mid : Engine) (place size : ℕ) (s : State) (x : NextAdjust) (y : ComesNext code e x) → Ends code e place s → size ≡ size_of code x.record_type → TakesValue f mid size → Writes e f x y.called.body.base
     → Shows code (record mid { mode = ModeOf.At x.entry.place }) (steps (answer order) code 3 s)
 unfolding taken behind handed_on shorter
-succeeds order code e {f} mid place size s x y z long takes writes =
+called_in_place order code e {f} mid place size s x y z long takes writes =
     let new = record mid { mode = ModeOf.At x.entry.place } in
     let type = x.record_type in
     let at = y.ends.place in
