@@ -13,6 +13,7 @@ import fcntl
 import hashlib
 import os
 import pathlib
+import signal
 import subprocess
 import sys
 from concurrent.futures import FIRST_COMPLETED, ThreadPoolExecutor, wait
@@ -214,18 +215,29 @@ def log_of_build():
 
 @contextlib.contextmanager
 def large_pages():
-    """Asks for large pages for its time, with which provers take a tenth less, and sets back what was set before. It is a setting of the whole
-    machine: who may not ask for it does without."""
+    """Asks for large pages for its time, with which provers take a tenth less, and sets back what was set before, also where it is ended by
+    SIGTERM. It is a setting of the whole machine: who may not ask for it does without."""
     try:
         before = PAGES.read_text(encoding="ascii").partition("[")[2].partition("]")[0]
         PAGES.write_text("always", encoding="ascii")
     except OSError:
         yield
         return
+
+    def set_back():
+        PAGES.write_text(before, encoding="ascii")
+
+    def end(number, _frame):
+        set_back()
+        signal.signal(number, signal.SIG_DFL)
+        signal.raise_signal(number)
+
+    ended_by = signal.signal(signal.SIGTERM, end)
     try:
         yield
     finally:
-        PAGES.write_text(before, encoding="ascii")
+        signal.signal(signal.SIGTERM, ended_by)
+        set_back()
 
 
 def free_memory():
