@@ -36,7 +36,6 @@ use crate::made_at_once::type_begun;
 use ctl_code::code::{Code, Way};
 use ctl_engine::engine::Engine;
 use ctl_engine::holders::{find_set, held_set};
-use ctl_engine::layers::PROGRAM_ERROR;
 use ctl_frames::frame::{After, Ended, Frame, Master, Mode, Owned, Role};
 use ctl_frames::parts::has_part_in;
 use ctl_frames::spots::Spot;
@@ -45,14 +44,12 @@ use ctl_objects::{Life, Origin, Placing, Spot as BlockSpot, Stage};
 use ctl_places::components::own_end;
 use ctl_places::pool_blocks::{Grantor, is_open};
 use ctl_places::storage_calls::{StorageActuals, call_storage};
+use ctl_program::library::{CONSTRAINT_ERROR, PROGRAM_ERROR};
 use ctl_program::limits::STORAGE_COUNT_LAST;
 use ctl_program::types::{Ty, Var};
 use ctl_tree::ending::Stop;
 use ctl_tree::event::{Event, Owner};
 use std::alloc::AllocError;
-
-/// The number of Constraint_Error in each table of exceptions (RM 11.1).
-const CONSTRAINT_ERROR: usize = 0;
 
 /// Tells whether an object at this stage is a new one: its finalization has not begun, and it has not joined its collection (RM 4.8).
 fn is_new(stage: Stage) -> bool

@@ -27,13 +27,11 @@ use ctl_objects::{Placing, Spot as BlockSpot};
 use ctl_places::locating::number_of;
 use ctl_places::pool_blocks::{Grantor, is_open};
 use ctl_places::seen::holder_seen;
+use ctl_program::library::STORAGE_ERROR;
 use ctl_program::types::{Ty, Var};
 use ctl_tree::ending::Stop;
 use room::reserve;
 use std::alloc::AllocError;
-
-/// The number of Storage_Error in each table of exceptions (RM 11.1).
-const STORAGE_ERROR: usize = 2;
 
 /// How many storage units an object of an elementary type takes (RM 13.3).
 const SCALAR_UNITS: usize = 8;

@@ -23,10 +23,8 @@ use ctl_engine::engine::Engine;
 use ctl_frames::frame::{Declared, Master, Mode};
 use ctl_frames::parts::size_of;
 use ctl_objects::PoolSize;
+use ctl_program::library::CONSTRAINT_ERROR;
 use std::alloc::AllocError;
-
-/// The number of Constraint_Error in each table of exceptions (RM 11.1).
-const CONSTRAINT_ERROR: usize = 0;
 
 /// The greatest number of storage units that a block may have.
 const GREATEST_BLOCK_SIZE: u64 = 4_096;

@@ -15,11 +15,9 @@ use ctl_emitter::emit::Emitter;
 use ctl_layout::copies::{ANY_TYPE, FIRST_POSITION};
 use ctl_layout::right::{Reached, reached_by};
 use ctl_program::expression::{Expr, Name, Step};
+use ctl_program::library::PROGRAM_ERROR;
 use ctl_program::types::{Ty, Var};
 use std::alloc::AllocError;
-
-/// The number of Program_Error among the exceptions.
-const PROGRAM_ERROR: usize = 1;
 
 /// The record type of the operand that is a pool: of no account, since the pool is found by its object.
 const POOL_TYPE: usize = ANY_TYPE;

@@ -21,7 +21,8 @@ use Rattle.ctl_layout.specs.declared.right.Denoted as D
 use Rattle.ctl_layout.specs.declared.right.Denoted.TheVariants as DenotedOf
 use Rattle.ctl_layout.specs.Around.{Line}
 use Rattle.ctl_layout.specs.Parts.{Start, OfVariable, OfValue, OfRecord, Reached, Variable, Part, Object, Result, access_value, any_type, begun_code, behind_code, component_code, first_code, first_type, is_dereferenced, located_code, part_code, rest_code, rest_component, rest_taken, seen, selected, selects_code, whole_code}
-use Rattle.ctl_layout.specs.Values.{ValueCode, address_numbers, begun_by, block_pool, denoted, discriminant_code, given, given_by, held, moved_to, new_copy, value_code, value_type, by_reference}
+use Rattle.ctl_program.specs.Library.{block_pool}
+use Rattle.ctl_layout.specs.Values.{ValueCode, address_numbers, begun_by, denoted, discriminant_code, given, given_by, held, moved_to, new_copy, value_code, value_type, by_reference}
 use Rattle.ctl_layout.specs.Layout.{assign, assign_record, call_nothing, copy, copy_of, dropped_code, record_code, return_record, store_part_code, stored_part, take_over_code}
 use Rattle.ctl_emitter.specs.Emitted.{Emitted, appended, holding, lined, one, standing, stated, taking}
 use Rattle.ctl_emitter.proofs.Emission.{lined_both, nothing, standing_is}

@@ -16,14 +16,12 @@ use ctl_layout::copies::{ANY_TYPE, FIRST_POSITION};
 use ctl_layout::right::{Reached, Right, reached_by, right_of};
 use ctl_layout::typing::{copied, copied_from, first_type, value_type};
 use ctl_program::expression::{Expr, Name, Operand};
+use ctl_program::library::BLOCK_POOL;
 use ctl_program::operators::{Shortcut, UnaryOp};
 use ctl_program::statement::Piece;
 use ctl_program::types::{Ty, Var};
 use sqlite_items::Boxed;
 use std::alloc::AllocError;
-
-/// The record type that a pool stands as while its discriminant is read, whatever its own type is: the library's Block_Pool.
-const BLOCK_POOL: usize = 2;
 
 /// The position of Block_Size among the discriminants of a block pool; Block_Count has the next one.
 const SIZE_POSITION: usize = 0;

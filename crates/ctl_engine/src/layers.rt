@@ -24,10 +24,8 @@ use crate::engine::Engine;
 use ctl_code::code::{Code, Entry, Way};
 use ctl_frames::frame::{Completion, Ended, Frame, Master, Mode, Owned, Role};
 use ctl_objects::Objects;
+use ctl_program::library::PROGRAM_ERROR;
 use ctl_tree::event::Cause;
-
-/// The number of Program_Error in the table of exceptions (RM 11.1).
-pub const PROGRAM_ERROR: usize = 1;
 
 /// Answers what the finalization of an object hands on: one that raised is remembered, and the exception goes no further (RM 7.6.1).
 pub fn remembered(ended: Ended) -> Ended

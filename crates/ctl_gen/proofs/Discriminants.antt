@@ -25,7 +25,8 @@ use Rattle.ctl_code.specs.Table.{by_discriminant, discriminant_in}
 use Rattle.ctl_code.specs.Steps.{moved, step}
 use Rattle.ctl_layout.specs.Around.{Line}
 use Rattle.ctl_layout.specs.Parts.{Reached, part_code, part_runs}
-use Rattle.ctl_layout.specs.Values.{block_pool, discriminant, discriminant_at, discriminant_code}
+use Rattle.ctl_program.specs.Library.{block_pool}
+use Rattle.ctl_layout.specs.Values.{discriminant, discriminant_at, discriminant_code}
 use Rattle.ctl_gen.proofs.Worlds.{Since}
 use Rattle.ctl_gen.proofs.Setting.{Setting, IsSeen, tools_with}
 use Rattle.ctl_gen.proofs.Place.{Laid, laid_front, laid_back}

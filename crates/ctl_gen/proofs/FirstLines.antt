@@ -28,7 +28,8 @@ use Rattle.ctl_layout.specs.Around.{Line, local_at, new_operand, out_to, read_fr
 use Rattle.ctl_layout.specs.declared.right.Right.{Right}
 use Rattle.ctl_layout.specs.declared.right.Right.TheVariants as RightOf
 use Rattle.ctl_layout.specs.Parts.{Start, OfRecord, OfValue, OfVariable, Reached, Object, Part, Result, Variable, access_value, any_type, behind_steps, component_code, first_position, found, located_code, part_code, selects_code}
-use Rattle.ctl_layout.specs.Values.{ActualCode, OperatorCode, ValueCode, actual_code, actual_step, actuals_code, applied, block_pool, by_copy, by_reference, by_value, call_reached, chain, convert, copied, discriminant, discriminant_at, evaluates_code, first_type, function_call, given, given_by, held, held_by, in_cell, is_of, keeping_code, left_held, missing_value, moved_to, name_step, new, new_copy, new_given, operator_of, operators_code, others_code, reached_by, reached_if, read, record_call_code, record_runs, result_of, short, value_code, value_step, value_type, with_actuals}
+use Rattle.ctl_program.specs.Library.{block_pool}
+use Rattle.ctl_layout.specs.Values.{ActualCode, OperatorCode, ValueCode, actual_code, actual_step, actuals_code, applied, by_copy, by_reference, by_value, call_reached, chain, convert, copied, discriminant, discriminant_at, evaluates_code, first_type, function_call, given, given_by, held, held_by, in_cell, is_of, keeping_code, left_held, missing_value, moved_to, name_step, new, new_copy, new_given, operator_of, operators_code, others_code, reached_by, reached_if, read, record_call_code, record_runs, result_of, short, value_code, value_step, value_type, with_actuals}
 use Rattle.ctl_layout.specs.Layout.{evaluation}
 use Rattle.ctl_layout.proofs.TreeLayers.{actual_roll, reached_roll, value_roll}
 use Rattle.ctl_gen.proofs.Entered.{IsEntered, entered_there}

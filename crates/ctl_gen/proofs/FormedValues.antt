@@ -31,7 +31,8 @@ use Rattle.ctl_layout.specs.Around.{Line, local_at, new_operand, read_from}
 use Rattle.ctl_layout.specs.Records.{is_plain, is_run_type}
 use Rattle.ctl_layout.specs.Defaults.{is_declared}
 use Rattle.ctl_layout.specs.Parts.{Start, OfVariable, OfValue, OfRecord, Reached, Variable, Part, Object, Result, any_type, component_code, first_position, located_code, part_code, part_runs, parts_run, taken_code}
-use Rattle.ctl_layout.specs.Values.{Held, OperatorCode, ValueCode, address_numbers, allocator_code, applied, binary_code, chain, common_type, constant, designating, evaluated, first_type, given_code, held, held_by, in_cell, last_type, left_held, moved_to, new, new_copy, new_given, next_target, operand_type, operator_by, operator_code, operator_for, operators_code, other_code, others_code, read, short, value_type, block_pool, discriminant, discriminant_at}
+use Rattle.ctl_program.specs.Library.{block_pool}
+use Rattle.ctl_layout.specs.Values.{Held, OperatorCode, ValueCode, address_numbers, allocator_code, applied, binary_code, chain, common_type, constant, designating, evaluated, first_type, given_code, held, held_by, in_cell, last_type, left_held, moved_to, new, new_copy, new_given, next_target, operand_type, operator_by, operator_code, operator_for, operators_code, other_code, others_code, read, short, value_type, discriminant, discriminant_at}
 use Rattle.ctl_layout.proofs.Extensions.{both_true}
 use Rattle.ctl_gen.proofs.Formed.{Formed, both, has_end, leads_at, none, one}
 use Rattle.ctl_gen.proofs.FormedAround.{Surrounds, IsCreatable, IsHoused, IsNamed, granted_home, granted_home_of, variable_there}

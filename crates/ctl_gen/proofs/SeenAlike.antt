@@ -40,7 +40,8 @@ use Rattle.ctl_layout.specs.Around.{Line, local_at, new_operand, read_from}
 use Rattle.ctl_layout.specs.declared.right.Right.{Right}
 use Rattle.ctl_layout.specs.declared.right.Right.TheVariants as RightOf
 use Rattle.ctl_layout.specs.Parts.{Start, OfRecord, OfValue, OfVariable, Reached, Object, Part, Result, Variable, access_value, any_type, behind_steps, component_code, first_position, found, is_begun, located_code, part_code, selects_code}
-use Rattle.ctl_layout.specs.Values.{ActualCode, OperatorCode, ValueCode, actual_code, actual_step, actuals_code, actuals_run, allocator_code, applied, block_pool, by_copy, by_reference, by_value, call_reached, chain, constant, convert, copied, designating, discriminant, discriminant_at, evaluates_code, first_type, function_call, given, given_by, given_code, goes_back, held, held_by, in_cell, left_held, missing, missing_value, moved_to, name_step, new, new_copy, new_copy_code, new_given, operator_by, operator_code, operator_for, operator_of, operators_code, operators_run, other_code, others_code, reached_by, read, record_call_code, record_runs, result_of, short, value_code, value_step, value_type, values_run, with_actuals}
+use Rattle.ctl_program.specs.Library.{block_pool}
+use Rattle.ctl_layout.specs.Values.{ActualCode, OperatorCode, ValueCode, actual_code, actual_step, actuals_code, actuals_run, allocator_code, applied, by_copy, by_reference, by_value, call_reached, chain, constant, convert, copied, designating, discriminant, discriminant_at, evaluates_code, first_type, function_call, given, given_by, given_code, goes_back, held, held_by, in_cell, left_held, missing, missing_value, moved_to, name_step, new, new_copy, new_copy_code, new_given, operator_by, operator_code, operator_for, operator_of, operators_code, operators_run, other_code, others_code, reached_by, read, record_call_code, record_runs, result_of, short, value_code, value_step, value_type, values_run, with_actuals}
 use Rattle.ctl_layout.specs.Layout.{evaluation}
 use Rattle.ctl_layout.specs.Records.{is_run_type}
 use Rattle.ctl_layout.proofs.TreeLayers.{actual_roll, operator_roll, reached_roll, value_roll}

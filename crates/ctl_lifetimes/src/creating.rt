@@ -20,9 +20,9 @@ use ctl_code::code::{Code, Way};
 use ctl_engine::calls::replace_top;
 use ctl_engine::engine::Engine;
 use ctl_engine::finalizing::doubled;
-use ctl_engine::layers::PROGRAM_ERROR;
 use ctl_frames::frame::{Declared, Ended, Frame, Mode, Role};
 use ctl_frames::spots::Spot;
+use ctl_program::library::PROGRAM_ERROR;
 use std::alloc::AllocError;
 
 /// Makes the newest owned object a layer of its master (RM 7.6.1), and goes on at this place.

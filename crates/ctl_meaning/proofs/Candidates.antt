@@ -1,21 +1,10 @@
--- The candidates of a group are exactly the members that are due, in the order of their numbers.
+-- The candidates of a group: each is a member of an object that is due, and they are in the order of their numbers.
 use Rattle.std.proofs.Common.{◌≡◌, refl, sym, ap, subst, inl, inr, ℕ, ◌<◌, List, [], ◌∷◌, map, Bool, true, false, if◌then◌else◌}
-use Rattle.ctl_meaning.specs.World.{Object, World}
+use Rattle.ctl_meaning.specs.World.{Object, Member, World}
 use Rattle.ctl_meaning.specs.Lists.{keep}
 use Rattle.ctl_meaning.specs.Members.{Group, member_of, is_candidate, candidates_of}
 use Rattle.ctl_meaning.specs.Types.{Tables}
-use Rattle.ctl_meaning.specs.Emptied.{Lists, AllAbove, Ascend, numbers_of, member_numbers, AreTheCandidates}
-
-kept_each : {A : Type 0} (p : A → Bool) (x y : A) (b : Bool) (ys kept : List A) → p y ≡ b → p x ≡ true → (Lists x ys → Lists x kept) → Lists x (y ∷ ys) → Lists x (if b then y ∷ kept else kept)
-kept_each p x y true ys kept i e h (inl j) = inl j
-kept_each p x y true ys kept i e h (inr j) = inr (h j)
-kept_each p x y false ys kept i e h (inl j) = absurd (cc (ap p j))
-kept_each p x y false ys kept i e h (inr j) = h j
-
-keeps_each : {A : Type 0} (p : A → Bool) (xs : List A) (x : A) → Lists x xs → p x ≡ true → Lists x (keep p xs)
-unfolding keep
-keeps_each p [] x h e = h
-keeps_each p (y ∷ ys) x h e = kept_each p x y (p y) ys (keep p ys) refl e (λ j. keeps_each p ys x j e) h
+use Rattle.ctl_meaning.specs.Emptied.{Lists, AllAbove, Ascend, numbers_of, member_numbers, InOrder}
 
 kept_only : {A : Type 0} (p : A → Bool) (x y : A) (b : Bool) (ys kept : List A) → p y ≡ b → (Lists x kept → Lists x ys × (p x ≡ true)) → Lists x (if b then y ∷ kept else kept) → Lists x (y ∷ ys) × (p x ≡ true)
 kept_only p x y true ys kept i h (inl j) = (inl j, subst (λ z. p z ≡ true) (sym j) i)
@@ -26,11 +15,6 @@ keeps_only : {A : Type 0} (p : A → Bool) (xs : List A) (x : A) → Lists x (ke
 unfolding keep
 keeps_only p [] x h = absurd h
 keeps_only p (y ∷ ys) x h = kept_only p x y (p y) ys (keep p ys) refl (keeps_only p ys x) h
-
-maps_each : {A B : Type 0} (f : A → B) (xs : List A) (x : A) → Lists x xs → Lists (f x) (map f xs)
-maps_each f [] x h = h
-maps_each f (y ∷ ys) x (inl e) = inl (ap f e)
-maps_each f (y ∷ ys) x (inr h) = inr (maps_each f ys x h)
 
 maps_only : {A B : Type 0} (f : A → B) (xs : List A) (b : B) → Lists b (map f xs) → (x : A) × Lists x xs × (f x ≡ b)
 maps_only f [] b h = absurd h
@@ -60,10 +44,14 @@ unfolding member_of
 same_numbers [] = refl
 same_numbers (o ∷ os) = ap (λ ns. o.number ∷ ns) (same_numbers os)
 
-pub exactly : (k : Tables) (g : Group) (w : World) → AreTheCandidates k g w
+-- each candidate is the member of an object that is one
+pub candidate_of : (k : Tables) (g : Group) (w : World) (m : Member) → Lists m (candidates_of k g w) → (o : Object) × Lists o w.objects × (is_candidate k g o ≡ true) × (member_of o ≡ m)
 unfolding candidates_of
-exactly k g w = record {
-  each = λ o h e. maps_each member_of (keep (is_candidate k g) w.objects) o (keeps_each (is_candidate k g) w.objects o h e);
-  only = λ m h. let r = maps_only member_of (keep (is_candidate k g) w.objects) m h in let s = keeps_only (is_candidate k g) w.objects r.0 r.1 in (r.0, s.0, s.1, r.2);
-  in_order = λ h. subst Ascend (sym (same_numbers (keep (is_candidate k g) w.objects))) (ascend_kept (is_candidate k g) w.objects h.ascend);
-}
+candidate_of k g w m h =
+    let r = maps_only member_of (keep (is_candidate k g) w.objects) m h in
+    let s = keeps_only (is_candidate k g) w.objects r.0 r.1 in
+    (r.0, s.0, s.1, r.2)
+
+pub in_order : (k : Tables) (g : Group) (w : World) → InOrder w → Ascend (member_numbers (candidates_of k g w))
+unfolding candidates_of
+in_order k g w h = subst Ascend (sym (same_numbers (keep (is_candidate k g) w.objects))) (ascend_kept (is_candidate k g) w.objects h.ascend)

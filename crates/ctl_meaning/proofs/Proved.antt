@@ -15,9 +15,9 @@ use Rattle.ctl_meaning.specs.Run.{meaning_of, tools_with, run}
 use Rattle.ctl_meaning.specs.Advance.{Grows, log_of}
 use Rattle.ctl_meaning.specs.SameAnswers.{LeavesOpen, AnswersAlike}
 use Rattle.ctl_meaning.specs.Continues.{Continues}
-use Rattle.ctl_meaning.specs.Law.{tools_at, ClockNeverRises, LogOnlyGrows, ChoicesObey, CutsHaveCauses, GroupsAreEmptied, SameAnswersSameRun, ChoicesReplay, MoreClockContinues, GoesOn, TextsContinue, CandidatesAgree}
+use Rattle.ctl_meaning.specs.Law.{tools_at, ClockNeverRises, LogOnlyGrows, ChoicesObey, CutsHaveCauses, GroupsAreEmptied, SameAnswersSameRun, ChoicesReplay, MoreClockContinues, GoesOn, TextsContinue, CandidatesInOrder}
 use Rattle.ctl_meaning.proofs.Advance as A
-use Rattle.ctl_meaning.proofs.Candidates.{exactly}
+use Rattle.ctl_meaning.proofs.Candidates.{in_order}
 use Rattle.ctl_meaning.proofs.Order as O
 use Rattle.ctl_meaning.proofs.Cuts as C
 use Rattle.ctl_meaning.proofs.Emptied.{emptied, sets_emptied}
@@ -49,9 +49,9 @@ groups_are_emptied p = record {
   of_collections = λ ask depth sets clock l w. sets_emptied (tools_at p ask depth) (OfSets sets) sets clock l w refl;
 }
 
-pub candidates_agree : (p : Checked) → CandidatesAgree p
-candidates_agree p = record {
-  exactly = λ g w. exactly (tables_of p) g w;
+pub candidates_in_order : (p : Checked) → CandidatesInOrder p
+candidates_in_order p = record {
+  candidates = λ g w h. in_order (tables_of p) g w h;
   at_start = O.starts_in_order;
   after = λ ask depth env caught s clock l w h. (O.does p ask depth s env caught).from clock l w h;
 }

@@ -1,7 +1,7 @@
--- The candidates of a group: which objects they are, in which order, and that none is left in the end.
-use Rattle.std.specs.Prelude.{◌≡◌, ℕ, ◌<◌, List, [], ◌∷◌, map, Bool, true, ◌⊎◌}
+-- The candidates of a group: in which order they are, and that none is left in the end.
+use Rattle.std.specs.Prelude.{◌≡◌, ℕ, ◌<◌, List, [], ◌∷◌, map, Bool, ◌⊎◌}
 use Rattle.ctl_meaning.specs.World.{Object, Member, World}
-use Rattle.ctl_meaning.specs.Members.{Group, member_of, is_candidate, candidates_of}
+use Rattle.ctl_meaning.specs.Members.{Group, candidates_of}
 use Rattle.ctl_meaning.specs.Outcome.{Goes, Leaves, Out, Gives, Stops, Cut}
 use Rattle.ctl_meaning.specs.Types.{Tables}
 
@@ -46,10 +46,3 @@ abbrev pub StaysInOrder : {A : Type 0} → Out A → Type 0
 StaysInOrder (Gives r t c l w) = InOrder w
 StaysInOrder (Stops s t l) = Unit {0}
 StaysInOrder (Cut t c l) = Unit {0}
-
--- the candidates of a group are exactly the members of the objects that exist, have joined a collection of the group or lie in its subpool,
--- have a controlled part, and whose finalization has not begun; each once, in the order of their numbers
-pub record AreTheCandidates (k : Tables) (g : Group) (w : World) : Type 0 where
-  pub each : (o : Object) → Lists o w.objects → is_candidate k g o ≡ true → Lists (member_of o) (candidates_of k g w)
-  pub only : (m : Member) → Lists m (candidates_of k g w) → (o : Object) × Lists o w.objects × (is_candidate k g o ≡ true) × (member_of o ≡ m)
-  pub in_order : InOrder w → Ascend (member_numbers (candidates_of k g w))

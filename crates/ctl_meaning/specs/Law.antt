@@ -9,14 +9,14 @@ use Rattle.ctl_meaning.specs.World.{Log, World, empty_world}
 use Rattle.ctl_meaning.specs.Choice.{Ask, Obeys, replayed}
 use Rattle.ctl_meaning.specs.Types.{tables_of}
 use Rattle.ctl_meaning.specs.Names.{Tools}
-use Rattle.ctl_meaning.specs.Members.{Group, OfSets}
+use Rattle.ctl_meaning.specs.Members.{Group, OfSets, candidates_of}
 use Rattle.ctl_meaning.specs.Finalization.{finalize_group}
 use Rattle.ctl_meaning.specs.Masters.{finalize_sets}
 use Rattle.ctl_meaning.specs.Statements.{exec}
 use Rattle.ctl_meaning.specs.Run.{meaning_of, execution, tools_with, run}
 use Rattle.ctl_meaning.specs.Advance.{Grows, log_of, IsAtMost}
 use Rattle.ctl_meaning.specs.Cuts.{CutForCause}
-use Rattle.ctl_meaning.specs.Emptied.{LeavesNone, InOrder, StaysInOrder, AreTheCandidates}
+use Rattle.ctl_meaning.specs.Emptied.{LeavesNone, Ascend, member_numbers, InOrder, StaysInOrder}
 use Rattle.ctl_meaning.specs.SameAnswers.{AnswersAlike}
 use Rattle.ctl_meaning.specs.Continues.{Continues}
 
@@ -40,10 +40,10 @@ pub record ChoicesObey (program : Checked) : Type 0 where
 pub record CutsHaveCauses (program : Checked) : Type 0 where
   pub in_run : (ask : Ask) (clock : ℕ) → CutForCause ask (run program ask clock)
 
--- in each world the candidates of a group are exactly the members that are due. They are in the order of their numbers where the objects are,
--- as in the empty world, and after each statement if before it
-pub record CandidatesAgree (program : Checked) : Type 0 where
-  pub exactly : (g : Group) (w : World) → AreTheCandidates (tables_of program) g w
+-- the candidates of a group are in the order of their numbers, each once, where the objects are; so these are in the empty world, and after each
+-- statement if before it
+pub record CandidatesInOrder (program : Checked) : Type 0 where
+  pub candidates : (g : Group) (w : World) → InOrder w → Ascend (member_numbers (candidates_of (tables_of program) g w))
   pub at_start : InOrder empty_world
   pub after : (ask : Ask) (depth : ℕ) (env : List ℕ) (caught : ℕ) (s : Stmt) (clock : ℕ) (l : Log) (w : World) → InOrder w → StaysInOrder (exec s (tools_at program ask depth) env caught clock l w)
 

@@ -1,5 +1,6 @@
 -- How a construct ends, and how constructs are joined.
 use Rattle.std.specs.Prelude.{ℕ, zero, suc, ◌+◌, List, [], ◌∷◌, ◌++◌, Option, Some, None, Bool, true, false}
+use Rattle.ctl_program.specs.Library as library
 use Rattle.ctl_tree.specs.declared.ending.Stop.{Stop}
 use Rattle.ctl_tree.specs.declared.event.Event.{Event}
 use Rattle.ctl_meaning.specs.World.{Log, World}
@@ -40,15 +41,15 @@ Act A = ℕ → Log → World → Out A
 abbrev pub Done : Type 0
 Done = Unit {0}
 
--- the predefined exceptions (11.1)
+-- the predefined exceptions, which the definitions of runs do not open (11.1)
 unfoldable pub constraint_error : ℕ
-constraint_error = 0
+constraint_error = library.constraint_error
 
 unfoldable pub program_error : ℕ
-program_error = 1
+program_error = library.program_error
 
 unfoldable pub storage_error : ℕ
-storage_error = 2
+storage_error = library.storage_error
 
 -- One after another ----------------------------------------------------------
 

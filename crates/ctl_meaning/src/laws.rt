@@ -1,6 +1,6 @@
 //! What holds of every run of every checked program. These functions do nothing: each contract is a law of the meaning.
 
-ghost use Rattle.ctl_meaning.specs.Law.{CandidatesAgree, ClockNeverRises, LogOnlyGrows, ChoicesObey, CutsHaveCauses, GroupsAreEmptied, SameAnswersSameRun, ChoicesReplay, MoreClockContinues, TextsContinue};
+ghost use Rattle.ctl_meaning.specs.Law.{CandidatesInOrder, ClockNeverRises, LogOnlyGrows, ChoicesObey, CutsHaveCauses, GroupsAreEmptied, SameAnswersSameRun, ChoicesReplay, MoreClockContinues, TextsContinue};
 
 use ctl_program::program::Checked;
 
@@ -40,10 +40,9 @@ pub fn groups_are_emptied(program: &Checked)
     let _ = program;
 }
 
-/// Says that the candidates of a choice in the finalization of collections or a subpool are exactly the members that have a controlled
-/// part, exist and whose finalization has not begun, in the order of their numbers.
-pub fn candidates_agree(program: &Checked)
-    ensures { CandidatesAgree program.now }
+/// Says that the candidates of a choice in the finalization of collections or a subpool are in the order of their numbers, each once.
+pub fn candidates_in_order(program: &Checked)
+    ensures { CandidatesInOrder program.now }
 {
     let _ = program;
 }

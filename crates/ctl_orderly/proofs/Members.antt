@@ -19,7 +19,7 @@ use Rattle.ctl_meaning.specs.Outcome.{Result, Goes, Leaves, Act, Done, given, �
 use Rattle.ctl_meaning.specs.Names.{OfSubprogram, Call as Caller, Default, Tools, must_exist}
 use Rattle.ctl_meaning.specs.Emptied.{Lists}
 use Rattle.ctl_meaning.specs.Finalization.{whole, Every, finalize, finalize_begun, finalize_object, finalize_one, finalize_members, finalize_group}
-use Rattle.ctl_meaning.proofs.Candidates.{exactly}
+use Rattle.ctl_meaning.proofs.Candidates.{candidate_of}
 use Rattle.ctl_orderly.proofs.State.{part, stands, NoMember, Lives, Unclosed, Whole, Inv, Moves, none, older, anywhere}
 use Rattle.ctl_orderly.proofs.Rules.{Ends, ends_as, ends_bind, Does, Always, Ever, IfGoes, Good, Stable, as_well, framed, seq, then_do, gives_done, record_or, chooses, widened}
 use Rattle.ctl_orderly.proofs.Edits.{Changed, changed_listed, begun_stands, changes, edit_begins, edit_ends}
@@ -188,7 +188,7 @@ module _ (k : Tables) (ask : Ask) (call : Caller) (default : Default) (calls : (
       go false b c d e = absurd (cc)
 
   candidates_stand : (g : Group) (w : World) (x : Member) → Lists x (candidates_of k g w) → Stands x w
-  candidates_stand g w x h = let o = (exactly k g w).only x h in (o.0, o.1, o.3, due_stands o.0 g o.2)
+  candidates_stand g w x h = let o = candidate_of k g w x h in (o.0, o.1, o.3, due_stands o.0 g o.2)
 
   members_close : {own : Option Owner} (cause : Cause) (g : Group) (n : ℕ) (failed : Bool) → Does k none own Always Ever (finalize_members j cause g n failed)
   unfolding finalize_members

@@ -26,11 +26,9 @@ use ctl_engine::engine::Engine;
 use ctl_frames::frame::Mode;
 use ctl_frames::parts::offset_of;
 use ctl_objects::{BlockReturn, Objects, PoolState};
+use ctl_program::library::STORAGE_ERROR;
 use ctl_tree::ending::Stop;
 use std::alloc::AllocError;
-
-/// The number of Storage_Error in each table of exceptions (RM 11.1).
-const STORAGE_ERROR: usize = 2;
 
 /// What comes of a request of a block (RM 13.11).
 #[derive(Clone, Copy)]

@@ -11,6 +11,7 @@
 #![tactic(auto)]
 
 pub mod expression;
+pub mod library;
 pub mod limits;
 pub mod operators;
 pub mod program;

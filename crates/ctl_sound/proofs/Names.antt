@@ -4,6 +4,7 @@ use Rattle.std.proofs.lemmas.Bool.Decides.{nat_tests}
 use Rattle.ctl_grammar.specs.Spelling.{same_name}
 use Rattle.ctl_tree.specs.declared.span.Span.{Span}
 use Rattle.ctl_tree.specs.declared.fault.FaultCode.TheVariants as fault
+use Rattle.ctl_program.specs.Library.{mark_release_pool}
 use Rattle.ctl_program.specs.declared.types.Ty.{Ty}
 use Rattle.ctl_program.specs.declared.types.Ty.TheVariants as ty
 use Rattle.ctl_program.specs.declared.types.Var.{Var}
@@ -369,9 +370,9 @@ module _ (k : Setting) (env : Frames) (tables : Tables) (sound : Sound k env tab
   subpool_in_good : (place : Span) (which : SubpoolFunction) (p : Place) (t : Ty) → PartOf k env p.head p.steps t → FoundRight (spec.subpool_in place which p t)
   subpool_in_good place which p (ty.Record t) part =
       let made : Found = is.Computed (record { ty = ty.Handle; value = e.Subpool which (spec.name_of p) }) in
-      tested (FoundFine k env) (nat_eq t spec.mark_release_pool) (spec.as_variable place p.mutability made) (wrong fault.Type place)
+      tested (FoundFine k env) (nat_eq t mark_release_pool) (spec.as_variable place p.mutability made) (wrong fault.Type place)
       (λ h. as_variable_good (FoundFine k env) place p.mutability made
-      (record { typed = rule.subpool (name_good p.head p.steps (ty.Record t) part) (let same : spec.mark_release_pool ≡ t = grind (arith, nat_tests) in subst (λ n. HasRoot k n root.MarkPool) same sound.types.mark_pool); in_view = tt }, refl))
+      (record { typed = rule.subpool (name_good p.head p.steps (ty.Record t) part) (let same : mark_release_pool ≡ t = grind (arith, nat_tests) in subst (λ n. HasRoot k n root.MarkPool) same sound.types.mark_pool); in_view = tt }, refl))
       (λ s. tt)
   subpool_in_good place which p ty.Integer part = λ s. tt
   subpool_in_good place which p ty.Count part = λ s. tt

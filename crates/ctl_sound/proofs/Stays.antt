@@ -5,6 +5,7 @@ use Rattle.ctl_tree.specs.declared.fault.Fault.{Fault}
 use Rattle.ctl_tree.specs.declared.fault.FaultCode.{FaultCode}
 use Rattle.ctl_tree.specs.declared.fault.FaultCode.TheVariants as fault
 use Rattle.ctl_tree.specs.Faults.{first_of, fault_at, is_before}
+use Rattle.ctl_program.specs.Library.{mark_release_pool}
 use Rattle.ctl_program.specs.declared.types.Ty.{Ty}
 use Rattle.ctl_program.specs.declared.types.Ty.TheVariants as ty
 use Rattle.ctl_program.specs.declared.expression.Actual.{Actual}
@@ -262,7 +263,7 @@ converted_stays tables place (ty.Record t) x g = viewed_by_stays tables place x.
 converted_stays tables place _ x g = wrong_stays Found fault.Type place
 
 subpool_in_stays : (place : Span) (which : SubpoolFunction) (p : Place) (t : Ty) → Stays (spec.subpool_in place which p t)
-subpool_in_stays place which p (ty.Record t) = by_test (nat_eq t spec.mark_release_pool)
+subpool_in_stays place which p (ty.Record t) = by_test (nat_eq t mark_release_pool)
   where
     by_test : (b : Bool) → Stays (if b then spec.as_variable place p.mutability (is.Computed (record { ty = ty.Handle; value = e.Subpool which (spec.name_of p) })) else wrong fault.Type place)
     by_test true = as_variable_stays place p.mutability (is.Computed (record { ty = ty.Handle; value = e.Subpool which (spec.name_of p) }))

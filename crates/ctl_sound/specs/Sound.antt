@@ -33,7 +33,8 @@ use Rattle.ctl_typing.specs.Judgement.{Judgement}
 use Rattle.ctl_typing.specs.Lookup.{component_of, descends, designated_by}
 use Rattle.ctl_syntax.specs.declared.denoted.OperationName.{OperationName}
 use Rattle.ctl_draft.specs.Operations.{operation_formals, user_operation, operations_of}
-use Rattle.ctl_typing.specs.Typing.{Sense, meets, mark_release_pool}
+use Rattle.ctl_program.specs.Library.{mark_release_pool}
+use Rattle.ctl_typing.specs.Typing.{Sense, meets}
 use Rattle.ctl_well_typed.specs.Setting.{Passing, In, Out, InOut, Formal, Holding, Declared, Stands, Frames, Names, Signature, Setting, InView, Callable}
 use Rattle.ctl_well_typed.specs.Types.{is_scalar, Descends, Covers, HasRoot, HasDiscriminant, Leads, Walks}
 use Rattle.ctl_well_typed.specs.Expressions.{Typed}

@@ -2,6 +2,7 @@
 use Rattle.std.specs.Prelude.{ℕ, if◌then◌else◌, List, [], ◌∷◌, slice_get, Option, Some, None}
 use Rattle.ctl_tree.specs.declared.span.Span.{Span}
 use Rattle.ctl_tree.specs.declared.fault.FaultCode.TheVariants as rule
+use Rattle.ctl_program.specs.Library.{constraint_error, program_error, storage_error}
 use Rattle.ctl_program.specs.declared.types.Ty.{Ty}
 use Rattle.ctl_program.specs.declared.types.Ty.TheVariants as ty
 use Rattle.ctl_program.specs.declared.expression.Expr.{Expr}
@@ -268,16 +269,6 @@ abbrev pub call : Span → Use → List (Suffix Sense) → Tables → Judgement 
 call place u xs tables = called_by tables place u.denoted (arguments_of xs)
 
 -- Exceptions (11.2, 11.3) --------------------------------------------------------------------------------------
-
--- the exceptions of Standard have the first numbers
-abbrev pub constraint_error : ℕ
-constraint_error = 0
-
-abbrev pub program_error : ℕ
-program_error = 1
-
-abbrev pub storage_error : ℕ
-storage_error = 2
 
 abbrev pub exception_entry : Span → Option Entry → Judgement ℕ
 exception_entry place (Some (entry.Exception n)) = known n

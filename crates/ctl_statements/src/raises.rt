@@ -6,6 +6,7 @@ ghost use Rattle.ctl_statements.specs.Statements as spec;
 ghost use Rattle.ctl_typing.specs.Judgement.{Answers, Judges};
 
 use ctl_draft::draft::{Draft, Handling};
+use ctl_program::library::{CONSTRAINT_ERROR, PROGRAM_ERROR, STORAGE_ERROR};
 use ctl_program::statement as checked;
 use ctl_program::statement::Stmt;
 use ctl_syntax::denoted::{Denoted, LibraryName, Use};
@@ -19,13 +20,6 @@ use ctl_typing::operators::appended;
 use ctl_typing::table::{Entry, Tables};
 use sqlite_items::Items;
 use std::alloc::{AllocError, Global};
-
-/// The numbers of the exceptions of Standard, which come first (RM 11.1).
-const CONSTRAINT_ERROR: usize = 0;
-
-const PROGRAM_ERROR: usize = 1;
-
-const STORAGE_ERROR: usize = 2;
 
 /// Answers the number of the exception that a declaration declares.
 fn exception_entry(tables: &Tables, place: Span, number: usize, notes: &mut Notes) -> Option<usize>

@@ -21,13 +21,14 @@ use ctl_code::code::{Code, Parts, Way};
 use ctl_engine::calls::Departure;
 use ctl_engine::engine::Engine;
 use ctl_engine::finalizing::{Finalization, doubled};
-use ctl_engine::layers::{PROGRAM_ERROR, forget_owned, says_failed};
+use ctl_engine::layers::{forget_owned, says_failed};
 use ctl_engine::leaving::completes_loop;
 use ctl_frames::frame::{After, Completion, Ended, Formal, Frame, Mode, Role};
 use ctl_frames::parts::parts_of;
 use ctl_frames::spots::Spot;
 use ctl_lifetimes::emptying::empty_layer;
 use ctl_places::returning::concerns_record;
+use ctl_program::library::PROGRAM_ERROR;
 use ctl_tree::event::Cause;
 use std::alloc::AllocError;
 

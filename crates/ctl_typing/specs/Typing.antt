@@ -3,6 +3,7 @@ use Rattle.std.specs.Prelude.{ℕ, Bool, true, false, ◌&&◌, ◌||◌, not, i
 use Rattle.ctl_grammar.specs.Spelling.{same_name}
 use Rattle.ctl_tree.specs.declared.span.Span.{Span}
 use Rattle.ctl_tree.specs.declared.fault.FaultCode.TheVariants as rule
+use Rattle.ctl_program.specs.Library.{controlled, limited_controlled, block_pool, mark_release_pool}
 use Rattle.ctl_program.specs.declared.types.Ty.{Ty}
 use Rattle.ctl_program.specs.declared.types.Ty.TheVariants as ty
 use Rattle.ctl_program.specs.declared.types.Var.{Var}
@@ -131,19 +132,6 @@ entry_found place number (Some (entry.«Type» t)) = known (TypeName t)
 entry_found place number (Some (entry.Subprogram p)) = doing (Calls p.subprogram ∷ []) (Callable number)
 entry_found place number (Some entry.Unknown) = λ n. (None, n)
 entry_found place number _ = wrong rule.«Type» place
-
--- the record types of the library stand first in the table
-abbrev pub controlled : ℕ
-controlled = 0
-
-abbrev pub limited_controlled : ℕ
-limited_controlled = 1
-
-abbrev pub block_pool : ℕ
-block_pool = 2
-
-abbrev pub mark_release_pool : ℕ
-mark_release_pool = 3
 
 abbrev pub constant : Ty → ℕ → Found
 constant t cell = Computed (record { ty = t; value = e.Constant cell })

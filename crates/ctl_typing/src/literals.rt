@@ -8,10 +8,9 @@ ghost use Rattle.ctl_typing.specs.Typing as spec;
 use crate::found::{Asked, Found, Head, Place, Typed};
 use crate::judging::{fits, note, note_deed, unresolved};
 use crate::notes::{Deed, Notes};
-use crate::table::{
-    BLOCK_POOL, CONTROLLED, Entry, LIMITED_CONTROLLED, MARK_RELEASE_POOL, ObjectEntry, Tables,
-};
+use crate::table::{Entry, ObjectEntry, Tables};
 use ctl_program::expression::Expr;
+use ctl_program::library::{BLOCK_POOL, CONTROLLED, LIMITED_CONTROLLED, MARK_RELEASE_POOL};
 use ctl_program::limits::INTEGER_LAST_CELL;
 use ctl_program::operators::SubpoolFunction;
 use ctl_program::types::Ty;

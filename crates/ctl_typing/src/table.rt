@@ -7,15 +7,6 @@ use ctl_tree::span::Span;
 use ctl_tree::text::Text;
 use sqlite_items::Items;
 
-/// The numbers of the record types of the library, which stand first in the table (RM 7.6, 13.11).
-pub const CONTROLLED: usize = 0;
-
-pub const LIMITED_CONTROLLED: usize = 1;
-
-pub const BLOCK_POOL: usize = 2;
-
-pub const MARK_RELEASE_POOL: usize = 3;
-
 /// Whether an object may be assigned to by this name (RM 3.3, 6.2).
 #[derive(Clone, Copy)]
 pub enum Mutability {

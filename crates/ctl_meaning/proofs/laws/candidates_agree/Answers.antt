@@ -1,5 +1,0 @@
-use Rattle.ctl_meaning.proofs.Proved.{candidates_agree}
-use Rattle.ctl_meaning.proofs.laws.candidates_agree.Goals as goal
-
-pub returns : goal.returns
-returns c = candidates_agree c.args.program.now
