@@ -94,7 +94,7 @@ fn end_assignment(engine: &mut Engine, code: &Code, record: usize, value: Value,
 /// Tells whether nothing but the target itself is adjusted in an assignment of a record type: it is controlled, and no component of it has a
 /// controlled part (RM 7.6).
 #[inline(always)]
-pub fn is_adjusted_alone(code: &Code, record: usize) -> bool
+fn is_adjusted_alone(code: &Code, record: usize) -> bool
     ensures { IsTrue result → IsAdjustedAlone code.now «record» }
 {
     match parts_of(code, record) {
@@ -165,7 +165,7 @@ fn write_value(stock: &mut Objects, number: u64, start: usize, values: &[u64])
 
 /// Lets the newest part take the value that was saved last, which has so many cells.
 #[inline(always)]
-pub fn take_value(engine: &mut Engine, size: usize)
+fn take_value(engine: &mut Engine, size: usize)
     requires spots { 0 < length engine.old.spots.items }
     requires saved { size ≤ length engine.old.saved.items }
     ensures takes { TakesValue engine.old engine.new size }

@@ -8,7 +8,6 @@ mod ending;
 mod evaluating;
 mod finalizing;
 mod freeing;
-mod handing_over;
 mod handlers;
 mod layers;
 mod leaving;
