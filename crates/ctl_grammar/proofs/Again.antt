@@ -4,7 +4,7 @@ use Rattle.std.specs.Prelude.{◌&&◌, not}
 use Rattle.std.proofs.lemmas.List.{length-append}
 use Rattle.ctl_tree.specs.declared.token.Kind.{Kind}
 use Rattle.ctl_tree.specs.declared.token.Token.{Token}
-use Rattle.ctl_grammar.specs.Form.{Node, none, leaf, num, written, at, pair, tag, Nest, Form, word, keep, tested, empty, seq, within, alt, when, many, act, late, nest, can_be_empty, starts, goes_on, nest_starts, is_apart, is_clear}
+use Rattle.ctl_grammar.specs.Form.{Node, none, leaf, num, written, at, pair, tag, Nest, Form, word, keep, tested, empty, seq, within, alt, when, many, act, late, nest, can_be_empty, starts, goes_on, nest_starts, is_apart, is_clear, Rules}
 use Rattle.ctl_grammar.specs.Grammar.{body}
 use Rattle.ctl_grammar.specs.Reading.{Read, begins, both, repeat, all_of, from_here, reader, construct}
 use Rattle.ctl_grammar.specs.Derivation.{Row, Both, Derives, Construct}
@@ -61,7 +61,7 @@ pub from_here_same : (ts : List Token) (o : Read) → from_here false ts o ≡ o
 from_here_same ts (Ok x) = refl
 from_here_same ts (Err e) = refl
 
-pub reader_again : (c : Bool) (inner : Nest → Node → List Token → Read) (I : Nest → Node → Node → List Token → Type 0) → OpensAll I → AgainAll I inner
+pub reader_again : (c : Rules) (inner : Nest → Node → List Token → Read) (I : Nest → Node → Node → List Token → Type 0) → OpensAll I → AgainAll I inner
     → (f : Form) → is_clear f ≡ true → (env : Node) → Again (Derives c I f env) (goes_on f) (reader c false inner f env)
 unfolding all_of
 reader_again c inner I ho h (word k) clear env v text rest p stop = rw (p.2, p.1, p.3) refl
@@ -137,12 +137,12 @@ pub record IsPlain (n : Nest) : Type 0 where
   pub begun : starts (body n) ≡ nest_starts n
   pub ends : goes_on (body n) ≡ []
 
-pub construct_opens : ((n : Nest) → IsPlain n) → (c : Bool) (left : ℕ) → OpensAll (Construct c left)
+pub construct_opens : ((n : Nest) → IsPlain n) → (c : Rules) (left : ℕ) → OpensAll (Construct c left)
 construct_opens plain c zero n env v x p = absurd p
 construct_opens plain c (suc left) n env v x p =
     subst (λ (ks : List Kind). Opens false ks x) (plain n).begun (subst (λ (e : Bool). Opens e (starts (body n)) x) (plain n).some (derives_opens c (Construct c left) (construct_opens plain c left) (body n) env v x p))
 
-pub construct_again : ((n : Nest) → IsPlain n) → (c : Bool) (left : ℕ) → AgainAll (Construct c left) (construct c false left)
+pub construct_again : ((n : Nest) → IsPlain n) → (c : Rules) (left : ℕ) → AgainAll (Construct c left) (construct c false left)
 unfolding construct
 construct_again plain c zero n env v text rest p stop = absurd p
 construct_again plain c (suc left) n env v text rest p stop =

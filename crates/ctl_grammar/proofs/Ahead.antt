@@ -5,7 +5,7 @@ use Rattle.ctl_tree.specs.declared.token.Kind.{Kind}
 use Rattle.ctl_tree.specs.declared.token.Token.{Token}
 use Rattle.ctl_grammar.specs.declared.refused.Reason.TheVariants.{Unexpected}
 use Rattle.ctl_grammar.specs.Kind.{same_kind}
-use Rattle.ctl_grammar.specs.Form.{Node, none, pair, Nest, Form, word, keep, tested, empty, seq, within, alt, when, many, act, late, nest, can_be_empty, starts}
+use Rattle.ctl_grammar.specs.Form.{Node, none, pair, Nest, Form, word, keep, tested, empty, seq, within, alt, when, many, act, late, nest, can_be_empty, starts, Rules, no_rule}
 use Rattle.ctl_grammar.specs.Reading.{Read, ◌>>=◌, token_at, begins, both, repeat, all_of, nowhere, reader}
 use Rattle.ctl_grammar.proofs.Starts.{and_left, and_right, Opens, derives_opens, begins_with}
 use Rattle.ctl_grammar.proofs.Sound.{bind_ok, reader_sound, allows_same}
@@ -57,7 +57,7 @@ repeat_same go r s h (suc n) ts =
     bind_same (repeat go r n x.1) (repeat go s n x.1) (λ y. Ok (pair x.0 y.0, y.1)) (λ y. Ok (pair x.0 y.0, y.1)) (more x.1) (λ y. refl)))
     refl
 
-pub simple_same : (c m d n : Bool) (i j : Nest → Node → List Token → Read) (f : Form) → is_simple f ≡ true → (env : Node) (ts : List Token) → reader c m i f env ts ≡ reader d n j f env ts
+pub simple_same : (c : Rules) (m : Bool) (d : Rules) (n : Bool) (i j : Nest → Node → List Token → Read) (f : Form) → is_simple f ≡ true → (env : Node) (ts : List Token) → reader c m i f env ts ≡ reader d n j f env ts
 unfolding all_of
 simple_same c m d n i j (word k) h env ts = refl
 simple_same c m d n i j (keep k) h env ts = refl
@@ -84,7 +84,7 @@ simple_same c m d n i j (nest k) h env ts = absurd cc
 
 -- a form that is read ahead
 abbrev pub ahead : Form → List Token → Read
-ahead f ts = reader false false nowhere f none ts
+ahead f ts = reader no_rule false nowhere f none ts
 
 -- two parts that were read: what each left
 pub ahead_seq : (f g : Form) (ts : List Token) (y : Node × List Token) → ahead (seq f g) ts ≡ Ok y → (a : Node × List Token) × (b : Node × List Token) × (ahead f ts ≡ Ok a) × (ahead g a.1 ≡ Ok b) × (b.1 ≡ y.1)
@@ -104,8 +104,8 @@ ahead_act make f ts y e =
 pub ahead_begins : (f : Form) → can_be_empty f ≡ false → (ts : List Token) (y : Node × List Token) → ahead f ts ≡ Ok y → begins (starts f) ts ≡ true
 ahead_begins f some ts y e =
     let I : Nest → Node → Node → List Token → Type 0 = λ n env v us. ⊥ in
-    let p = reader_sound false false false (allows_same false) nowhere I (λ n env us v rest h. absurd cc) f none ts y.0 y.1 e in
-    let opens : Opens false (starts f) p.text = subst (λ (b : Bool). Opens b (starts f) p.text) some (derives_opens false I (λ n env v us h. absurd h) f none y.0 p.text p.is) in
+    let p = reader_sound no_rule no_rule false (allows_same no_rule) nowhere I (λ n env us v rest h. absurd cc) f none ts y.0 y.1 e in
+    let opens : Opens false (starts f) p.text = subst (λ (b : Bool). Opens b (starts f) p.text) some (derives_opens no_rule I (λ n env v us h. absurd h) f none y.0 p.text p.is) in
     ap (begins (starts f)) p.parts ∙ begins_with (starts f) p.text y.1 opens
 
 -- a token that was read may be kept or not

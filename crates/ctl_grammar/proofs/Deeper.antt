@@ -6,7 +6,7 @@ use Rattle.ctl_tree.specs.declared.token.Token.{Token}
 use Rattle.ctl_grammar.specs.declared.refused.Reason.{Reason}
 use Rattle.ctl_grammar.specs.declared.refused.Reason.TheVariants.{Unexpected, TooDeep}
 use Rattle.ctl_grammar.specs.Kind.{same_kind}
-use Rattle.ctl_grammar.specs.Form.{Node, none, leaf, num, written, at, pair, tag, Nest, Rule, Form, word, keep, tested, empty, seq, within, alt, when, many, act, late, nest, starts, nest_starts}
+use Rattle.ctl_grammar.specs.Form.{Node, none, leaf, num, written, at, pair, tag, Nest, Rule, Form, word, keep, tested, empty, seq, within, alt, when, many, act, late, nest, starts, nest_starts, Rules}
 use Rattle.ctl_grammar.specs.Grammar.{body}
 use Rattle.ctl_grammar.specs.Reading.{Read, ◌>>=◌, broken, tested_at, begins, both, repeat, all_of, reader, construct}
 use Rattle.ctl_grammar.specs.Derivation.{Split, Row, Both, Derives, Construct, AnyConstruct}
@@ -46,20 +46,20 @@ repeat_agrees lost go r s h (suc n) ts =
     (inl refl)
 
 -- the second allows what the first allows, or a broken rule is one of the reasons
-abbrev pub Frees : (Reason → Bool) → Bool → Bool → Type 0
-Frees lost c d = (rule : Rule) (b : Bool) → ((b || not d) ≡ (b || not c)) ⊎ (((b || not c) ≡ false) × (lost (broken rule) ≡ true))
+abbrev pub Frees : (Reason → Bool) → Rules → Rules → Type 0
+Frees lost c d = (rule : Rule) (b : Bool) → ((b || not (d rule)) ≡ (b || not (c rule))) ⊎ (((b || not (c rule)) ≡ false) × (lost (broken rule) ≡ true))
 
-tested_agrees : (lost : Reason → Bool) (c d : Bool) → Frees lost c d → (k : Kind) (test : Token → Bool) (rule : Rule) → Agrees lost (tested_at c k test rule) (tested_at d k test rule)
+tested_agrees : (lost : Reason → Bool) (c d : Rules) → Frees lost c d → (k : Kind) (test : Token → Bool) (rule : Rule) → Agrees lost (tested_at c k test rule) (tested_at d k test rule)
 tested_agrees lost c d frees k test rule [] = inl refl
 tested_agrees lost c d frees k test rule (t ∷ ts) =
-    cond_agrees lost (same_kind k t.kind) (cond (test t || not c) (Ok (leaf t, ts)) (Err (broken rule, t ∷ ts))) (cond (test t || not d) (Ok (leaf t, ts)) (Err (broken rule, t ∷ ts))) (Err (Unexpected, t ∷ ts)) (Err (Unexpected, t ∷ ts))
+    cond_agrees lost (same_kind k t.kind) (cond (test t || not (c rule)) (Ok (leaf t, ts)) (Err (broken rule, t ∷ ts))) (cond (test t || not (d rule)) (Ok (leaf t, ts)) (Err (broken rule, t ∷ ts))) (Err (Unexpected, t ∷ ts)) (Err (Unexpected, t ∷ ts))
     (elim (frees rule (test t)) [
       | inl e ↦ inl (ap (λ (b : Bool). cond {A = Read} b (Ok (leaf t, ts)) (Err (broken rule, t ∷ ts))) e)
       | inr e ↦ inr (broken rule, t ∷ ts, ap (λ (b : Bool). cond {A = Read} b (Ok (leaf t, ts)) (Err (broken rule, t ∷ ts))) e.0, e.1)
     ])
     (inl refl)
 
-reader_agrees : (lost : Reason → Bool) (c d : Bool) → Frees lost c d → (less more : Nest → Node → List Token → Read) → ((n : Nest) (env : Node) → Agrees lost (less n env) (more n env))
+reader_agrees : (lost : Reason → Bool) (c d : Rules) → Frees lost c d → (less more : Nest → Node → List Token → Read) → ((n : Nest) (env : Node) → Agrees lost (less n env) (more n env))
     → (f : Form) (env : Node) → Agrees lost (reader c false less f env) (reader d false more f env)
 unfolding all_of
 reader_agrees lost c d frees less more h (word k) env ts = inl refl
@@ -86,7 +86,7 @@ reader_agrees lost c d frees less more h (late head f) env ts =
     ]
 reader_agrees lost c d frees less more h (nest n) env ts = h n env ts
 
-construct_agrees_one : (lost : Reason → Bool) (c d : Bool) → Frees lost c d → lost TooDeep ≡ true → (left extra : ℕ) (n : Nest) (env : Node) → Agrees lost (construct c false left n env) (construct d false (left + extra) n env)
+construct_agrees_one : (lost : Reason → Bool) (c d : Rules) → Frees lost c d → lost TooDeep ≡ true → (left extra : ℕ) (n : Nest) (env : Node) → Agrees lost (construct c false left n env) (construct d false (left + extra) n env)
 unfolding construct
 construct_agrees_one lost c d frees deep zero extra n env ts =
     let outside : (b : Bool) → begins (nest_starts n) ts ≡ b → (construct d false (zero + extra) n env ts ≡ cond b (Err (TooDeep, ts)) (Err (Unexpected, ts))) ⊎ Stopped lost (cond b (Err (TooDeep, ts)) (Err (Unexpected, ts))) = elim [
@@ -101,8 +101,19 @@ construct_agrees_one lost c d frees deep (suc left) extra n env ts =
     (reader_agrees lost c d frees (construct c false left) (construct d false (left + extra)) (construct_agrees_one lost c d frees deep left extra) (body n) env ts) (inl refl) in
     subst (λ (m : ℕ). (construct d false m n env ts ≡ construct c false (suc left) n env ts) ⊎ Stopped lost (construct c false (suc left) n env ts)) (sym sum) inside
 
-pub read_agrees : (lost : Reason → Bool) (c d : Bool) → Frees lost c d → lost TooDeep ≡ true → (left extra : ℕ) (f : Form) (env : Node) → Agrees lost (reader c false (construct c false left) f env) (reader d false (construct d false (left + extra)) f env)
+pub read_agrees : (lost : Reason → Bool) (c d : Rules) → Frees lost c d → lost TooDeep ≡ true → (left extra : ℕ) (f : Form) (env : Node) → Agrees lost (reader c false (construct c false left) f env) (reader d false (construct d false (left + extra)) f env)
 read_agrees lost c d frees deep left extra f env = reader_agrees lost c d frees (construct c false left) (construct d false (left + extra)) (construct_agrees_one lost c d frees deep left extra) f env
+
+-- in the same room
+construct_agrees_beside : (lost : Reason → Bool) (c d : Rules) → Frees lost c d → (left : ℕ) (n : Nest) (env : Node) → Agrees lost (construct c false left n env) (construct d false left n env)
+unfolding construct
+construct_agrees_beside lost c d frees zero n env ts = inl refl
+construct_agrees_beside lost c d frees (suc left) n env ts =
+    cond_agrees lost (begins (nest_starts n) ts) (reader c false (construct c false left) (body n) env ts) (reader d false (construct d false left) (body n) env ts) (Err (Unexpected, ts)) (Err (Unexpected, ts))
+    (reader_agrees lost c d frees (construct c false left) (construct d false left) (construct_agrees_beside lost c d frees left) (body n) env ts) (inl refl)
+
+pub read_agrees_beside : (lost : Reason → Bool) (c d : Rules) → Frees lost c d → (left : ℕ) (f : Form) (env : Node) → Agrees lost (reader c false (construct c false left) f env) (reader d false (construct d false left) f env)
+read_agrees_beside lost c d frees left f env = reader_agrees lost c d frees (construct c false left) (construct d false left) (construct_agrees_beside lost c d frees left) f env
 
 -- ---- the same for what is derived
 
@@ -126,10 +137,10 @@ both_within P R Q S h k v ts p =
     let q = both_parts P Q v ts p in
     both_made R S v q.0 q.1 ts q.2 (q.3.0, q.3.1, q.3.2, h q.0 q.3.0 q.3.3, k q.0 q.1 q.3.1 q.3.4)
 
-pub derives_within : (c d : Bool) → Allows c d → (I J : Nest → Node → Node → List Token → Type 0) → ((n : Nest) (env : Node) → Within (I n env) (J n env)) → (f : Form) (env : Node) → Within (Derives c I f env) (Derives d J f env)
+pub derives_within : (c d : Rules) → Allows c d → (I J : Nest → Node → Node → List Token → Type 0) → ((n : Nest) (env : Node) → Within (I n env) (J n env)) → (f : Form) (env : Node) → Within (Derives c I f env) (Derives d J f env)
 derives_within c d al I J h (word k) env v ts p = p
 derives_within c d al I J h (keep k) env v ts p = p
-derives_within c d al I J h (tested k test rule) env v ts p = (p.0, p.1, p.2, p.3, al (test env p.0) p.4)
+derives_within c d al I J h (tested k test rule) env v ts p = (p.0, p.1, p.2, p.3, al rule (test env p.0) p.4)
 derives_within c d al I J h empty env v ts p = p
 derives_within c d al I J h (seq f g) env v ts p = both_within (Derives c I f env) (Derives d J f env) (λ a. Derives c I g env) (λ a. Derives d J g env) (derives_within c d al I J h f env) (λ a. derives_within c d al I J h g env) v ts p
 derives_within c d al I J h (within f pick g) env v ts p = both_within (Derives c I f env) (Derives d J f env) (λ a. Derives c I g (pick a)) (λ a. Derives d J g (pick a)) (derives_within c d al I J h f env) (λ a. derives_within c d al I J h g (pick a)) v ts p
@@ -140,25 +151,25 @@ derives_within c d al I J h (act make f) env v ts p = (p.0, p.1, derives_within 
 derives_within c d al I J h (late head f) env v ts p = derives_within c d al I J h f env v ts p
 derives_within c d al I J h (nest n) env v ts p = h n env v ts p
 
-pub construct_within : (c d : Bool) → Allows c d → (left extra : ℕ) (n : Nest) (env : Node) → Within (Construct c left n env) (Construct d (left + extra) n env)
+pub construct_within : (c d : Rules) → Allows c d → (left extra : ℕ) (n : Nest) (env : Node) → Within (Construct c left n env) (Construct d (left + extra) n env)
 construct_within c d al zero extra n env v ts p = absurd p
 construct_within c d al (suc left) extra n env v ts p =
     let sum : suc left + extra ≡ suc (left + extra) = omega arith in
     subst (λ (m : ℕ). Construct d m n env v ts) (sym sum) (derives_within c d al (Construct c left) (Construct d (left + extra)) (construct_within c d al left extra) (body n) env v ts p)
 
 -- more room, and fewer rules
-pub deeper : (c d : Bool) → Allows c d → (left more extra : ℕ) (f : Form) (env : Node) → left + extra ≡ more → Within (Derives c (Construct c left) f env) (Derives d (Construct d more) f env)
+pub deeper : (c d : Rules) → Allows c d → (left more extra : ℕ) (f : Form) (env : Node) → left + extra ≡ more → Within (Derives c (Construct c left) f env) (Derives d (Construct d more) f env)
 deeper c d al left more extra f env e v ts p = subst (λ (m : ℕ). Derives d (Construct d m) f env v ts) e (derives_within c d al (Construct c left) (Construct d (left + extra)) (construct_within c d al left extra) f env v ts p)
 
-abbrev Gathers : Bool → (Node → List Token → Type 0) → (ℕ → Node → List Token → Type 0) → Type 0
+abbrev Gathers : Rules → (Node → List Token → Type 0) → (ℕ → Node → List Token → Type 0) → Type 0
 Gathers c P Q = (v : Node) (ts : List Token) → P v ts → (d : ℕ) × Q d v ts
 
-row_gather : (c : Bool) (f : Form) (env : Node) → Gathers c (Derives c (AnyConstruct c) f env) (λ d. Derives c (Construct c d) f env) → Gathers c (Row (Derives c (AnyConstruct c) f env)) (λ d. Row (Derives c (Construct c d) f env))
+row_gather : (c : Rules) (f : Form) (env : Node) → Gathers c (Derives c (AnyConstruct c) f env) (λ d. Derives c (Construct c d) f env) → Gathers c (Row (Derives c (AnyConstruct c) f env)) (λ d. Row (Derives c (Construct c d) f env))
 row_gather c f env h none ts p = (0, p)
 row_gather c f env h (pair a b) ts p =
     let one = h a p.0 p.3 in
     let two = row_gather c f env h b p.1 p.4 in
-    let same : Allows c c = λ x e. e in
+    let same : Allows c c = λ rule x e. e in
     (one.0 + two.0, (p.0, p.1, p.2, deeper c c same one.0 (one.0 + two.0) two.0 f env refl a p.0 one.1, deeper c c same two.0 (one.0 + two.0) one.0 (many f) env (omega arith) b p.1 two.1))
 row_gather c f env h (leaf t) ts p = absurd p
 row_gather c f env h (num n) ts p = absurd p
@@ -166,20 +177,20 @@ row_gather c f env h (written s) ts p = absurd p
 row_gather c f env h (at q) ts p = absurd p
 row_gather c f env h (tag n v) ts p = absurd p
 
-both_gather : (c : Bool) (f g : Form) (env : Node) (pick : Node → Node) → Gathers c (Derives c (AnyConstruct c) f env) (λ d. Derives c (Construct c d) f env) → ((a : Node) → Gathers c (Derives c (AnyConstruct c) g (pick a)) (λ d. Derives c (Construct c d) g (pick a)))
+both_gather : (c : Rules) (f g : Form) (env : Node) (pick : Node → Node) → Gathers c (Derives c (AnyConstruct c) f env) (λ d. Derives c (Construct c d) f env) → ((a : Node) → Gathers c (Derives c (AnyConstruct c) g (pick a)) (λ d. Derives c (Construct c d) g (pick a)))
     → Gathers c (Both (Derives c (AnyConstruct c) f env) (λ a. Derives c (AnyConstruct c) g (pick a))) (λ d. Both (Derives c (Construct c d) f env) (λ a. Derives c (Construct c d) g (pick a)))
 both_gather c f g env pick hf hg v ts p =
     let q = both_parts (Derives c (AnyConstruct c) f env) (λ a. Derives c (AnyConstruct c) g (pick a)) v ts p in
     let one = hf q.0 q.3.0 q.3.3 in
     let two = hg q.0 q.1 q.3.1 q.3.4 in
-    let same : Allows c c = λ x e. e in (
+    let same : Allows c c = λ rule x e. e in (
       one.0 + two.0,
       both_made (Derives c (Construct c (one.0 + two.0)) f env) (λ a. Derives c (Construct c (one.0 + two.0)) g (pick a)) v q.0 q.1 ts q.2
           (q.3.0, q.3.1, q.3.2, deeper c c same one.0 (one.0 + two.0) two.0 f env refl q.0 q.3.0 one.1, deeper c c same two.0 (one.0 + two.0) one.0 g (pick q.0) (omega arith) q.1 q.3.1 two.1),
     )
 
 -- the depths of the parts are below one depth
-pub gather : (c : Bool) (f : Form) (env : Node) → Gathers c (Derives c (AnyConstruct c) f env) (λ d. Derives c (Construct c d) f env)
+pub gather : (c : Rules) (f : Form) (env : Node) → Gathers c (Derives c (AnyConstruct c) f env) (λ d. Derives c (Construct c d) f env)
 gather c (word k) env v ts p = (0, p)
 gather c (keep k) env v ts p = (0, p)
 gather c (tested k test rule) env v ts p = (0, p)

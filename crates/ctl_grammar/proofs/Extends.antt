@@ -6,7 +6,7 @@ use Rattle.ctl_tree.specs.declared.token.Token.{Token}
 use Rattle.ctl_grammar.specs.declared.refused.Reason.{Reason}
 use Rattle.ctl_grammar.specs.declared.refused.Reason.TheVariants.{Unexpected, TooDeep}
 use Rattle.ctl_grammar.specs.Kind.{code, same_kind}
-use Rattle.ctl_grammar.specs.Form.{Node, none, leaf, num, written, at, pair, tag, Nest, Rule, Form, word, keep, tested, empty, seq, within, alt, when, many, act, late, nest, starts, nest_starts}
+use Rattle.ctl_grammar.specs.Form.{Node, none, leaf, num, written, at, pair, tag, Nest, Rule, Form, word, keep, tested, empty, seq, within, alt, when, many, act, late, nest, starts, nest_starts, Rules, no_rule}
 use Rattle.ctl_grammar.specs.Grammar.{body}
 use Rattle.ctl_grammar.specs.Reading.{Read, ◌>>=◌, broken, token_at, tested_at, begins, both, repeat, all_of, reader, construct}
 use Rattle.ctl_grammar.specs.Derivation.{Row, Both, Derives, AnyConstruct}
@@ -37,7 +37,7 @@ token_of k = record { kind = k; span = record { line = 1; column = 1 }; text = [
 same_kind_self : (k : Kind) → same_kind k k ≡ true
 same_kind_self k = eq-eqb (code k) (code k) refl
 
-free : (b : Bool) → (b || not false) ≡ true
+pub free : (b : Bool) → (b || not false) ≡ true
 free true = refl
 free false = refl
 
@@ -48,7 +48,7 @@ err_place (Err d) f e h = inl h
 abbrev pub SampleAll : (Nest → Node → Node → List Token → Type 0) → Type 0
 SampleAll I = (n : Nest) (env : Node) → Sample (I n env)
 
-pub sample : (I : Nest → Node → Node → List Token → Type 0) → SampleAll I → (f : Form) (env : Node) → Sample (Derives false I f env)
+pub sample : (I : Nest → Node → Node → List Token → Type 0) → SampleAll I → (f : Form) (env : Node) → Sample (Derives no_rule I f env)
 unfolding token_of
 sample I h (word k) env = record { node = none; text = token_of k ∷ []; is = (token_of k, same_kind_self k, refl, refl) }
 sample I h (keep k) env = record { node = leaf (token_of k); text = token_of k ∷ []; is = (token_of k, same_kind_self k, refl, refl) }
@@ -79,15 +79,15 @@ token_extends P s k make (t ∷ ts) f rest h =
       | false ↦ λ e. at_once P s (t ∷ ts) Unexpected f rest e
     ] in go (same_kind k t.kind) h
 
-tested_extends : (P : Node → List Token → Type 0) → Sample P → (c : Bool) (k : Kind) (test : Token → Bool) (rule : Rule) → Extends P (tested_at c k test rule)
+tested_extends : (P : Node → List Token → Type 0) → Sample P → (c : Rules) (k : Kind) (test : Token → Bool) (rule : Rule) → Extends P (tested_at c k test rule)
 tested_extends P s c k test rule [] f rest h = at_once P s [] Unexpected f rest h
 tested_extends P s c k test rule (t ∷ ts) f rest h =
     let allowed : (b : Bool) → cond {A = Read} b (Ok (leaf t, ts)) (Err (broken rule, t ∷ ts)) ≡ Err (f, rest) → Extendable P (t ∷ ts) rest = elim [
       | true ↦ λ e. absurd cc
       | false ↦ λ e. at_once P s (t ∷ ts) (broken rule) f rest e
     ] in
-    let go : (b : Bool) → cond {A = Read} b (cond (test t || not c) (Ok (leaf t, ts)) (Err (broken rule, t ∷ ts))) (Err (Unexpected, t ∷ ts)) ≡ Err (f, rest) → Extendable P (t ∷ ts) rest = elim [
-      | true ↦ λ e. allowed (test t || not c) e
+    let go : (b : Bool) → cond {A = Read} b (cond (test t || not (c rule)) (Ok (leaf t, ts)) (Err (broken rule, t ∷ ts))) (Err (Unexpected, t ∷ ts)) ≡ Err (f, rest) → Extendable P (t ∷ ts) rest = elim [
+      | true ↦ λ e. allowed (test t || not (c rule)) e
       | false ↦ λ e. at_once P s (t ∷ ts) Unexpected f rest e
     ] in go (same_kind k t.kind) h
 
@@ -134,36 +134,36 @@ repeat_extends P go r hr sr (suc n) ts f rest h =
 abbrev pub ExtendsAll : (Nest → Node → Node → List Token → Type 0) → (Nest → Node → List Token → Read) → Type 0
 ExtendsAll I inner = (n : Nest) (env : Node) → Extends (I n env) (inner n env)
 
-pub reader_extends : (c : Bool) (inner : Nest → Node → List Token → Read) (I : Nest → Node → Node → List Token → Type 0) → SampleAll I → SoundAll I inner → ExtendsAll I inner → (f : Form) (env : Node) → Extends (Derives false I f env) (reader c false inner f env)
+pub reader_extends : (c : Rules) (inner : Nest → Node → List Token → Read) (I : Nest → Node → Node → List Token → Type 0) → SampleAll I → SoundAll I inner → ExtendsAll I inner → (f : Form) (env : Node) → Extends (Derives no_rule I f env) (reader c false inner f env)
 unfolding all_of
-reader_extends c inner I hx hs h (word k) env = token_extends (Derives false I (word k) env) (sample I hx (word k) env) k (λ t. none)
-reader_extends c inner I hx hs h (keep k) env = token_extends (Derives false I (keep k) env) (sample I hx (keep k) env) k (λ t. leaf t)
-reader_extends c inner I hx hs h (tested k test rule) env = tested_extends (Derives false I (tested k test rule) env) (sample I hx (tested k test rule) env) c k (test env) rule
+reader_extends c inner I hx hs h (word k) env = token_extends (Derives no_rule I (word k) env) (sample I hx (word k) env) k (λ t. none)
+reader_extends c inner I hx hs h (keep k) env = token_extends (Derives no_rule I (keep k) env) (sample I hx (keep k) env) k (λ t. leaf t)
+reader_extends c inner I hx hs h (tested k test rule) env = tested_extends (Derives no_rule I (tested k test rule) env) (sample I hx (tested k test rule) env) c k (test env) rule
 reader_extends c inner I hx hs h empty env = λ ts f rest e. absurd cc
 reader_extends c inner I hx hs h (seq f g) env =
-    both_extends (Derives false I f env) (λ a. Derives false I g env) (reader c false inner f env) (λ a. reader c false inner g env)
-    (reader_extends c inner I hx hs h f env) (reader_sound c false false (allows_more c) inner I hs f env) (λ a. reader_extends c inner I hx hs h g env) (λ a. sample I hx g env)
+    both_extends (Derives no_rule I f env) (λ a. Derives no_rule I g env) (reader c false inner f env) (λ a. reader c false inner g env)
+    (reader_extends c inner I hx hs h f env) (reader_sound c no_rule false (allows_more c) inner I hs f env) (λ a. reader_extends c inner I hx hs h g env) (λ a. sample I hx g env)
 reader_extends c inner I hx hs h (within f pick g) env =
-    both_extends (Derives false I f env) (λ a. Derives false I g (pick a)) (reader c false inner f env) (λ a. reader c false inner g (pick a))
-    (reader_extends c inner I hx hs h f env) (reader_sound c false false (allows_more c) inner I hs f env) (λ a. reader_extends c inner I hx hs h g (pick a)) (λ a. sample I hx g (pick a))
+    both_extends (Derives no_rule I f env) (λ a. Derives no_rule I g (pick a)) (reader c false inner f env) (λ a. reader c false inner g (pick a))
+    (reader_extends c inner I hx hs h f env) (reader_sound c no_rule false (allows_more c) inner I hs f env) (λ a. reader_extends c inner I hx hs h g (pick a)) (λ a. sample I hx g (pick a))
 reader_extends c inner I hx hs h (alt f g) env = λ ts d rest e.
     let hf = reader_extends c inner I hx hs h f env ts d rest in
     let hg = reader_extends c inner I hx hs h g env ts d rest in
-    let split : (b : Bool) → cond {A = Read} b (reader c false inner f env ts) (reader c false inner g env ts) ≡ Err (d, rest) → Extendable (Derives false I (alt f g) env) ts rest = elim [
-      | true ↦ λ k. weaken (Derives false I f env) (Derives false I (alt f g) env) (λ v us. inl) ts rest (hf k)
-      | false ↦ λ k. weaken (Derives false I g env) (Derives false I (alt f g) env) (λ v us. inr) ts rest (hg k)
+    let split : (b : Bool) → cond {A = Read} b (reader c false inner f env ts) (reader c false inner g env ts) ≡ Err (d, rest) → Extendable (Derives no_rule I (alt f g) env) ts rest = elim [
+      | true ↦ λ k. weaken (Derives no_rule I f env) (Derives no_rule I (alt f g) env) (λ v us. inl) ts rest (hf k)
+      | false ↦ λ k. weaken (Derives no_rule I g env) (Derives no_rule I (alt f g) env) (λ v us. inr) ts rest (hg k)
     ] in split (begins (starts f) ts) e
 reader_extends c inner I hx hs h (when test f) env = λ ts d rest e.
     let hf = reader_extends c inner I hx hs h f env ts d rest in
-    let split : (b : Bool) → test env ≡ b → cond {A = Read} (b && begins (starts f) ts) (reader c false inner f env ts) (Ok (none, ts)) ≡ Err (d, rest) → Extendable (Derives false I (when test f) env) ts rest = elim [
+    let split : (b : Bool) → test env ≡ b → cond {A = Read} (b && begins (starts f) ts) (reader c false inner f env ts) (Ok (none, ts)) ≡ Err (d, rest) → Extendable (Derives no_rule I (when test f) env) ts rest = elim [
       | true ↦ λ is k.
-          let go : (b : Bool) → cond {A = Read} b (reader c false inner f env ts) (Ok (none, ts)) ≡ Err (d, rest) → Extendable (Derives false I (when test f) env) ts rest = elim [
-            | true ↦ λ k. weaken (Derives false I f env) (Derives false I (when test f) env) (λ v us p. inl (is, p)) ts rest (hf k)
+          let go : (b : Bool) → cond {A = Read} b (reader c false inner f env ts) (Ok (none, ts)) ≡ Err (d, rest) → Extendable (Derives no_rule I (when test f) env) ts rest = elim [
+            | true ↦ λ k. weaken (Derives no_rule I f env) (Derives no_rule I (when test f) env) (λ v us p. inl (is, p)) ts rest (hf k)
             | false ↦ λ k. absurd cc
           ] in go (begins (starts f) ts) k
       | false ↦ λ is k. absurd cc
     ] in split (test env) refl e
-reader_extends c inner I hx hs h (many f) env = λ ts. repeat_extends (Derives false I f env) (begins (starts f)) (reader c false inner f env) (reader_extends c inner I hx hs h f env) (reader_sound c false false (allows_more c) inner I hs f env) (length ts) ts
+reader_extends c inner I hx hs h (many f) env = λ ts. repeat_extends (Derives no_rule I f env) (begins (starts f)) (reader c false inner f env) (reader_extends c inner I hx hs h f env) (reader_sound c no_rule false (allows_more c) inner I hs f env) (length ts) ts
 reader_extends c inner I hx hs h (act make f) env = λ ts d rest e. elim (err_place (reader c false inner f env ts) (λ x. Ok (make x.0, x.1)) (d, rest) e) [
   | inl k ↦ let p = reader_extends c inner I hx hs h f env ts d rest k in record { front = p.front; more = p.more; node = make p.node; parts = p.parts; is = (p.node, refl, p.is) }
   | inr w ↦ let no = w.2 in absurd cc
@@ -172,23 +172,23 @@ reader_extends c inner I hx hs h (late head f) env = λ ts d rest e.
     reader_extends c inner I hx hs h f env ts d rest (sym (from_here_same ts (reader c false inner f env ts)) ∙ e)
 reader_extends c inner I hx hs h (nest n) env = h n env
 
-any_sound : (c : Bool) (left : ℕ) → SoundAll (AnyConstruct false) (construct c false left)
-any_sound c left n env ts v rest e = let p = construct_sound c false false (allows_more c) left n env ts v rest e in record { text = p.text; is = (left, p.is); parts = p.parts }
+any_sound : (c : Rules) (left : ℕ) → SoundAll (AnyConstruct no_rule) (construct c false left)
+any_sound c left n env ts v rest e = let p = construct_sound c no_rule false (allows_more c) left n env ts v rest e in record { text = p.text; is = (left, p.is); parts = p.parts }
 
-pub construct_extends : (c : Bool) → SampleAll (AnyConstruct false) → (left : ℕ) → ExtendsAll (AnyConstruct false) (construct c false left)
+pub construct_extends : (c : Rules) → SampleAll (AnyConstruct no_rule) → (left : ℕ) → ExtendsAll (AnyConstruct no_rule) (construct c false left)
 unfolding construct
 construct_extends c hx zero n env ts f rest e =
-    let split : (b : Bool) → cond {A = Read} b (Err (TooDeep, ts)) (Err (Unexpected, ts)) ≡ Err (f, rest) → Extendable (AnyConstruct false n env) ts rest = elim [
-      | true ↦ λ k. at_once (AnyConstruct false n env) (hx n env) ts TooDeep f rest k
-      | false ↦ λ k. at_once (AnyConstruct false n env) (hx n env) ts Unexpected f rest k
+    let split : (b : Bool) → cond {A = Read} b (Err (TooDeep, ts)) (Err (Unexpected, ts)) ≡ Err (f, rest) → Extendable (AnyConstruct no_rule n env) ts rest = elim [
+      | true ↦ λ k. at_once (AnyConstruct no_rule n env) (hx n env) ts TooDeep f rest k
+      | false ↦ λ k. at_once (AnyConstruct no_rule n env) (hx n env) ts Unexpected f rest k
     ] in split (begins (nest_starts n) ts) e
 construct_extends c hx (suc left) n env ts f rest e =
-    let inside = reader_extends c (construct c false left) (AnyConstruct false) hx (any_sound c left) (construct_extends c hx left) (body n) env ts f rest in
-    let up : (v : Node) (us : List Token) → Derives false (AnyConstruct false) (body n) env v us → AnyConstruct false n env v us = λ v us p. let q = gather false (body n) env v us p in (suc q.0, q.1) in
-    let split : (b : Bool) → cond {A = Read} b (reader c false (construct c false left) (body n) env ts) (Err (Unexpected, ts)) ≡ Err (f, rest) → Extendable (AnyConstruct false n env) ts rest = elim [
-      | true ↦ λ k. weaken (Derives false (AnyConstruct false) (body n) env) (AnyConstruct false n env) up ts rest (inside k)
-      | false ↦ λ k. at_once (AnyConstruct false n env) (hx n env) ts Unexpected f rest k
+    let inside = reader_extends c (construct c false left) (AnyConstruct no_rule) hx (any_sound c left) (construct_extends c hx left) (body n) env ts f rest in
+    let up : (v : Node) (us : List Token) → Derives no_rule (AnyConstruct no_rule) (body n) env v us → AnyConstruct no_rule n env v us = λ v us p. let q = gather no_rule (body n) env v us p in (suc q.0, q.1) in
+    let split : (b : Bool) → cond {A = Read} b (reader c false (construct c false left) (body n) env ts) (Err (Unexpected, ts)) ≡ Err (f, rest) → Extendable (AnyConstruct no_rule n env) ts rest = elim [
+      | true ↦ λ k. weaken (Derives no_rule (AnyConstruct no_rule) (body n) env) (AnyConstruct no_rule n env) up ts rest (inside k)
+      | false ↦ λ k. at_once (AnyConstruct no_rule n env) (hx n env) ts Unexpected f rest k
     ] in split (begins (nest_starts n) ts) e
 
-pub read_extends : (c : Bool) → SampleAll (AnyConstruct false) → (left : ℕ) (f : Form) (env : Node) → Extends (Derives false (AnyConstruct false) f env) (reader c false (construct c false left) f env)
-read_extends c hx left f env = reader_extends c (construct c false left) (AnyConstruct false) hx (any_sound c left) (construct_extends c hx left) f env
+pub read_extends : (c : Rules) → SampleAll (AnyConstruct no_rule) → (left : ℕ) (f : Form) (env : Node) → Extends (Derives no_rule (AnyConstruct no_rule) f env) (reader c false (construct c false left) f env)
+read_extends c hx left f env = reader_extends c (construct c false left) (AnyConstruct no_rule) hx (any_sound c left) (construct_extends c hx left) f env

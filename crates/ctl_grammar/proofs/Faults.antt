@@ -5,20 +5,35 @@ use Rattle.ctl_tree.specs.declared.fault.Fault.{Fault}
 use Rattle.ctl_tree.specs.declared.token.Token.{Token}
 use Rattle.ctl_grammar.specs.declared.refused.Reason.{Reason}
 use Rattle.ctl_grammar.specs.declared.refused.Reason.TheVariants.{Unexpected, TooDeep, LeftOut, EndName}
-use Rattle.ctl_grammar.specs.Form.{Node}
+use Rattle.ctl_grammar.specs.Form.{Node, none, Known, Ends, every_rule}
+use Rattle.ctl_grammar.specs.Grammar.{program}
 use Rattle.ctl_grammar.specs.Reading.{Read}
-use Rattle.ctl_grammar.specs.Text.{IsProgram, answer}
-use Rattle.ctl_grammar.specs.Fault.{fault_at, HasGrammarFault, IsFirst, FaultsAreFirst, ProgramOrFault, OneOfBoth}
-use Rattle.ctl_grammar.proofs.Programs.{reads_what_is_spelled, spells_what_is_read, finds_the_unexpected, finds_the_left_out, finds_the_end_name, finds_the_too_deep}
+use Rattle.ctl_grammar.specs.Text.{IsProgram, answer, IsRefused, IsRefusedForDepth}
+use Rattle.ctl_grammar.specs.Fault.{fault_at, HasGrammarFault, IsFirst, FaultsAreFirst, BreaksAreFaults, ProgramOrFault, OneOfBoth}
+use Rattle.ctl_grammar.proofs.Programs.{reads_what_is_spelled, spells_what_is_read, finds_the_unexpected, finds_the_left_out, finds_the_end_name, inside, first_refused}
+use Rattle.ctl_grammar.proofs.Moved.{read_alike}
+use Rattle.ctl_grammar.proofs.Told.{finds, tells, names_refuse_alone, depth_alone}
+
+-- the token that is refused for the depth
+deep_first : (left : ℕ) (ts rest : List Token) → answer left ts ≡ Err (TooDeep, rest) → (there : List Token) × IsRefused left ts there × IsRefusedForDepth left ts there
+deep_first left ts rest e =
+    let k = inside left TooDeep ts rest (λ h. absurd cc) e in
+    elim (read_alike every_rule left program none ts) [
+      | inl same ↦ (rest, first_refused left TooDeep ts rest (same ∙ k), depth_alone left ts rest (same ∙ k))
+      | inr deep ↦ (deep.1.0, first_refused left TooDeep ts deep.1.0 deep.1.1, depth_alone left ts deep.1.0 deep.1.1)
+    ]
 
 first : (left : ℕ) (ts rest : List Token) (reason : Reason) → answer left ts ≡ Err (reason, rest) → IsFirst reason left ts rest
 first left ts rest Unexpected e = finds_the_unexpected left ts rest e
-first left ts rest TooDeep e = finds_the_too_deep left ts rest e
-first left ts rest LeftOut e = finds_the_left_out left ts rest e
-first left ts rest EndName e = finds_the_end_name left ts rest e
+first left ts rest TooDeep e = (deep_first left ts rest e, finds TooDeep refl left ts rest e)
+first left ts rest LeftOut e = (finds_the_left_out left ts rest e, names_refuse_alone Known left ts rest e, finds LeftOut refl left ts rest e)
+first left ts rest EndName e = (finds_the_end_name left ts rest e, names_refuse_alone Ends left ts rest e, finds EndName refl left ts rest e)
 
 pub faults_are_first : FaultsAreFirst
 faults_are_first left ts fault h = (h.0, h.1, h.3, first left ts h.1 h.0 h.2)
+
+pub breaks_are_faults : BreaksAreFaults
+breaks_are_faults left ts place reason p = (reason, place, tells reason left ts place p, refl)
 
 pub program_or_fault : ProgramOrFault
 program_or_fault left ts =

@@ -6,7 +6,7 @@ use Rattle.ctl_tree.specs.declared.token.Kind.TheVariants as kinds
 use Rattle.ctl_tree.specs.declared.token.Token.{Token}
 use Rattle.ctl_grammar.specs.declared.refused.Reason.TheVariants.{TooDeep}
 use Rattle.ctl_grammar.specs.Kind.{code, same_kind}
-use Rattle.ctl_grammar.specs.Form.{Node, none, leaf, pair, Nest, Formals, Body, BareBody, Form, word, empty, seq, within, alt, act, late, nest, ◌▸◌, has, is_apart, starts, nest_starts}
+use Rattle.ctl_grammar.specs.Form.{Node, none, leaf, pair, Nest, Formals, Body, BareBody, Form, word, empty, seq, within, alt, act, late, nest, ◌▸◌, has, is_apart, starts, nest_starts, every_rule, no_rule}
 use Rattle.ctl_grammar.specs.Nodes.{first, second, part_2, behind_2, part_3, behind_4, place, yes, part_2_letters}
 use Rattle.ctl_grammar.specs.Grammar.{spot, apart, identifier, selector, selectors, dotted, next_identifier, next_identifiers, identifiers, mode_behind_in, mode, formal, next_formal, formal_list, in_formals, optional_formals, procedure, function, specification, instance, behind, plain_formals, start_of_function, start_of_procedure, start_of_function_body, start_of_body, start_of_bare_body, behind_start, start_of_procedure_body, completed, behind_is, behind_name, heading, plain_procedure, completed_specification, completed_function, completed_procedure}
 use Rattle.ctl_grammar.specs.Reading.{Read, ◌>>=◌, begins, is_read, from_here, nowhere, is_zero, construct, read, starts_too_deep}
@@ -87,7 +87,7 @@ placed k ts a e = let p = kept k (λ t. leaf t) ts a e in (place p.0, ap (λ (o 
 
 -- a simple form that was read ahead
 simply : (f : Form) → is_simple f ≡ true → (ts : List Token) (a : Node × List Token) → ahead f ts ≡ Ok a → full f none ts ≡ Ok a
-simply f h ts a e = simple_same true true false false (construct true true zero) nowhere f h none ts ∙ e
+simply f h ts a e = simple_same every_rule true no_rule false (construct every_rule true zero) nowhere f h none ts ∙ e
 
 -- two parts that are read, one behind the other
 both_read : (f g : Form) (env : Node) (ts : List Token) (x y : Node × List Token) → full f env ts ≡ Ok x → full g env x.1 ≡ Ok y → full (seq f g) env ts ≡ Ok (pair x.0 y.0, y.1)
@@ -280,15 +280,15 @@ procedure_here left ts h =
 
 pub start_alike : (left : ℕ) (ts : List Token) → read left start_of_body none ts ≡ ahead start_of_body ts
 unfolding start_of_body start_of_function start_of_procedure plain_formals in_formals formal_list next_formal formal mode mode_behind_in identifiers next_identifiers next_identifier identifier selector selectors dotted
-start_alike left ts = simple_same true (is_zero left) false false (construct true true left) nowhere start_of_body refl none ts
+start_alike left ts = simple_same every_rule (is_zero left) no_rule false (construct every_rule true left) nowhere start_of_body refl none ts
 
 pub start_of_function_alike : (left : ℕ) (ts : List Token) → read left start_of_function_body none ts ≡ ahead start_of_function_body ts
 unfolding start_of_function_body start_of_function plain_formals in_formals formal_list next_formal formal mode mode_behind_in identifiers next_identifiers next_identifier identifier selector selectors dotted
-start_of_function_alike left ts = simple_same true (is_zero left) false false (construct true true left) nowhere start_of_function_body refl none ts
+start_of_function_alike left ts = simple_same every_rule (is_zero left) no_rule false (construct every_rule true left) nowhere start_of_function_body refl none ts
 
 pub start_of_procedure_alike : (left : ℕ) (ts : List Token) → read left start_of_procedure_body none ts ≡ ahead start_of_procedure_body ts
 unfolding start_of_procedure_body behind_start start_of_bare_body in_formals formal_list next_formal formal mode mode_behind_in identifiers next_identifiers next_identifier identifier selector selectors dotted
-start_of_procedure_alike left ts = simple_same true (is_zero left) false false (construct true true left) nowhere start_of_procedure_body refl none ts
+start_of_procedure_alike left ts = simple_same every_rule (is_zero left) no_rule false (construct every_rule true left) nowhere start_of_procedure_body refl none ts
 
 -- ---- where the tokens ahead begin no body, or another construct may be opened
 

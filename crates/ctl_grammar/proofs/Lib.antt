@@ -17,3 +17,6 @@ pub mod Late
 pub mod Faults
 pub mod First
 pub mod Items
+pub mod Breaks
+pub mod Alone
+pub mod Told

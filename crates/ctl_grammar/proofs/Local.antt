@@ -6,7 +6,7 @@ use Rattle.ctl_tree.specs.declared.token.Token.{Token}
 use Rattle.ctl_grammar.specs.declared.refused.Reason.{Reason}
 use Rattle.ctl_grammar.specs.declared.refused.Reason.TheVariants.{Unexpected, TooDeep}
 use Rattle.ctl_grammar.specs.Kind.{same_kind}
-use Rattle.ctl_grammar.specs.Form.{Node, none, leaf, pair, Nest, Rule, Form, word, keep, tested, empty, seq, within, alt, when, many, act, late, nest, has, can_be_empty, starts, nest_starts, goes_on, is_apart, is_clear}
+use Rattle.ctl_grammar.specs.Form.{Node, none, leaf, pair, Nest, Rule, Form, word, keep, tested, empty, seq, within, alt, when, many, act, late, nest, has, can_be_empty, starts, nest_starts, goes_on, is_apart, is_clear, Rules}
 use Rattle.ctl_grammar.specs.Grammar.{body}
 use Rattle.ctl_grammar.specs.Reading.{Read, ◌>>=◌, broken, token_at, tested_at, begins, both, all_of, from_here, reader, construct}
 use Rattle.ctl_grammar.proofs.Starts.{and_left, and_right, not_true}
@@ -77,10 +77,10 @@ token_local k make (t ∷ ts) =
       | false ↦ λ is. ([], refl, elim [ [] ↦ λ h. absurd h | u ∷ us ↦ λ h. let is_u : same_kind k u.kind ≡ false = subst (λ (w : Token). same_kind k w.kind ≡ false) h is in rw is_u refl ])
     ] in split (same_kind k t.kind) refl
 
-tested_local : (c : Bool) (k : Kind) (test : Token → Bool) (rule : Rule) → Local (tested_at c k test rule)
+tested_local : (c : Rules) (k : Kind) (test : Token → Bool) (rule : Rule) → Local (tested_at c k test rule)
 tested_local c k test rule [] = ([], refl, elim [ [] ↦ λ h. refl | u ∷ us ↦ λ h. absurd h ])
 tested_local c k test rule (t ∷ ts) =
-    let allowed : same_kind k t.kind ≡ true → (b : Bool) → (test t || not c) ≡ b → LocalAt (tested_at c k test rule) (t ∷ ts) (cond b (Ok (leaf t, ts)) (Err (broken rule, t ∷ ts))) = λ is. elim [
+    let allowed : same_kind k t.kind ≡ true → (b : Bool) → (test t || not (c rule)) ≡ b → LocalAt (tested_at c k test rule) (t ∷ ts) (cond b (Ok (leaf t, ts)) (Err (broken rule, t ∷ ts))) = λ is. elim [
       | true ↦ λ ok. (t ∷ [], refl, λ rest h. rw (is, ok) refl)
       | false ↦ λ ok. (
         [],
@@ -89,13 +89,13 @@ tested_local c k test rule (t ∷ ts) =
           | [] ↦ λ h. absurd h
           | u ∷ us ↦ λ h.
               let is_u : same_kind k u.kind ≡ true = subst (λ (w : Token). same_kind k w.kind ≡ true) h is in
-              let ok_u : (test u || not c) ≡ false = subst (λ (w : Token). (test w || not c) ≡ false) h ok in
+              let ok_u : (test u || not (c rule)) ≡ false = subst (λ (w : Token). (test w || not (c rule)) ≡ false) h ok in
               rw (is_u, ok_u) refl
         ],
       )
     ] in
-    let split : (b : Bool) → same_kind k t.kind ≡ b → LocalAt (tested_at c k test rule) (t ∷ ts) (cond b (cond (test t || not c) (Ok (leaf t, ts)) (Err (broken rule, t ∷ ts))) (Err (Unexpected, t ∷ ts))) = elim [
-      | true ↦ λ is. allowed is (test t || not c) refl
+    let split : (b : Bool) → same_kind k t.kind ≡ b → LocalAt (tested_at c k test rule) (t ∷ ts) (cond b (cond (test t || not (c rule)) (Ok (leaf t, ts)) (Err (broken rule, t ∷ ts))) (Err (Unexpected, t ∷ ts))) = elim [
+      | true ↦ λ is. allowed is (test t || not (c rule)) refl
       | false ↦ λ is. ([], refl, elim [ [] ↦ λ h. absurd h | u ∷ us ↦ λ h. let is_u : same_kind k u.kind ≡ false = subst (λ (w : Token). same_kind k w.kind ≡ false) h is in rw is_u refl ])
     ] in split (same_kind k t.kind) refl
 
@@ -137,10 +137,10 @@ both_local r s hr hs ts =
     bind_at r (λ x. s x.0 x.1 >>= λ y. Ok (pair x.0 y.0, y.1)) ts (r ts) (hr ts) (λ x e.
     bind_at (s x.0) (λ y. Ok (pair x.0 y.0, y.1)) x.1 (s x.0 x.1) (hs x.0 x.1) (λ y k. here (pair x.0 y.0) y.1))
 
-abbrev pub ConsumesAll : Bool → (Nest → Node → List Token → Read) → Type 0
+abbrev pub ConsumesAll : Rules → (Nest → Node → List Token → Read) → Type 0
 ConsumesAll c inner = (f : Form) (env : Node) → can_be_empty f ≡ false → Consumes (reader c false inner f env)
 
-pub reader_local : (c : Bool) (inner : Nest → Node → List Token → Read) → ConsumesAll c inner → ((n : Nest) (env : Node) → Local (inner n env)) → (f : Form) → is_clear f ≡ true → (env : Node) → Local (reader c false inner f env)
+pub reader_local : (c : Rules) (inner : Nest → Node → List Token → Read) → ConsumesAll c inner → ((n : Nest) (env : Node) → Local (inner n env)) → (f : Form) → is_clear f ≡ true → (env : Node) → Local (reader c false inner f env)
 reader_local c inner hc h (word k) clear env = token_local k (λ t. none)
 reader_local c inner hc h (keep k) clear env = token_local k (λ t. leaf t)
 reader_local c inner hc h (tested k test rule) clear env = tested_local c k (test env) rule
@@ -175,7 +175,7 @@ reader_local c inner hc h (late head f) clear env = λ ts.
     (carry (reader c false inner f env) (λ us. from_here false us (reader c false inner f env us)) ts (reader c false inner f env ts) (λ us same. from_here_same us (reader c false inner f env us)) (reader_local c inner hc h f clear env ts))
 reader_local c inner hc h (nest n) clear env = h n env
 
-pub construct_local : ((n : Nest) → IsPlain n) → (c : Bool) → ((left : ℕ) → ConsumesAll c (construct c false left)) → (left : ℕ) (n : Nest) (env : Node) → Local (construct c false left n env)
+pub construct_local : ((n : Nest) → IsPlain n) → (c : Rules) → ((left : ℕ) → ConsumesAll c (construct c false left)) → (left : ℕ) (n : Nest) (env : Node) → Local (construct c false left n env)
 unfolding construct
 construct_local plain c hc zero n env = choose_local true (nest_starts n) (λ us. Err (TooDeep, us)) (λ us. Err (Unexpected, us)) (stuck TooDeep) (stuck Unexpected)
 construct_local plain c hc (suc left) n env =

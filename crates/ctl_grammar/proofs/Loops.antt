@@ -4,7 +4,7 @@ use Rattle.ctl_tree.specs.declared.token.Token.{Token}
 use Rattle.ctl_grammar.specs.declared.refused.Reason.{Reason}
 use Rattle.ctl_grammar.specs.declared.refused.Refused.{Refused}
 use Rattle.ctl_grammar.specs.declared.refused.Refused.TheVariants as refused
-use Rattle.ctl_grammar.specs.Form.{Node, none, pair, Form, many, can_be_empty, starts}
+use Rattle.ctl_grammar.specs.Form.{Node, none, pair, Form, many, can_be_empty, starts, every_rule}
 use Rattle.ctl_grammar.specs.Nodes.{row_of, joined_row}
 use Rattle.ctl_grammar.specs.Reading.{Read, ◌>>=◌, Gives, begins, all_of, reader, is_zero, construct, read}
 use Rattle.ctl_grammar.proofs.Rows.{consumes, and_then, all_step, all_stop}
@@ -33,22 +33,22 @@ passes v w (refused.Token f) now o total h k = k f h
 pub gathers : (left now : ℕ) (f : Form) (env : Node) (ts us : List Token) (front new : List Node) (x : Node) (total : Read) → can_be_empty f ≡ false → now ≡ left → begins (starts f) ts ≡ true
     → read now f env ts ≡ Ok (x, us) → new ≡ front ++ x ∷ [] → gathering front (read left (many f) env ts) ≡ total → gathering new (read left (many f) env us) ≡ total
 gathers left now f env ts us front new x total some same b one made so_far =
-    let g = reader true (is_zero left) (construct true true left) f env in
+    let g = reader every_rule (is_zero left) (construct every_rule true left) f env in
     let ks = starts f in
     let here : g ts ≡ Ok (x, us) = ap (λ (n : ℕ). read n f env ts) (sym same) ∙ one in
-    let step = all_step ks g (consumes true (is_zero left) true left f env some) ts b ∙ ap (and_then (all_of (begins ks) g)) here in
+    let step = all_step ks g (consumes every_rule (is_zero left) true left f env some) ts b ∙ ap (and_then (all_of (begins ks) g)) here in
     ap (λ (z : List Node). gathering z (all_of (begins ks) g us)) made ∙ sym (gathering_pair (all_of (begins ks) g us) front x) ∙ sym (ap (gathering front) step) ∙ so_far
 
 pub gathering_fails : {X Y : Type 0} (v : X → Node) (w : Y → Node) (left now : ℕ) (f : Form) (env : Node) (ts at : List Token) (e : Refused) (front : List Node) (total : Read) → can_be_empty f ≡ false → now ≡ left → begins (starts f) ts ≡ true
     → Gives v (Err e) at (read now f env ts) → gathering front (read left (many f) env ts) ≡ total → Gives w (Err e) at total
 gathering_fails v w left now f env ts at e front total some same b h so_far =
-    let g = reader true (is_zero left) (construct true true left) f env in
+    let g = reader every_rule (is_zero left) (construct every_rule true left) f env in
     let ks = starts f in
     passes v w e at (read now f env ts) total h (λ d k.
     let here : g ts ≡ Err (d, at) = ap (λ (n : ℕ). read n f env ts) (sym same) ∙ k in
-    let step = all_step ks g (consumes true (is_zero left) true left f env some) ts b ∙ ap (and_then (all_of (begins ks) g)) here in
+    let step = all_step ks g (consumes every_rule (is_zero left) true left f env some) ts b ∙ ap (and_then (all_of (begins ks) g)) here in
     sym so_far ∙ ap (gathering front) step)
 
 pub gathering_ends : (left : ℕ) (f : Form) (env : Node) (ts : List Token) (front : List Node) (total : Read) → begins (starts f) ts ≡ false → gathering front (read left (many f) env ts) ≡ total → total ≡ Ok (row_of front, ts)
 gathering_ends left f env ts front total b so_far =
-    sym so_far ∙ ap (gathering front) (all_stop (starts f) (reader true (is_zero left) (construct true true left) f env) ts b) ∙ ap (λ (w : Node). Ok (w, ts)) (joined_none front)
+    sym so_far ∙ ap (gathering front) (all_stop (starts f) (reader every_rule (is_zero left) (construct every_rule true left) f env) ts b) ∙ ap (λ (w : Node). Ok (w, ts)) (joined_none front)

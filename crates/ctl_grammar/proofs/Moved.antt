@@ -3,7 +3,7 @@ use Rattle.std.proofs.Common.{◌≡◌, ℕ, zero, suc, Bool, true, false, cond
 use Rattle.std.specs.Prelude.{◌⊎◌, ◌&&◌}
 use Rattle.ctl_tree.specs.declared.token.Token.{Token}
 use Rattle.ctl_grammar.specs.declared.refused.Reason.TheVariants.{Unexpected, TooDeep, LeftOut, EndName}
-use Rattle.ctl_grammar.specs.Form.{Node, none, pair, Nest, Form, word, keep, tested, empty, seq, within, alt, when, many, act, late, nest, starts, nest_starts}
+use Rattle.ctl_grammar.specs.Form.{Node, none, pair, Nest, Form, word, keep, tested, empty, seq, within, alt, when, many, act, late, nest, starts, nest_starts, Rules, no_rule}
 use Rattle.ctl_grammar.specs.Grammar.{body}
 use Rattle.ctl_grammar.specs.Reading.{Read, ◌>>=◌, begins, both, repeat, all_of, from_here, is_read, nowhere, reader, is_zero, construct}
 use Rattle.ctl_grammar.proofs.Again.{from_here_same}
@@ -53,7 +53,7 @@ then_alike o p q (inl e) (inr d) = inr ((d.0.0, sym e ∙ d.0.1), d.1)
 then_alike o p q (inr e) (inl d) = inr (e.0, (e.1.0, d ∙ e.1.1))
 then_alike o p q (inr e) (inr d) = inr (e.0, d.1)
 
-reader_alike : (c full : Bool) (moving staying : Nest → Node → List Token → Read) → ((n : Nest) (env : Node) → Alike (moving n env) (staying n env)) → (f : Form) (env : Node) → Alike (reader c full moving f env) (reader c false staying f env)
+reader_alike : (c : Rules) (full : Bool) (moving staying : Nest → Node → List Token → Read) → ((n : Nest) (env : Node) → Alike (moving n env) (staying n env)) → (f : Form) (env : Node) → Alike (reader c full moving f env) (reader c false staying f env)
 unfolding all_of
 reader_alike c full r s h (word k) env ts = inl refl
 reader_alike c full r s h (keep k) env ts = inl refl
@@ -68,18 +68,18 @@ reader_alike c full r s h (act make f) env ts = bind_alike (reader c full r f en
 reader_alike c full r s h (late head f) env ts =
     let o = reader c full r f env ts in
     let p = reader c false s f env ts in
-    let here = from_here (full && is_read (reader false false nowhere head none ts)) ts o in
-    let one = from_here_alike (full && is_read (reader false false nowhere head none ts)) ts o in
+    let here = from_here (full && is_read (reader no_rule false nowhere head none ts)) ts o in
+    let one = from_here_alike (full && is_read (reader no_rule false nowhere head none ts)) ts o in
     let two = reader_alike c full r s h f env ts in
     then_alike here p (from_here false ts p) (then_alike here o p one two) (inl (from_here_same ts p))
 reader_alike c full r s h (nest n) env ts = h n env ts
 
-construct_alike : (c : Bool) (left : ℕ) (n : Nest) (env : Node) → Alike (construct c true left n env) (construct c false left n env)
+construct_alike : (c : Rules) (left : ℕ) (n : Nest) (env : Node) → Alike (construct c true left n env) (construct c false left n env)
 unfolding construct
 construct_alike c zero n env ts = inl refl
 construct_alike c (suc left) n env ts =
     cond_alike (begins (nest_starts n) ts) (reader c (is_zero left) (construct c true left) (body n) env ts) (reader c false (construct c false left) (body n) env ts) (Err (Unexpected, ts)) (Err (Unexpected, ts))
     (reader_alike c (is_zero left) (construct c true left) (construct c false left) (construct_alike c left) (body n) env ts) (inl refl)
 
-pub read_alike : (c : Bool) (left : ℕ) (f : Form) (env : Node) → Alike (reader c (is_zero left) (construct c true left) f env) (reader c false (construct c false left) f env)
+pub read_alike : (c : Rules) (left : ℕ) (f : Form) (env : Node) → Alike (reader c (is_zero left) (construct c true left) f env) (reader c false (construct c false left) f env)
 read_alike c left f env = reader_alike c (is_zero left) (construct c true left) (construct c false left) (construct_alike c left) f env

@@ -3,7 +3,7 @@ use Rattle.std.proofs.Common.{◌≡◌, ℕ, zero, suc, ◌≤◌, ◌<◌, Boo
 use Rattle.std.proofs.lemmas.List.{length-append}
 use Rattle.ctl_tree.specs.declared.token.Kind.{Kind}
 use Rattle.ctl_tree.specs.declared.token.Token.{Token}
-use Rattle.ctl_grammar.specs.Form.{Node, none, pair, Form, Nest, can_be_empty, starts}
+use Rattle.ctl_grammar.specs.Form.{Node, none, pair, Form, Nest, can_be_empty, starts, Rules}
 use Rattle.ctl_grammar.specs.Reading.{Read, ◌>>=◌, begins, repeat, all_of, reader, construct}
 use Rattle.ctl_grammar.specs.Derivation.{Construct}
 use Rattle.ctl_grammar.proofs.Starts.{Opens, OpensAll, derives_opens}
@@ -14,7 +14,7 @@ use Rattle.ctl_grammar.proofs.Plain.{plain}
 abbrev pub Consumes : (List Token → Read) → Type 0
 Consumes r = (ts : List Token) (v : Node) (rest : List Token) → r ts ≡ Ok (v, rest) → length rest < length ts
 
-pub reader_consumes : (c full : Bool) (inner : Nest → Node → List Token → Read) (I : Nest → Node → Node → List Token → Type 0) → SoundAll I inner → OpensAll I → (f : Form) (env : Node) → can_be_empty f ≡ false → Consumes (reader c full inner f env)
+pub reader_consumes : (c : Rules) (full : Bool) (inner : Nest → Node → List Token → Read) (I : Nest → Node → Node → List Token → Type 0) → SoundAll I inner → OpensAll I → (f : Form) (env : Node) → can_be_empty f ≡ false → Consumes (reader c full inner f env)
 reader_consumes c full inner I hs ho f env some ts v rest e =
     let p = reader_sound c c full (allows_same c) inner I hs f env ts v rest e in
     let opens : Opens false (starts f) p.text = subst (λ (b : Bool). Opens b (starts f) p.text) some (derives_opens c I ho f env v p.text p.is) in
@@ -22,7 +22,7 @@ reader_consumes c full inner I hs ho f env some ts v rest e =
     omega (arith, long p.text opens, ap length p.parts, length-append p.text rest)
 
 -- a form that is not empty takes at least one token
-pub consumes : (c full moved : Bool) (left : ℕ) (f : Form) (env : Node) → can_be_empty f ≡ false → Consumes (reader c full (construct c moved left) f env)
+pub consumes : (c : Rules) (full moved : Bool) (left : ℕ) (f : Form) (env : Node) → can_be_empty f ≡ false → Consumes (reader c full (construct c moved left) f env)
 consumes c full moved left f env some = reader_consumes c full (construct c moved left) (Construct c left) (construct_sound c c moved (allows_same c) left) (construct_opens plain c left) f env some
 
 -- one, and then the others

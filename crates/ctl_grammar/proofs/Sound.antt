@@ -6,7 +6,7 @@ use Rattle.ctl_tree.specs.declared.token.Token.{Token}
 use Rattle.ctl_grammar.specs.declared.refused.Reason.{Reason}
 use Rattle.ctl_grammar.specs.declared.refused.Reason.TheVariants.{Unexpected, TooDeep}
 use Rattle.ctl_grammar.specs.Kind.{same_kind}
-use Rattle.ctl_grammar.specs.Form.{Node, none, leaf, pair, Nest, Rule, Form, word, keep, tested, empty, seq, within, alt, when, many, act, late, nest, starts, nest_starts}
+use Rattle.ctl_grammar.specs.Form.{Node, none, leaf, pair, Nest, Rule, Form, word, keep, tested, empty, seq, within, alt, when, many, act, late, nest, starts, nest_starts, Rules, no_rule}
 use Rattle.ctl_grammar.specs.Grammar.{body}
 use Rattle.ctl_grammar.specs.Reading.{Read, ◌>>=◌, broken, token_at, tested_at, begins, both, repeat, all_of, from_here, is_read, nowhere, reader, is_zero, construct}
 use Rattle.ctl_grammar.specs.Derivation.{Row, Both, Derives, Construct}
@@ -53,15 +53,15 @@ abbrev pub SoundAll : (Nest → Node → Node → List Token → Type 0) → (Ne
 SoundAll I inner = (n : Nest) (env : Node) → Sound (I n env) (inner n env)
 
 -- what one reading allows, the other allows
-abbrev pub Allows : Bool → Bool → Type 0
-Allows c d = (b : Bool) → (b || not c) ≡ true → (b || not d) ≡ true
+abbrev pub Allows : Rules → Rules → Type 0
+Allows c d = (rule : Rule) (b : Bool) → (b || not (c rule)) ≡ true → (b || not (d rule)) ≡ true
 
-pub allows_same : (c : Bool) → Allows c c
-allows_same c b e = e
+pub allows_same : (c : Rules) → Allows c c
+allows_same c rule b e = e
 
-pub allows_more : (c : Bool) → Allows c false
-allows_more c true e = refl
-allows_more c false e = refl
+pub allows_more : (c : Rules) → Allows c no_rule
+allows_more c rule true e = refl
+allows_more c rule false e = refl
 
 token_sound : (k : Kind) (make : Token → Node) → Sound (λ v ts. (t : Token) × (same_kind k t.kind ≡ true) × (ts ≡ t ∷ []) × (v ≡ make t)) (token_at k make)
 token_sound k make [] v rest e = absurd cc
@@ -71,17 +71,17 @@ token_sound k make (t ∷ ts) v rest e =
       | false ↦ λ is h. absurd cc
     ] in go (same_kind k t.kind) refl e
 
-tested_sound : (c d : Bool) → Allows c d → (k : Kind) (test : Token → Bool) (rule : Rule)
-    → Sound (λ v ts. (t : Token) × (same_kind k t.kind ≡ true) × (ts ≡ t ∷ []) × (v ≡ leaf t) × ((test t || not d) ≡ true)) (tested_at c k test rule)
+tested_sound : (c d : Rules) → Allows c d → (k : Kind) (test : Token → Bool) (rule : Rule)
+    → Sound (λ v ts. (t : Token) × (same_kind k t.kind ≡ true) × (ts ≡ t ∷ []) × (v ≡ leaf t) × ((test t || not (d rule)) ≡ true)) (tested_at c k test rule)
 tested_sound c d allows k test rule [] v rest e = absurd cc
 tested_sound c d allows k test rule (t ∷ ts) v rest e =
-    let P : Node → List Token → Type 0 = λ w us. (u : Token) × (same_kind k u.kind ≡ true) × (us ≡ u ∷ []) × (w ≡ leaf u) × ((test u || not d) ≡ true) in
-    let allowed : same_kind k t.kind ≡ true → (b : Bool) → (test t || not c) ≡ b → cond b (done (leaf t) ts) (failed (broken rule) (t ∷ ts)) ≡ done v rest → Takes (P v) (t ∷ ts) rest = λ is. elim [
-      | true ↦ λ ok h. takes_at P (t ∷ ts) (leaf t) v ts rest h (record { text = t ∷ []; is = (t, is, refl, refl, allows (test t) ok); parts = refl })
+    let P : Node → List Token → Type 0 = λ w us. (u : Token) × (same_kind k u.kind ≡ true) × (us ≡ u ∷ []) × (w ≡ leaf u) × ((test u || not (d rule)) ≡ true) in
+    let allowed : same_kind k t.kind ≡ true → (b : Bool) → (test t || not (c rule)) ≡ b → cond b (done (leaf t) ts) (failed (broken rule) (t ∷ ts)) ≡ done v rest → Takes (P v) (t ∷ ts) rest = λ is. elim [
+      | true ↦ λ ok h. takes_at P (t ∷ ts) (leaf t) v ts rest h (record { text = t ∷ []; is = (t, is, refl, refl, allows rule (test t) ok); parts = refl })
       | false ↦ λ ok h. absurd cc
     ] in
-    let go : (b : Bool) → same_kind k t.kind ≡ b → cond b (cond (test t || not c) (done (leaf t) ts) (failed (broken rule) (t ∷ ts))) (failed Unexpected (t ∷ ts)) ≡ done v rest → Takes (P v) (t ∷ ts) rest = elim [
-      | true ↦ λ is h. allowed is (test t || not c) refl h
+    let go : (b : Bool) → same_kind k t.kind ≡ b → cond b (cond (test t || not (c rule)) (done (leaf t) ts) (failed (broken rule) (t ∷ ts))) (failed Unexpected (t ∷ ts)) ≡ done v rest → Takes (P v) (t ∷ ts) rest = elim [
+      | true ↦ λ is h. allowed is (test t || not (c rule)) refl h
       | false ↦ λ is h. absurd cc
     ] in go (same_kind k t.kind) refl e
 
@@ -114,7 +114,7 @@ pub from_here_ok : (b : Bool) (ts : List Token) (o : Read) (y : Node × List Tok
 from_here_ok b ts (Ok x) y e = e
 from_here_ok b ts (Err d) y e = absurd cc
 
-pub reader_sound : (c d full : Bool) → Allows c d → (inner : Nest → Node → List Token → Read) (I : Nest → Node → Node → List Token → Type 0) → SoundAll I inner → (f : Form) (env : Node) → Sound (Derives d I f env) (reader c full inner f env)
+pub reader_sound : (c d : Rules) (full : Bool) → Allows c d → (inner : Nest → Node → List Token → Read) (I : Nest → Node → Node → List Token → Type 0) → SoundAll I inner → (f : Form) (env : Node) → Sound (Derives d I f env) (reader c full inner f env)
 unfolding all_of
 reader_sound c d full al inner I h (word k) env = token_sound k (λ t. none)
 reader_sound c d full al inner I h (keep k) env = token_sound k (λ t. leaf t)
@@ -144,10 +144,10 @@ reader_sound c d full al inner I h (act make f) env = λ ts v rest e.
     let here : Takes (Derives d I (act make f) env (make b.0.0)) ts b.0.1 = record { text = p.text; is = (b.0.0, refl, p.is); parts = p.parts } in
     takes_at (Derives d I (act make f) env) ts (make b.0.0) v b.0.1 rest b.2 here
 reader_sound c d full al inner I h (late head f) env = λ ts v rest e.
-    reader_sound c d full al inner I h f env ts v rest (from_here_ok (full && is_read (reader false false nowhere head none ts)) ts (reader c full inner f env ts) (v, rest) e)
+    reader_sound c d full al inner I h f env ts v rest (from_here_ok (full && is_read (reader no_rule false nowhere head none ts)) ts (reader c full inner f env ts) (v, rest) e)
 reader_sound c d full al inner I h (nest n) env = h n env
 
-pub construct_sound : (c d moved : Bool) → Allows c d → (left : ℕ) → SoundAll (Construct d left) (construct c moved left)
+pub construct_sound : (c d : Rules) (moved : Bool) → Allows c d → (left : ℕ) → SoundAll (Construct d left) (construct c moved left)
 unfolding construct
 construct_sound c d moved al zero n env ts v rest e =
     let split : (b : Bool) → cond b (failed TooDeep ts) (failed Unexpected ts) ≡ done v rest → Takes (Construct d zero n env v) ts rest = elim [ true ↦ λ k. absurd cc | false ↦ λ k. absurd cc ] in

@@ -5,7 +5,7 @@ use Rattle.std.proofs.lemmas.Bool.{eqb-true}
 use Rattle.ctl_tree.specs.declared.token.Kind.{Kind}
 use Rattle.ctl_tree.specs.declared.token.Token.{Token}
 use Rattle.ctl_grammar.specs.Kind.{code, same_kind}
-use Rattle.ctl_grammar.specs.Form.{Node, none, leaf, num, written, at, pair, tag, Nest, Form, word, keep, tested, empty, seq, within, alt, when, many, act, late, nest, has, is_apart, can_be_empty, starts, nest_starts}
+use Rattle.ctl_grammar.specs.Form.{Node, none, leaf, num, written, at, pair, tag, Nest, Form, word, keep, tested, empty, seq, within, alt, when, many, act, late, nest, has, is_apart, can_be_empty, starts, nest_starts, Rules}
 use Rattle.ctl_grammar.specs.Reading.{begins}
 use Rattle.ctl_grammar.specs.Derivation.{Split, Row, Both, Derives}
 
@@ -131,7 +131,7 @@ OpensAll I = (n : Nest) (env v : Node) (x : List Token) → I n env v x → Open
 one_opens : (k : Kind) (t : Token) (x : List Token) → same_kind k t.kind ≡ true → x ≡ t ∷ [] → Opens false (k ∷ []) x
 one_opens k t x is e = opens_at false (k ∷ []) x (t ∷ []) e (rw is refl)
 
-pub derives_opens : (c : Bool) (I : Nest → Node → Node → List Token → Type 0) → OpensAll I → (f : Form) (env v : Node) (x : List Token) → Derives c I f env v x → Opens (can_be_empty f) (starts f) x
+pub derives_opens : (c : Rules) (I : Nest → Node → Node → List Token → Type 0) → OpensAll I → (f : Form) (env v : Node) (x : List Token) → Derives c I f env v x → Opens (can_be_empty f) (starts f) x
 derives_opens c I h (word k) env v x p = one_opens k p.0 x p.1 p.2
 derives_opens c I h (keep k) env v x p = one_opens k p.0 x p.1 p.2
 derives_opens c I h (tested k test rule) env v x p = one_opens k p.0 x p.1 p.2

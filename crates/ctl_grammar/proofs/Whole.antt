@@ -1,10 +1,11 @@
 -- A whole text: the laws put together.
-use Rattle.std.proofs.Common.{◌≡◌, ℕ, ◌+◌, Bool, true, false, List, [], ◌∷◌, ◌++◌, Ok, Err, refl, sym, ap, subst, ◌∙◌, append_assoc, inl, inr, arith}
+use Rattle.std.proofs.Common.{◌≡◌, ℕ, ◌+◌, Bool, true, false, List, [], ◌∷◌, ◌++◌, Ok, Err, refl, sym, ap, subst, ◌∙◌, append_assoc, inl, inr, arith, ◌⊎◌}
+use Rattle.std.specs.Prelude.{not}
 use Rattle.std.proofs.lemmas.List.{append-nil, append_cancel_right}
 use Rattle.ctl_tree.specs.declared.token.Token.{Token}
 use Rattle.ctl_grammar.specs.declared.refused.Reason.{Reason}
 use Rattle.ctl_grammar.specs.declared.refused.Reason.TheVariants.{Unexpected, TooDeep, LeftOut, EndName}
-use Rattle.ctl_grammar.specs.Form.{Node, none, Rule, Known, Ends, Form, goes_on, is_clear}
+use Rattle.ctl_grammar.specs.Form.{Node, none, Rule, Known, Ends, Form, goes_on, is_clear, Rules, every_rule, no_rule}
 use Rattle.ctl_grammar.specs.Reading.{Read, broken, reader, begins, construct, is_too_deep}
 use Rattle.ctl_grammar.specs.Derivation.{Construct, Spells, Begins}
 use Rattle.ctl_grammar.proofs.Sound.{Takes, allows_same, reader_sound, construct_sound}
@@ -25,17 +26,17 @@ stops f h rest =
     rw h.ends (none_on rest)
 
 -- reading that changes no place
-abbrev pub plainly : Bool → ℕ → Form → List Token → Read
+abbrev pub plainly : Rules → ℕ → Form → List Token → Read
 plainly c left f ts = reader c false (construct c false left) f none ts
 
-pub spelled_is_read : (f : Form) → IsWhole f → (c : Bool) (left : ℕ) (v : Node) (text rest : List Token) → Spells c left f v text → plainly c left f (text ++ rest) ≡ Ok (v, rest)
+pub spelled_is_read : (f : Form) → IsWhole f → (c : Rules) (left : ℕ) (v : Node) (text rest : List Token) → Spells c left f v text → plainly c left f (text ++ rest) ≡ Ok (v, rest)
 spelled_is_read f h c left v text rest p = reader_again c (construct c false left) (Construct c left) (construct_opens plain c left) (construct_again plain c left) f h.clear none v text rest p (stops f h rest)
 
-pub read_is_spelled : (f : Form) (c : Bool) (left : ℕ) (v : Node) (text rest : List Token) → plainly c left f text ≡ Ok (v, rest) → Takes (Spells c left f v) text rest
+pub read_is_spelled : (f : Form) (c : Rules) (left : ℕ) (v : Node) (text rest : List Token) → plainly c left f text ≡ Ok (v, rest) → Takes (Spells c left f v) text rest
 read_is_spelled f c left v text rest e = reader_sound c c false (allows_same c) (construct c false left) (Construct c left) (construct_sound c c false (allows_same c) left) f none text v rest e
 
 -- A token list spells at most one tree, whatever the depths of the two.
-pub spells_one : (f : Form) → IsWhole f → (c : Bool) (left more : ℕ) (v w : Node) (ts : List Token) → Spells c left f v ts → Spells c more f w ts → v ≡ w
+pub spells_one : (f : Form) → IsWhole f → (c : Rules) (left more : ℕ) (v w : Node) (ts : List Token) → Spells c left f v ts → Spells c more f w ts → v ≡ w
 spells_one f h c left more v w ts p q =
     let up_p : Spells c (left + more) f v ts = deeper c c (allows_same c) left (left + more) more f none refl v ts p in
     let up_q : Spells c (left + more) f w ts = deeper c c (allows_same c) more (left + more) left f none (omega arith) w ts q in
@@ -62,16 +63,16 @@ ruled : (rule : Rule) → is_ruled (broken rule) ≡ true
 ruled Known = refl
 ruled Ends = refl
 
-frees_all : (c : Bool) → Frees is_ruled c false
-frees_all true rule true = inl refl
-frees_all true rule false = inr (refl, ruled rule)
-frees_all false rule true = inl refl
-frees_all false rule false = inl refl
+frees_all : (c : Rules) → Frees is_ruled c no_rule
+frees_all c rule true = inl refl
+frees_all c rule false =
+    let split : (k : Bool) → (true ≡ not k) ⊎ ((not k ≡ false) × (is_ruled (broken rule) ≡ true)) = elim [ true ↦ inr (refl, ruled rule) | false ↦ inl refl ] in
+    split (c rule)
 
-frees_none : (c : Bool) → Frees is_too_deep c c
+frees_none : (c : Rules) → Frees is_too_deep c c
 frees_none c rule b = inl refl
 
-local_error : (f : Form) → IsWhole f → (c : Bool) (left : ℕ) (ts : List Token) (d : Reason) (front : List Token) (t : Token) (rest more : List Token) → plainly c left f ts ≡ Err (d, t ∷ rest) → ts ≡ front ++ t ∷ rest → plainly c left f (front ++ t ∷ more) ≡ Err (d, t ∷ more)
+pub local_error : (f : Form) → IsWhole f → (c : Rules) (left : ℕ) (ts : List Token) (d : Reason) (front : List Token) (t : Token) (rest more : List Token) → plainly c left f ts ≡ Err (d, t ∷ rest) → ts ≡ front ++ t ∷ rest → plainly c left f (front ++ t ∷ more) ≡ Err (d, t ∷ more)
 local_error f h c left ts d front t rest more e parts =
     let r : List Token → Read = plainly c left f in
     let here : LocalAt r ts (Err (d, t ∷ rest)) = subst (λ (o : Read). LocalAt r ts o) e (reader_local c (construct c false left) (consumes c false false left) (construct_local plain c (consumes c false false) left) f h.clear none ts) in
@@ -82,14 +83,14 @@ failed : Reason → List Token → Read
 failed r ts = Err (r, ts)
 
 -- An unexpected token goes on with no text of the grammar alone.
-pub no_text : (f : Form) → IsWhole f → (c : Bool) (left : ℕ) (ts front : List Token) (t : Token) (rest : List Token) → plainly c left f ts ≡ Err (Unexpected, t ∷ rest) → ts ≡ front ++ t ∷ rest → Begins false f (front ++ t ∷ []) → ⊥
+pub no_text : (f : Form) → IsWhole f → (c : Rules) (left : ℕ) (ts front : List Token) (t : Token) (rest : List Token) → plainly c left f ts ≡ Err (Unexpected, t ∷ rest) → ts ≡ front ++ t ∷ rest → Begins no_rule f (front ++ t ∷ []) → ⊥
 no_text f h c left ts front t rest e parts (d, v, more, p) =
     let whole : (front ++ t ∷ []) ++ more ≡ front ++ t ∷ more = append_assoc front (t ∷ []) more in
     let whole_nil : ((front ++ t ∷ []) ++ more) ++ [] ≡ front ++ t ∷ more = append-nil ((front ++ t ∷ []) ++ more) ∙ whole in
-    let up_p : Spells false (left + d) f v ((front ++ t ∷ []) ++ more) = deeper false false (allows_same false) d (left + d) left f none (omega arith) v ((front ++ t ∷ []) ++ more) p in
-    let good : plainly false (left + d) f (front ++ t ∷ more) ≡ Ok (v, []) = ap (plainly false (left + d) f) (sym whole_nil) ∙ spelled_is_read f h false (left + d) v ((front ++ t ∷ []) ++ more) [] up_p in
+    let up_p : Spells no_rule (left + d) f v ((front ++ t ∷ []) ++ more) = deeper no_rule no_rule (allows_same no_rule) d (left + d) left f none (omega arith) v ((front ++ t ∷ []) ++ more) p in
+    let good : plainly no_rule (left + d) f (front ++ t ∷ more) ≡ Ok (v, []) = ap (plainly no_rule (left + d) f) (sym whole_nil) ∙ spelled_is_read f h no_rule (left + d) v ((front ++ t ∷ []) ++ more) [] up_p in
     let here = local_error f h c left ts Unexpected front t rest more e parts in
-    let bad : plainly false (left + d) f (front ++ t ∷ more) ≡ Err (Unexpected, t ∷ more) = elim (read_agrees is_ruled c false (frees_all c) refl left d f none (front ++ t ∷ more)) [
+    let bad : plainly no_rule (left + d) f (front ++ t ∷ more) ≡ Err (Unexpected, t ∷ more) = elim (read_agrees is_ruled c no_rule (frees_all c) refl left d f none (front ++ t ∷ more)) [
       | inl same ↦ same ∙ here
       | inr stopped ↦
           let clash : (let x : Read = Err (Unexpected, t ∷ more) in x) ≡ Err (stopped.0, stopped.1) = sym here ∙ stopped.2 in
@@ -102,10 +103,10 @@ no_text f h c left ts front t rest e parts (d, v, more, p) =
     absurd cc
 
 -- A token that breaks a rule, or opens too much, goes on with no text that keeps the rules.
-pub no_kept_text : (f : Form) → IsWhole f → (left : ℕ) (ts front : List Token) (d : Reason) (t : Token) (rest : List Token) → plainly true left f ts ≡ Err (d, t ∷ rest) → ts ≡ front ++ t ∷ rest
-    → (v : Node) (more : List Token) → Spells true left f v ((front ++ t ∷ []) ++ more) → ⊥
+pub no_kept_text : (f : Form) → IsWhole f → (left : ℕ) (ts front : List Token) (d : Reason) (t : Token) (rest : List Token) → plainly every_rule left f ts ≡ Err (d, t ∷ rest) → ts ≡ front ++ t ∷ rest
+    → (v : Node) (more : List Token) → Spells every_rule left f v ((front ++ t ∷ []) ++ more) → ⊥
 no_kept_text f h left ts front d t rest e parts v more p =
     let whole_nil : ((front ++ t ∷ []) ++ more) ++ [] ≡ front ++ t ∷ more = append-nil ((front ++ t ∷ []) ++ more) ∙ append_assoc front (t ∷ []) more in
-    let good : plainly true left f (front ++ t ∷ more) ≡ Ok (v, []) = ap (plainly true left f) (sym whole_nil) ∙ spelled_is_read f h true left v ((front ++ t ∷ []) ++ more) [] p in
-    let clash = sym good ∙ local_error f h true left ts d front t rest more e parts in
+    let good : plainly every_rule left f (front ++ t ∷ more) ≡ Ok (v, []) = ap (plainly every_rule left f) (sym whole_nil) ∙ spelled_is_read f h every_rule left v ((front ++ t ∷ []) ++ more) [] p in
+    let clash = sym good ∙ local_error f h every_rule left ts d front t rest more e parts in
     absurd cc

@@ -8,8 +8,9 @@ use Rattle.ctl_tree.specs.declared.token.Token.{Token}
 use Rattle.ctl_grammar.specs.declared.refused.Reason.{Reason}
 use Rattle.ctl_grammar.specs.declared.refused.Reason.TheVariants.{Unexpected, TooDeep, LeftOut, EndName}
 use Rattle.ctl_grammar.specs.Kind.{is_left_out}
-use Rattle.ctl_grammar.specs.Form.{Node}
-use Rattle.ctl_grammar.specs.Text.{IsProgram, answer, IsUnexpected, IsRefused}
+use Rattle.ctl_grammar.specs.Form.{Node, Known, Ends}
+use Rattle.ctl_grammar.specs.Breaks.{BreaksProgram}
+use Rattle.ctl_grammar.specs.Text.{IsProgram, answer, IsUnexpected, IsRefused, IsRefusedBy, IsRefusedForDepth}
 
 -- the number of the fault of a token of this kind that is wrong for this reason
 abbrev pub code_of : Reason → Kind → FaultCode
@@ -38,15 +39,19 @@ HasGrammarFault left ts fault = (reason : Reason) × (rest : List Token) × (ans
 -- what it is that a token is refused for this reason
 abbrev pub IsFirst : Reason → ℕ → List Token → List Token → Type 0
 IsFirst Unexpected left ts rest = IsUnexpected ts rest
-IsFirst LeftOut left ts rest = IsRefused left ts rest
-IsFirst EndName left ts rest = IsRefused left ts rest
-IsFirst TooDeep left ts rest = (there : List Token) × IsRefused left ts there
+IsFirst LeftOut left ts rest = IsRefused left ts rest × IsRefusedBy Known ts rest × BreaksProgram LeftOut left ts rest
+IsFirst EndName left ts rest = IsRefused left ts rest × IsRefusedBy Ends ts rest × BreaksProgram EndName left ts rest
+IsFirst TooDeep left ts rest = ((there : List Token) × IsRefused left ts there × IsRefusedForDepth left ts there) × BreaksProgram TooDeep left ts rest
 
 -- ---- the laws
 
 -- A fault stands at a token that is the first to be wrong for its reason.
 abbrev pub FaultsAreFirst : Type 0
 FaultsAreFirst = (left : ℕ) (ts : List Token) (fault : Fault) → HasGrammarFault left ts fault → (reason : Reason) × (rest : List Token) × (fault ≡ fault_at reason rest ts) × IsFirst reason left ts rest
+
+-- Tokens that break a rule of names or open one construct too many have this fault.
+abbrev pub BreaksAreFaults : Type 0
+BreaksAreFaults = (left : ℕ) (ts place : List Token) (reason : Reason) → BreaksProgram reason left ts place → HasGrammarFault left ts (fault_at reason place ts)
 
 -- Tokens spell a program, or they have a fault.
 abbrev pub ProgramOrFault : Type 0

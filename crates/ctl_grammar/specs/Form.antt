@@ -49,6 +49,22 @@ pub data Rule : Type 0 where
   -- a name at an end is that of its subprogram
   Ends : Rule
 
+-- which rules of names count
+abbrev pub Rules : Type 0
+Rules = Rule → Bool
+
+abbrev pub every_rule : Rules
+every_rule rule = true
+
+abbrev pub no_rule : Rules
+no_rule rule = false
+
+abbrev pub only : Rule → Rules
+only Known Known = true
+only Known Ends = false
+only Ends Known = false
+only Ends Ends = true
+
 pub data Form : Type 0 where
   -- a token that says nothing more
   word : Kind → Form

@@ -6,6 +6,7 @@ pub mod Kind
 pub mod Label
 pub mod Nodes
 pub mod Reading
+pub mod Breaks
 pub mod Spelling
 pub mod Text
 pub mod Fault

@@ -7,7 +7,7 @@ use Rattle.ctl_grammar.specs.declared.refused.Reason.TheVariants.{Unexpected, To
 use Rattle.ctl_grammar.specs.declared.refused.Refused.{Refused}
 use Rattle.ctl_grammar.specs.declared.refused.Refused.TheVariants as refused
 use Rattle.ctl_grammar.specs.Kind.{same_kind}
-use Rattle.ctl_grammar.specs.Form.{Node, none, leaf, pair, Nest, Rule, Known, Ends, Form, word, keep, tested, empty, seq, within, alt, when, many, act, late, nest, has, starts, nest_starts}
+use Rattle.ctl_grammar.specs.Form.{Node, none, leaf, pair, Nest, Rule, Known, Ends, Form, word, keep, tested, empty, seq, within, alt, when, many, act, late, nest, has, starts, nest_starts, Rules, every_rule, no_rule}
 use Rattle.ctl_grammar.specs.Grammar.{body}
 
 -- what was read and the tokens behind it, or what is wrong and the tokens from the faulty one on
@@ -33,10 +33,10 @@ abbrev pub token_at : Kind → (Token → Node) → List Token → Read
 token_at k make [] = Err (Unexpected, [])
 token_at k make (t ∷ ts) = cond (same_kind k t.kind) (Ok (make t, ts)) (Err (Unexpected, t ∷ ts))
 
--- a token of this kind that a rule allows; where the rules count
-abbrev pub tested_at : Bool → Kind → (Token → Bool) → Rule → List Token → Read
+-- a token of this kind that a rule allows, if this rule counts
+abbrev pub tested_at : Rules → Kind → (Token → Bool) → Rule → List Token → Read
 tested_at counts k test rule [] = Err (Unexpected, [])
-tested_at counts k test rule (t ∷ ts) = cond (same_kind k t.kind) (cond (test t || not counts) (Ok (leaf t, ts)) (Err (broken rule, t ∷ ts))) (Err (Unexpected, t ∷ ts))
+tested_at counts k test rule (t ∷ ts) = cond (same_kind k t.kind) (cond (test t || not (counts rule)) (Ok (leaf t, ts)) (Err (broken rule, t ∷ ts))) (Err (Unexpected, t ∷ ts))
 
 -- whether the next token is one of these
 abbrev pub begins : List Kind → List Token → Bool
@@ -74,9 +74,9 @@ is_read (Err e) = false
 abbrev pub nowhere : Nest → Node → List Token → Read
 nowhere n env ts = Err (Unexpected, ts)
 
--- Reading a form. The rules of names count if `counts` is true. `full` says that no more construct may be opened, so that
+-- Reading a form. `counts` says which rules of names count. `full` says that no more construct may be opened, so that
 -- what is too deep stands where a `late` form begins. `inner` reads constructs, and `env` is what was read before.
-abbrev pub reader : Bool → Bool → (Nest → Node → List Token → Read) → Form → Node → List Token → Read
+abbrev pub reader : Rules → Bool → (Nest → Node → List Token → Read) → Form → Node → List Token → Read
 reader counts full inner (word k) env ts = token_at k (λ t. none) ts
 reader counts full inner (keep k) env ts = token_at k (λ t. leaf t) ts
 reader counts full inner (tested k test rule) env ts = tested_at counts k (test env) rule ts
@@ -87,7 +87,7 @@ reader counts full inner (alt f g) env ts = cond (begins (starts f) ts) (reader 
 reader counts full inner (when test f) env ts = cond (test env && begins (starts f) ts) (reader counts full inner f env ts) (Ok (none, ts))
 reader counts full inner (many f) env ts = all_of (begins (starts f)) (reader counts full inner f env) ts
 reader counts full inner (act make f) env ts = reader counts full inner f env ts >>= λ x. Ok (make x.0, x.1)
-reader counts full inner (late head f) env ts = from_here (full && is_read (reader false false nowhere head none ts)) ts (reader counts full inner f env ts)
+reader counts full inner (late head f) env ts = from_here (full && is_read (reader no_rule false nowhere head none ts)) ts (reader counts full inner f env ts)
 reader counts full inner (nest n) env ts = inner n env ts
 
 abbrev pub is_zero : ℕ → Bool
@@ -95,21 +95,21 @@ is_zero zero = true
 is_zero (suc n) = false
 
 -- A construct, with room for so many in one another. Where `moved` is false, `late` forms change no place.
-unfoldable pub construct : Bool → Bool → ℕ → Nest → Node → List Token → Read
+unfoldable pub construct : Rules → Bool → ℕ → Nest → Node → List Token → Read
 construct counts moved zero n env ts = cond (begins (nest_starts n) ts) (Err (TooDeep, ts)) (Err (Unexpected, ts))
 construct counts moved (suc left) n env ts = cond (begins (nest_starts n) ts) (reader counts (moved && is_zero left) (construct counts moved left) (body n) env ts) (Err (Unexpected, ts))
 
 -- a form, with room for so many constructs in one another
-abbrev pub read_with : Bool → Bool → ℕ → Form → Node → List Token → Read
+abbrev pub read_with : Rules → Bool → ℕ → Form → Node → List Token → Read
 read_with counts moved left f env ts = reader counts (moved && is_zero left) (construct counts moved left) f env ts
 
 -- what the parser is to answer
 abbrev pub read : ℕ → Form → Node → List Token → Read
-read left f env ts = read_with true true left f env ts
+read left f env ts = read_with every_rule true left f env ts
 
 -- whether the tokens begin with the form
 abbrev pub is_ahead : Form → List Token → Bool
-is_ahead head ts = is_read (reader false false nowhere head none ts)
+is_ahead head ts = is_read (reader no_rule false nowhere head none ts)
 
 -- whether what is too deep is to stand at the first of these tokens: no more construct may be opened, and they begin so
 abbrev pub starts_too_deep : ℕ → Form → List Token → Bool

@@ -2,6 +2,7 @@
 #![tactic(auto)]
 
 pub mod depth;
+pub mod fault;
 pub mod joining;
 pub mod kind;
 pub mod laws;

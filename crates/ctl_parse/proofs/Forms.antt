@@ -7,7 +7,7 @@ use Rattle.ctl_grammar.specs.declared.refused.Refused.TheVariants as refused
 use Rattle.ctl_grammar.specs.declared.refused.Reason.TheVariants.{TooDeep}
 use Rattle.ctl_tree.specs.declared.token.Kind.{Kind}
 use Rattle.ctl_tree.specs.declared.token.Kind.TheVariants.{Semicolon}
-use Rattle.ctl_grammar.specs.Form.{Node, none, pair, tag, Form, word, within, when, act, late, ◌▸◌, starts}
+use Rattle.ctl_grammar.specs.Form.{Node, none, pair, tag, Form, word, within, when, act, late, ◌▸◌, starts, no_rule}
 use Rattle.ctl_grammar.specs.Grammar.{apart, spot, transfer}
 use Rattle.ctl_grammar.specs.Label.{Label}
 use Rattle.ctl_grammar.specs.Nodes.{first, second, part_2}
@@ -181,10 +181,10 @@ goes_ahead : (o s : Read) (v : Node) (ts us : List Token) (d e : Option Refused)
 goes_ahead o s v ts us None e h k g = subst (λ (z : Read). Foreseen (is_read z) e) k (gave_ahead o v us e g)
 goes_ahead o s v ts us (Some x) e h k g = absurd cc
 
-pub foreseeing : {head : Form} {p q : Parser} {v : Node} → p.fault ≡ None → ((left : ℕ) (ts : List Token) → read left head none ts ≡ reader false false nowhere head none ts) → Reads head none p v q → Foreseen (is_ahead head p.rest.now) q.fault
-foreseeing {head} {p} {q} {v} h same k = goes_ahead (read p.left head none p.rest.now) (reader false false nowhere head none p.rest.now) v p.rest.now q.rest.now p.fault q.fault h (same p.left p.rest.now) k.goes
+pub foreseeing : {head : Form} {p q : Parser} {v : Node} → p.fault ≡ None → ((left : ℕ) (ts : List Token) → read left head none ts ≡ reader no_rule false nowhere head none ts) → Reads head none p v q → Foreseen (is_ahead head p.rest.now) q.fault
+foreseeing {head} {p} {q} {v} h same k = goes_ahead (read p.left head none p.rest.now) (reader no_rule false nowhere head none p.rest.now) v p.rest.now q.rest.now p.fault q.fault h (same p.left p.rest.now) k.goes
 
-pub head_alike : (h : Heading) (left : ℕ) (ts : List Token) → read left (head_of h) none ts ≡ reader false false nowhere (head_of h) none ts
+pub head_alike : (h : Heading) (left : ℕ) (ts : List Token) → read left (head_of h) none ts ≡ reader no_rule false nowhere (head_of h) none ts
 head_alike headings.Procedure left ts = start_of_procedure_alike left ts
 head_alike headings.Function left ts = start_of_function_alike left ts
 head_alike headings.Any left ts = start_alike left ts

@@ -5,7 +5,7 @@ use Rattle.std.proofs.lemmas.List.{map_push}
 use Rattle.ctl_tree.specs.declared.token.Token.{Token}
 use Rattle.ctl_grammar.specs.declared.refused.Refused.{Refused}
 use Rattle.ctl_grammar.specs.declared.refused.Refused.TheVariants as refused
-use Rattle.ctl_grammar.specs.Form.{Node, none, pair, Form, many, ◌▸◌, starts, can_be_empty}
+use Rattle.ctl_grammar.specs.Form.{Node, none, pair, Form, many, ◌▸◌, starts, can_be_empty, every_rule}
 use Rattle.ctl_grammar.specs.Nodes.{row_of, joined_row}
 use Rattle.ctl_grammar.specs.Reading.{Read, begins, reader, read, construct, is_zero}
 use Rattle.ctl_grammar.proofs.Rows.{consumes, all_step, all_stop}
@@ -32,7 +32,7 @@ begins_not b (Some x) h k = absurd cc
 pub one_more : {f : Form} {env : Node} {p q r : Parser} {a b : Node} → can_be_empty f ≡ false → sees (starts f) p ≡ true → Reads f env p a q → Reads (many f) env q b r → Reads (many f) env p (pair a b) r
 one_more {f} {env} {p} {q} {r} {a} {b} some h k l =
     let both = then k l in
-    let step = all_step (starts f) (reader true (is_zero p.left) (construct true true p.left) f env) (consumes true (is_zero p.left) true p.left f env some) p.rest.now (begins_sound (begins (starts f) p.rest.now) p.fault h) in
+    let step = all_step (starts f) (reader every_rule (is_zero p.left) (construct every_rule true p.left) f env) (consumes every_rule (is_zero p.left) true p.left f env some) p.rest.now (begins_sound (begins (starts f) p.rest.now) p.fault h) in
     record {
       left = both.left;
       goes = goes_same (read p.left (f ▸ many f) env p.rest.now) (read p.left (many f) env p.rest.now) (pair a b) p.rest.now r.rest.now p.fault r.fault (λ z. step) both.goes;
@@ -45,7 +45,7 @@ goes_nothing o ts (Some x) h = (refl, refl)
 pub no_more : {f : Form} {env : Node} (p : Parser) → sees (starts f) p ≡ false → Reads (many f) env p none p
 no_more {f} {env} p h = record {
   left = refl;
-  goes = goes_nothing (read p.left (many f) env p.rest.now) p.rest.now p.fault (λ z. all_stop (starts f) (reader true (is_zero p.left) (construct true true p.left) f env) p.rest.now (begins_not (begins (starts f) p.rest.now) p.fault h z));
+  goes = goes_nothing (read p.left (many f) env p.rest.now) p.rest.now p.fault (λ z. all_stop (starts f) (reader every_rule (is_zero p.left) (construct every_rule true p.left) f env) p.rest.now (begins_not (begins (starts f) p.rest.now) p.fault h z));
 }
 
 -- ---- loops
@@ -122,7 +122,7 @@ sound_and b (Some x) h = absurd cc
 shorter : {f : Form} {env : Node} {p q : Parser} {a : Node} → can_be_empty f ≡ false → sees (starts f) p ≡ true → Reads f env p a q → pending q < pending p
 shorter {f} {env} {p} {q} {a} some b k =
     falls (read p.left f env p.rest.now) a p.rest.now q.rest.now p.fault q.fault (sound_and (begins (starts f) p.rest.now) p.fault b)
-    (λ v e. consumes true (is_zero p.left) true p.left f env some p.rest.now v q.rest.now e) k.goes
+    (λ v e. consumes every_rule (is_zero p.left) true p.left f env some p.rest.now v q.rest.now e) k.goes
 
 pub smaller : {X : Type 0} {f : Form} {env : Node} {p q r : Parser} {a : Node} {before after : List X} {x : X} → can_be_empty f ≡ false → sees (starts f) p ≡ true → Reads f env p a q → Appends before x after q r → pending r < pending p
 smaller {X} {f} {env} {p} {q} {r} {a} {before} {after} {x} some b one l = shorter some b (appending one l)

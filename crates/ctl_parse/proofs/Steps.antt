@@ -5,7 +5,7 @@ use Rattle.ctl_tree.specs.declared.token.Token.{Token}
 use Rattle.ctl_grammar.specs.declared.refused.Reason.TheVariants.{Unexpected, TooDeep}
 use Rattle.ctl_grammar.specs.declared.refused.Refused.{Refused}
 use Rattle.ctl_grammar.specs.declared.refused.Refused.TheVariants as refused
-use Rattle.ctl_grammar.specs.Form.{Node, none, leaf, num, written, at, pair, tag, Nest, Form, empty, alt, act, nest, ◌▸◌, starts, nest_starts}
+use Rattle.ctl_grammar.specs.Form.{Node, none, leaf, num, written, at, pair, tag, Nest, Form, empty, alt, act, nest, ◌▸◌, starts, nest_starts, every_rule}
 use Rattle.ctl_grammar.specs.Grammar.{body}
 use Rattle.ctl_grammar.specs.Nodes.{first, second, place, spelling, value, identifier_of, number_of, string_of, name_of, parentheses_of, product_of, unsigned_sum_of, sum_of, relation_of, logical_of, allocator_of}
 use Rattle.ctl_grammar.specs.Reading.{Read, ◌>>=◌, begins, read, construct}
@@ -354,10 +354,10 @@ stopping_made {form} {p} {q} {v} make keep h = being_sound (λ z. absurd (unsoun
 
 -- ---- constructs
 
-goes_nested : (n : Nest) (env a : Node) (d e : Option Refused) (l m : ℕ) (ts us : List Token) → (is_sound d && begins (nest_starts n) ts) ≡ true → l ≡ m + 1 → Goes d ts (read m (body n) env ts) a e us → Goes d ts (construct true true l n env ts) a e us
+goes_nested : (n : Nest) (env a : Node) (d e : Option Refused) (l m : ℕ) (ts us : List Token) → (is_sound d && begins (nest_starts n) ts) ≡ true → l ≡ m + 1 → Goes d ts (read m (body n) env ts) a e us → Goes d ts (construct every_rule true l n env ts) a e us
 goes_nested n env a None e l m ts us b h g =
     let less : l - 1 ≡ m = omega (arith, h) in
-    let is : construct true true l n env ts ≡ read m (body n) env ts = construct_opened l n env ts b (omega (arith, h)) ∙ ap (λ (k : ℕ). read k (body n) env ts) less in
+    let is : construct every_rule true l n env ts ≡ read m (body n) env ts = construct_opened l n env ts b (omega (arith, h)) ∙ ap (λ (k : ℕ). read k (body n) env ts) less in
     subst (λ (z : Read). Gave z a e us) (sym is) g
 goes_nested n env a (Some x) e l m ts us b h g = absurd cc
 
@@ -373,11 +373,11 @@ nesting {n} {env} {is_next} {p} {q} {r} {s} {a} b o h l m f =
       goes = goes_nested n env a p.fault s.fault p.left q.left p.rest.now s.rest.now (sym b ∙ o.next) o.left four;
     }
 
-goes_barred : (n : Nest) (env a : Node) (b : Bool) (d e : Option Refused) (l : ℕ) (ts us : List Token) → b ≡ (is_sound d && begins (nest_starts n) ts) → Barred d b l e → us ≡ ts → Goes d ts (construct true true l n env ts) a e us
+goes_barred : (n : Nest) (env a : Node) (b : Bool) (d e : Option Refused) (l : ℕ) (ts us : List Token) → b ≡ (is_sound d && begins (nest_starts n) ts) → Barred d b l e → us ≡ ts → Goes d ts (construct every_rule true l n env ts) a e us
 goes_barred n env a false None e l ts us b h u =
-    subst (λ (z : Option Refused). Gave (construct true true l n env ts) a z us) (sym h) (construct_other l n env ts (sym b) ∙ ap (λ (z : List Token). Err (Unexpected, z)) (sym u))
+    subst (λ (z : Option Refused). Gave (construct every_rule true l n env ts) a z us) (sym h) (construct_other l n env ts (sym b) ∙ ap (λ (z : List Token). Err (Unexpected, z)) (sym u))
 goes_barred n env a true None e l ts us b h u =
-    subst (λ (z : Option Refused). Gave (construct true true l n env ts) a z us) (sym h.1) (construct_full l n env ts (sym b) h.0 ∙ ap (λ (z : List Token). Err (TooDeep, z)) (sym u))
+    subst (λ (z : Option Refused). Gave (construct every_rule true l n env ts) a z us) (sym h.1) (construct_full l n env ts (sym b) h.0 ∙ ap (λ (z : List Token). Err (TooDeep, z)) (sym u))
 goes_barred n env a b (Some x) e l ts us c h u = (h, u)
 
 -- a construct that was not opened

@@ -6,20 +6,19 @@ ghost use Rattle.ctl_grammar.specs.Depth.{greatest_depth};
 ghost use Rattle.ctl_grammar.specs.Form.{Node, none};
 ghost use Rattle.ctl_grammar.specs.Grammar.{program};
 ghost use Rattle.ctl_grammar.specs.Text.{IsProgram, answer};
-ghost use Rattle.ctl_grammar.specs.Fault.{HasGrammarFault, code_of, fault_at};
+ghost use Rattle.ctl_grammar.specs.Fault.{HasGrammarFault};
 ghost use Rattle.ctl_parse.specs.Kept.{kept_program};
 ghost use Rattle.ctl_parse.specs.Memory.{IsMemory, Tells};
 ghost use Rattle.ctl_parse.specs.Parts.{program_node, tree_node};
 ghost use Rattle.ctl_parse.specs.Reads.{Ends, Goes, Reads};
 
 use crate::cursor::Parser;
-use ctl_grammar::depth::GREATEST_DEPTH;
-use ctl_grammar::kind::is_left_out;
+use ctl_grammar::depth::greatest_depth;
+use ctl_grammar::fault::fault_at;
 use ctl_grammar::refused::{Reason, Refused};
 use ctl_syntax::denoted::Written;
 use ctl_syntax::item::Tree;
-use ctl_tree::fault::{Fault, FaultCode};
-use ctl_tree::span::Span;
+use ctl_tree::fault::Fault;
 use ctl_tree::token::{Kind, Token};
 use std::alloc::Global;
 
@@ -60,37 +59,6 @@ impl<'a> Parser<'a> {
     }
 }
 
-/// Gives the number of the fault of a token that is wrong for this reason.
-fn code_of(reason: Reason, kind: Kind) -> FaultCode
-    ensures { result ≡ code_of reason kind }
-{
-    match reason {
-        Reason::Unexpected => {
-            if is_left_out(kind) {
-                FaultCode::LeftOut
-            } else {
-                FaultCode::Unexpected
-            }
-        }
-        Reason::TooDeep => FaultCode::TooDeep,
-        Reason::LeftOut => FaultCode::LeftOut,
-        Reason::EndName => FaultCode::EndName,
-    }
-}
-
-/// Gives the fault of the first of these tokens. Where none is left, it stands at the last of all tokens.
-fn fault_at(reason: Reason, rest: &[Token], tokens: &[Token]) -> Fault
-    ensures { result ≡ fault_at reason rest.now tokens.now }
-{
-    match rest.first() {
-        Some(token) => Fault::at(code_of(reason, token.kind), token.span),
-        None => match tokens.last() {
-            Some(token) => Fault::at(FaultCode::Unexpected, token.span),
-            None => Fault::at(FaultCode::Unexpected, Span { line: 1, column: 1 }),
-        },
-    }
-}
-
 /// Gives the fault where reading failed for this reason before these of the tokens.
 fn fault_of(refused: Refused, rest: &[Token], tokens: &[Token]) -> Fault
     ensures { Tells refused rest.now tokens.now result }
@@ -107,7 +75,7 @@ fn fault_of(refused: Refused, rest: &[Token], tokens: &[Token]) -> Fault
 ///
 /// `UNEXPECTED` stands at a token that the grammar does not allow there, and `LEFT_OUT` too if that is a reserved word
 /// that the subset leaves out; `LEFT_OUT` also at an attribute or aspect that it leaves out. `TOO_DEEP` stands at the
-/// first token of a construct where `GREATEST_DEPTH` are open, and `END_NAME` at a name behind `end` that is not the subprogram's (RM 6.3).
+/// first token of a construct where `greatest_depth()` are open, and `END_NAME` at a name behind `end` that is not the subprogram's (RM 6.3).
 /// `MEMORY`: the host refused memory.
 pub fn parse(alloc: Global, tokens: &[Token]) -> Result<Written, Fault>
     ensures found { IfOk result (λ tree. (v : Node) × IsProgram greatest_depth v tokens.now × (tree_node tree ≡ kept_program v)) }
@@ -119,7 +87,7 @@ pub fn parse(alloc: Global, tokens: &[Token]) -> Result<Written, Fault>
 {
     let mut parser = Parser {
         rest: tokens,
-        left: GREATEST_DEPTH,
+        left: greatest_depth(),
         fault: None,
         alloc,
     };
