@@ -1,10 +1,11 @@
 -- Access types as they are declared (3.10, 13.11), and the incomplete types that they may designate (3.10.1).
-use Rattle.std.specs.Prelude.{ℕ, ◌+◌, Bool, true, false, if◌then◌else◌, nat_eq, nat_lt, List, [], ◌∷◌, ◌++◌, length, slice_get, Option, Some, None}
+use Rattle.std.specs.Prelude.{ℕ, ◌+◌, Bool, true, false, if◌then◌else◌, nat_eq, nat_lt, List, [], ◌∷◌, ◌++◌, length, drop, slice_get, Option, Some, None}
 use Rattle.ctl_tree.specs.declared.span.Span.{Span}
 use Rattle.ctl_tree.specs.declared.fault.FaultCode.{FaultCode}
 use Rattle.ctl_tree.specs.declared.fault.FaultCode.TheVariants as rule
 use Rattle.ctl_program.specs.declared.types.Ty.{Ty}
 use Rattle.ctl_program.specs.declared.types.Ty.TheVariants as ty
+use Rattle.ctl_program.specs.declared.types.Root.{Root}
 use Rattle.ctl_program.specs.declared.types.Var.{Var}
 use Rattle.ctl_program.specs.declared.statement.Item.{Item as Checked_item}
 use Rattle.ctl_syntax.specs.declared.denoted.Denoted.{Denoted}
@@ -26,16 +27,17 @@ use Rattle.ctl_typing.specs.declared.table.Designated.TheVariants as designated
 use Rattle.ctl_typing.specs.declared.table.Freezing.TheVariants.{Free}
 use Rattle.ctl_draft.specs.declared.draft.Draft.{Draft}
 use Rattle.ctl_draft.specs.declared.draft.Around.{Around}
-use Rattle.ctl_typing.specs.Judgement.{Judgement, known, but, wrong, ◌>>=◌}
+use Rattle.ctl_typing.specs.declared.notes.Notes.{Notes}
+use Rattle.ctl_typing.specs.Judgement.{Judgement, known, wrong, with_fault, ◌>>=◌}
 use Rattle.ctl_typing.specs.Lookup.{root_of, is_mark_root}
 use Rattle.ctl_draft.specs.Draft.{by_tables, fault_when, enter, take_slot, next_var}
-use Rattle.ctl_draft.specs.Marks.{named_type, no_pool, pool_named}
-use Rattle.ctl_draft.specs.Freezing.{changed_each, with_accesses}
+use Rattle.ctl_draft.specs.Marks.{named_type, no_pool, is_pool_root, pool_named}
+use Rattle.ctl_draft.specs.Freezing.{changed_each, with_accesses, with_notes}
 
 -- Incomplete types (3.10.1) --------------------------------------------------------------------------------------
 
 abbrev pub completed_designated : ℕ → Ty → Designated → Designated
-completed_designated number t (designated.Awaited n) = if nat_eq n number then designated.Known t else designated.Awaited n
+completed_designated number t (designated.Awaited n place) = if nat_eq n number then designated.Known t else designated.Awaited n place
 completed_designated number t d = d
 
 abbrev pub completed_access : ℕ → Ty → AccessEntry → AccessEntry
@@ -44,6 +46,19 @@ completed_access number t a = record a { designated = completed_designated numbe
 -- the access types of the part that wait for this declaration
 abbrev pub complete : Around → ℕ → Ty → Draft → Draft
 complete around number t d = with_accesses (changed_each (completed_access number t) around.first_access d.tables.states.accesses) d
+
+abbrev pub pool_noted : ℕ → Designated → Notes → Notes
+pool_noted number (designated.Awaited n place) notes = if nat_eq n number then with_fault rule.Pool place notes else notes
+pool_noted number d notes = notes
+
+abbrev pub pools_noted : ℕ → List AccessEntry → Notes → Notes
+pools_noted number [] n = n
+pools_noted number (a ∷ as') n = pools_noted number as' (pool_noted number a.designated n)
+
+-- a type of this root completes nothing that an access type of the part designates, where it is a pool (profile)
+abbrev pub no_pool_awaited : Around → ℕ → Root → Draft → Draft
+no_pool_awaited around number r d =
+    with_notes (if is_pool_root r then pools_noted number (drop around.first_access d.tables.states.accesses) d.notes else d.notes) d
 
 -- the type of this number of declaration is known from here on
 abbrev pub enter_type : Around → ℕ → Ty → Draft → Draft
@@ -64,7 +79,7 @@ abbrev pub designated_type : Tables → Span → Mark Use → Judgement Designat
 designated_type tables place m = named_type tables place m >>= no_pool tables m.first.span >>= (λ t. known (designated.Known t))
 
 abbrev pub designated_entry : Tables → Span → Mark Use → ℕ → Option Entry → Judgement Designated
-designated_entry tables place m number (Some (entry.Incomplete t)) = known (designated.Awaited number)
+designated_entry tables place m number (Some (entry.Incomplete t)) = known (designated.Awaited number m.first.span)
 designated_entry tables place m number e = designated_type tables place m
 
 abbrev pub designated_denoted : Tables → Span → Mark Use → Denoted → Judgement Designated
@@ -80,14 +95,15 @@ abbrev pub is_all : Generality → Bool
 is_all generality.General = true
 is_all generality.PoolSpecific = false
 
-abbrev pub same_pool : (Var × ℕ) → Bool → FaultCode → Span → Judgement (Var × ℕ)
-same_pool p b code place = if b then but code place p else known p
+-- the pool, unless this rule is broken
+abbrev pub unless : Bool → FaultCode → Span → Var × ℕ → Judgement (Var × ℕ)
+unless b code place p = if b then wrong code place else known p
 
--- a type with subpools is not general, and no deeper than its pool (13.11.4, profile)
+-- a type with subpools is no deeper than its pool, which is told at its identifier, and not general (13.11.4, profile)
 abbrev pub pool_for : Tables → Generality → ℕ → Span → Span → Var × ℕ → Judgement (Var × ℕ)
 pool_for tables g level identifier place p =
     if is_mark_root (root_of (slice_get tables.records p.1))
-    then (same_pool p (is_all g) rule.Pool place >>= (λ q. same_pool q (nat_lt q.0.level level) rule.SubpoolLevel identifier))
+    then (unless (nat_lt p.0.level level) rule.SubpoolLevel identifier p >>= unless (is_all g) rule.Pool place)
     else known p
 
 abbrev pub pool_given : Generality → ℕ → Span → Option (Mark Use) → Tables → Judgement (Var × ℕ)

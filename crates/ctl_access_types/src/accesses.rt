@@ -7,7 +7,7 @@ ghost use Rattle.ctl_typing.specs.Judgement.{Answers, Judges, Yields};
 
 use ctl_draft::draft::{Around, Draft};
 use ctl_draft::named_types::named_type;
-use ctl_draft::types::{no_pool, pool_named};
+use ctl_draft::types::{is_pool_root, no_pool, pool_named};
 use ctl_program::statement::Item;
 use ctl_program::types::{Root, Ty, Var};
 use ctl_syntax::denoted::{Definition, Denoted, Use};
@@ -27,7 +27,7 @@ fn completed(number: usize, ty: Ty, designated: Designated) -> Designated
     ensures { result ≡ spec.completed_designated number ty designated }
 {
     match designated {
-        Designated::Awaited(awaited) if awaited == number => Designated::Known(ty),
+        Designated::Awaited(awaited, _) if awaited == number => Designated::Known(ty),
         other => other,
     }
 }
@@ -49,6 +49,39 @@ fn complete_each(accesses: &mut Items<AccessEntry>, first: usize, number: usize,
 {
     for at in first..accesses.len() {
         complete_access(accesses, at, number, ty);
+    }
+}
+
+/// Notes where an access type names the type of a number that is awaited.
+fn note_pool(number: usize, designated: Designated, notes: &mut Notes)
+    ensures { notes.new ≡ spec.pool_noted number designated notes.old }
+{
+    match designated {
+        Designated::Awaited(awaited, place) if awaited == number => {
+            note(notes, FaultCode::Pool, place)
+        }
+        _ => {}
+    }
+}
+
+/// Notes where each of these access types names the type of a number that is awaited.
+fn note_pools(number: usize, accesses: &[AccessEntry], notes: &mut Notes)
+    ensures { notes.new ≡ spec.pools_noted number accesses.now notes.old }
+{
+    for access in accesses {
+        note_pool(number, access.designated, notes);
+    }
+}
+
+/// Notes where access types of the part designate what a type of this root completes, if it is a pool (profile).
+pub fn no_pool_awaited(around: Around, number: usize, root: Root, draft: &mut Draft)
+    ensures { draft.new ≡ spec.no_pool_awaited around number root draft.old }
+{
+    if is_pool_root(root) {
+        let accesses = draft.tables.states.accesses.as_slice();
+        if let Some(own) = accesses.get(around.first_access..) {
+            note_pools(number, own, &mut draft.notes);
+        }
     }
 }
 
@@ -116,7 +149,7 @@ fn designated_denoted(
 {
     if let Denoted::Declared(number, _) = mark.first.denoted {
         if let Some(Entry::Incomplete(_)) = sqlite_items::at(tables.entries.as_slice(), number) {
-            return Ok(Some(Designated::Awaited(number)));
+            return Ok(Some(Designated::Awaited(number, mark.first.span)));
         }
     }
     designated_type(alloc, tables, place, mark, notes)
@@ -139,7 +172,7 @@ fn designated_named(
     }
 }
 
-/// Notes where a pool does not fit an access type: one with subpools is not general, and no deeper than its pool (RM 13.11.4, profile).
+/// Answers the pool of an access type, where it fits: a type with subpools is no deeper than its pool, and not general (RM 13.11.4, profile).
 pub fn pool_for(
     tables: &Tables,
     generality: Generality,
@@ -154,11 +187,11 @@ pub fn pool_for(
     if root_of(tables, pool.1) != Root::MarkPool {
         return Some(pool);
     }
-    if generality == Generality::General {
-        note(notes, FaultCode::Pool, place);
-    }
     if pool.0.level < level {
-        note(notes, FaultCode::SubpoolLevel, identifier);
+        return wrong(FaultCode::SubpoolLevel, identifier, notes);
+    }
+    if generality == Generality::General {
+        return wrong(FaultCode::Pool, place, notes);
     }
     Some(pool)
 }

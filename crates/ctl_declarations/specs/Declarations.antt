@@ -1,6 +1,6 @@
 -- Objects, exceptions, instances and headings of subprograms as they are declared (3.3.1, 11.1, 12.3, 6.1, 8.3.1).
-use Rattle.std.specs.Prelude.{ℕ, zero, suc, Bool, true, false, ◌&&◌, ◌||◌, not, if◌then◌else◌, nat_eq, List, [], ◌∷◌, ◌++◌, codes, length, map, slice_get, Option, Some, None, option_map}
-use Rattle.ctl_grammar.specs.Spelling.{same_name}
+use Rattle.std.specs.Prelude.{ℕ, zero, suc, Bool, true, false, ◌&&◌, ◌||◌, not, if◌then◌else◌, nat_eq, List, [], ◌∷◌, ◌++◌, length, map, slice_get, Option, Some, None, option_map}
+use Rattle.ctl_resolve.specs.Library.{operation_named}
 use Rattle.ctl_tree.specs.declared.span.Span.{Span}
 use Rattle.ctl_tree.specs.declared.fault.FaultCode.TheVariants as rule
 use Rattle.ctl_program.specs.declared.types.Ty.{Ty}
@@ -54,11 +54,11 @@ use Rattle.ctl_draft.specs.declared.draft.Order.{Order}
 use Rattle.ctl_draft.specs.declared.draft.Order.TheVariants as order
 use Rattle.ctl_draft.specs.declared.draft.Role.{Role}
 use Rattle.ctl_draft.specs.declared.draft.Role.TheVariants as role
-use Rattle.ctl_typing.specs.Judgement.{Judgement, known, but, wrong, unresolved, ◌>>=◌, both, each}
+use Rattle.ctl_typing.specs.Judgement.{Judgement, known, but, wrong, unresolved, ◌>>=◌, both, followed_by, each}
 use Rattle.ctl_typing.specs.Lookup.{same, root_of, is_limited, designated_by}
 use Rattle.ctl_typing.specs.Typing.{Sense, sense, found, together, designates_this}
 use Rattle.ctl_draft.specs.Draft.{Doing, by_tables, early_when, fault_when, asking, deeds_of, asked, declare, declare_object, enter}
-use Rattle.ctl_draft.specs.Marks.{named_type, concrete_type, no_pool, is_pool, is_controlled, positions, root_of_type}
+use Rattle.ctl_draft.specs.Marks.{is_root_pool, named_type, concrete_type, no_pool, is_pool, has_controlled, positions, root_of_type}
 use Rattle.ctl_draft.specs.Freezing.{changed, with_records, is_free_type, done_by}
 use Rattle.ctl_draft.specs.Operations.{provides, operation_formals, formal}
 use Rattle.ctl_declarations.specs.Types.{is_given, record_type, extension}
@@ -68,15 +68,6 @@ use Rattle.ctl_syntax.specs.declared.item.Definition.TheVariants as definition
 use Rattle.ctl_syntax.specs.declared.item.Taggedness.{Taggedness}
 
 -- Names of operations (7.6, 13.11) --------------------------------------------------------------------------
-
-abbrev pub operation_named : List ℕ → Option OperationName
-operation_named name =
-    if same_name name (codes "initialize") then Some Initialize
-    else if same_name name (codes "adjust") then Some Adjust
-    else if same_name name (codes "finalize") then Some Finalize
-    else if same_name name (codes "allocate") then Some Allocate
-    else if same_name name (codes "deallocate") then Some Deallocate
-    else None
 
 -- what is no subprogram has no name of an operation (profile)
 abbrev pub name_kept : Definition → Draft → Draft
@@ -195,7 +186,7 @@ object_frozen around o t is d = object_declared around o t is (done_by around (o
 -- a constant has a value (3.3.1(5)), and a limited object, of this name, has none (7.5)
 abbrev pub value_kept : Span → Objects Definition Use → Span → Option Ty → Draft → Draft
 value_kept place o name t d =
-    fault_when (limited_as d.tables t && is_given o.value) rule.Limited name (fault_when (is_constant o.constancy && not (is_given o.value)) rule.Type place d)
+    fault_when ((limited_as d.tables t || is_root_pool o.mark) && is_given o.value) rule.Limited name (fault_when (is_constant o.constancy && not (is_given o.value)) rule.Type place d)
 
 abbrev pub object_kept : Around → Order → Span → Objects Definition Use → Span → Option Ty → Option (List Checked_item) → Draft → Option (List Checked_item) × Draft
 object_kept around order place o name t is d = object_frozen around o t is (wait_as order name t (value_kept place o name t d))
@@ -239,12 +230,17 @@ abbrev pub type_found : Span → Found → Judgement Ty
 type_found place (TypeName t) = known t
 type_found place f = wrong rule.Type place
 
+-- what is no type is told of at the item, also where it is wrong itself
+abbrev pub type_known : Span → Option Found → Judgement Ty
+type_known place None = wrong rule.Type place
+type_known place (Some f) = type_found place f
+
 abbrev pub type_named : Span → Use → List (Suffix Sense) → Tables → Judgement Ty
-type_named place u xs tables = found u xs tables >>= type_found place
+type_named place u xs tables = followed_by (found u xs tables) (type_known place)
 
 abbrev pub type_by : Tables → Span → Option (Tables → Judgement Found) → Judgement Ty
 type_by tables place None = wrong rule.Type place
-type_by tables place (Some name) = name tables >>= type_found place
+type_by tables place (Some name) = followed_by (name tables) (type_known place)
 
 abbrev pub actual_type : Tables → Span → Sense → Judgement Ty
 actual_type tables place x = type_by tables place x.bare
@@ -337,10 +333,11 @@ only_in (f ∷ fs) d = only_in fs (not_in f.mode f.names d)
 
 -- a function returns no limited type, and none with controlled parts (profile)
 abbrev pub returned : Tables → Span → Ty → Judgement Ty
-returned tables place t = if is_limited tables t || is_controlled tables t then but rule.Limited place t else known t
+returned tables place t = if is_limited tables t || has_controlled tables t then but rule.Limited place t else known t
 
 abbrev pub returned_type : Tables → Span → Mark Use → Judgement Ty
-returned_type tables place m = named_type tables place m >>= returned tables m.first.span
+returned_type tables place m =
+    if is_root_pool m then wrong rule.Limited m.first.span else (named_type tables place m >>= returned tables m.first.span)
 
 abbrev pub result_type : Span → Option (Mark Use) → Tables → Judgement (Option Ty)
 result_type place None tables = known None

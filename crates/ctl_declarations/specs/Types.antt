@@ -1,6 +1,5 @@
 -- Types and their components as they are declared (3.8, 3.9.1, 3.10, 13.11), and the pools of access types.
 use Rattle.std.specs.Prelude.{ℕ, ◌+◌, Bool, true, false, ◌&&◌, ◌||◌, if◌then◌else◌, nat_eq, nat_le, List, [], ◌∷◌, ◌++◌, length, slice_get, Option, Some, None, option_map}
-use Rattle.ctl_grammar.specs.Spelling.{same_name}
 use Rattle.ctl_tree.specs.declared.span.Span.{Span}
 use Rattle.ctl_tree.specs.declared.fault.FaultCode.TheVariants as rule
 use Rattle.ctl_program.specs.declared.types.Ty.{Ty}
@@ -45,10 +44,11 @@ use Rattle.ctl_typing.specs.Judgement.{Judgement, known, but, wrong, unresolved,
 use Rattle.ctl_typing.specs.Lookup.{component_of, root_of, is_limited}
 use Rattle.ctl_typing.specs.Typing.{Sense, sense, discriminant_named, together}
 use Rattle.ctl_draft.specs.Draft.{Doing, by_tables, early_when, asking, deeds_of, asked, enter}
-use Rattle.ctl_draft.specs.Marks.{concrete_type, named_type, no_pool, is_controlled, pool_named}
+use Rattle.ctl_draft.specs.Marks.{concrete_type, named_type, is_alone, is_root_pool, no_pool, has_controlled, pool_named}
+use Rattle.ctl_draft.specs.Names.{is_name_among}
 use Rattle.ctl_draft.specs.Freezing.{changed, with_accesses, is_free_type, done_by}
 use Rattle.ctl_draft.specs.Operations.{operations_of}
-use Rattle.ctl_access_types.specs.AccessTypes.{enter_type, untagged_kept, pool_for}
+use Rattle.ctl_access_types.specs.AccessTypes.{enter_type, no_pool_awaited, untagged_kept, pool_for}
 
 -- Components (3.8) --------------------------------------------------------------------------------
 
@@ -59,7 +59,7 @@ is_name_of number d = false
 -- the type of a component: a type with objects, and no pool; not the record itself (3.8, profile)
 abbrev pub component_type : Tables → Enclosing → Span → Mark Use → Judgement Ty
 component_type tables within place m =
-    if is_name_of within.number m.first.denoted
+    if is_name_of within.number m.first.denoted && is_alone m
     then wrong rule.SelfContained place
     else (concrete_type tables within.place m >>= no_pool tables m.first.span)
 
@@ -73,9 +73,11 @@ is_given None = false
 is_given (Some a) = true
 
 -- a limited component has no default (7.5), and stands in no extension of a type that is not limited (3.9.1)
+abbrev pub excludes_limited : Enclosing → Bool → Bool
+excludes_limited within has_default = has_default || is_unlimited within.limitation
+
 abbrev pub may_be_limited : Tables → Enclosing → Span → Bool → Ty → Judgement Ty
-may_be_limited tables within place has_default t =
-    if is_limited tables t && (has_default || is_unlimited within.limitation) then but rule.Limited place t else known t
+may_be_limited tables within place has_default t = if is_limited tables t && excludes_limited within has_default then but rule.Limited place t else known t
 
 abbrev pub default_of : Tables → Option Ty → Option Sense → Judgement (Option Expr)
 default_of tables t None = known None
@@ -101,10 +103,6 @@ last_position count (c ∷ cs) = last_position c.position cs
 -- inherited components have the first positions (3.9.1)
 abbrev pub next_position : Draft → Option ℕ → ℕ
 next_position d parent = last_position (inherited_count (on_parent d.tables parent)) d.own + 1
-
-abbrev pub is_name_among : List ℕ → List (List ℕ) → Bool
-is_name_among name [] = false
-is_name_among name (n ∷ ns) = same_name name n || is_name_among name ns
 
 abbrev pub has_inherited : Tables → List ℕ → Option ℕ → Bool
 has_inherited tables name None = false
@@ -137,8 +135,12 @@ component_made within i b t (v, d) = (checked_component t v, enter_component wit
 abbrev pub component_default : Enclosing → Identifier → Option Sense → Option Ty × Draft → Option Component × Draft
 component_default within i value (t, d) = component_made within i (beginning_of value) t (by_tables (λ tables. default_of tables t value) d)
 
+-- Root_Storage_Pool is limited, too
 abbrev pub component_judged : Enclosing → Mark Use → Option Sense → Identifier → Tables → Judgement Ty
-component_judged within m value i tables = component_type tables within i.span m >>= may_be_limited tables within i.span (is_given value)
+component_judged within m value i tables =
+    if is_root_pool m && excludes_limited within (is_given value)
+    then wrong rule.Limited i.span
+    else (component_type tables within i.span m >>= may_be_limited tables within i.span (is_given value))
 
 -- one component; `A, B : T` are two (3.8(17))
 abbrev pub component : Enclosing → Mark Use → Option Sense → Identifier → Doing Component
@@ -173,7 +175,7 @@ limitation_of tables limitation.Nonlimited own = if any_limited tables own then 
 
 abbrev pub any_controlled : Tables → List ComponentEntry → Bool
 any_controlled tables [] = false
-any_controlled tables (c ∷ cs) = is_controlled tables c.ty || any_controlled tables cs
+any_controlled tables (c ∷ cs) = has_controlled tables c.ty || any_controlled tables cs
 
 abbrev pub is_tagged : Root → Bool
 is_tagged root.Untagged = false
@@ -218,9 +220,13 @@ enter_record around within r l (cs, d) =
     enter_type around within.number (ty.Record (length d.tables.records))
     (asked (without_own (add_record (record_entry around r l within.parent d) (inherited_state (state_on d.tables within.parent)) cs d)))
 
+-- the components, once it is told where a pool type completes what an access type designates
+abbrev pub awaited_kept : Around → ℕ → Root → Option (List Component) × Draft → Option (List Component) × Draft
+awaited_kept around number r (cs, d) = (cs, no_pool_awaited around number r d)
+
 -- the record type that is declared here, with its components
 abbrev pub declare_record : Around → Enclosing → Root → Limitation → List (Components Use) → Draft → Draft
-declare_record around within r l cs d = enter_record around within r l (components within cs (asking d))
+declare_record around within r l cs d = enter_record around within r l (awaited_kept around within.number r (components within cs (asking d)))
 
 abbrev pub underived : Span → ℕ → Enclosing
 underived place number = record { place = place; number = number; parent = None; limitation = None }

@@ -6,10 +6,9 @@ ghost use Rattle.ctl_typing.specs.Judgement.{Answers, Judges};
 ghost use Rattle.ctl_typing.specs.Typing.{sense};
 
 use ctl_draft::draft::{Draft, Enclosing};
-use ctl_draft::named_types::concrete_type;
+use ctl_draft::named_types::{concrete_type, is_root_pool};
 use ctl_draft::rows::together;
 use ctl_draft::types::no_pool;
-use ctl_grammar::spelling::is_same_name;
 use ctl_program::expression::Expr;
 use ctl_program::types::{Component, Ty};
 use ctl_syntax::denoted::{Denoted, Use};
@@ -51,7 +50,7 @@ fn component_type(
 ) -> Result<Option<Ty>, AllocError>
     ensures { Judges (spec.component_type tables.now within place mark.now) notes.old result notes.new }
 {
-    if is_name_of(within.number, mark.first.denoted) {
+    if is_name_of(within.number, mark.first.denoted) && mark.rest.is_empty() {
         return Ok(wrong(FaultCode::SelfContained, place, notes));
     }
     match concrete_type(alloc, tables, within.place, mark, notes)? {
@@ -60,7 +59,15 @@ fn component_type(
     }
 }
 
-/// Notes a limited component that has a default, or stands in an extension of a type that is not limited (RM 7.5, 3.9.1).
+/// Tells whether a component that is limited is refused: it has a default, or stands in an extension of a type that is not limited (RM 7.5,
+/// 3.9.1).
+fn excludes_limited(within: Enclosing, has_default: bool) -> bool
+    ensures { result ≡ spec.excludes_limited within has_default }
+{
+    has_default || within.limitation == Some(Limitation::Nonlimited)
+}
+
+/// Notes a limited component where it is refused.
 fn may_be_limited(
     tables: &Tables,
     within: Enclosing,
@@ -71,8 +78,7 @@ fn may_be_limited(
 ) -> Option<Ty>
     ensures { Answers (spec.may_be_limited tables.now within place has_default ty) notes.old result notes.new }
 {
-    let is_unlimited = within.limitation == Some(Limitation::Nonlimited);
-    if is_limited(tables, ty) && (has_default || is_unlimited) {
+    if is_limited(tables, ty) && excludes_limited(within, has_default) {
         note(notes, FaultCode::Limited, place);
     }
     Some(ty)
@@ -124,14 +130,14 @@ pub fn inherited_count(tables: &Tables, parent: Option<usize>) -> usize
 }
 
 /// Answers the position of the last of these components, behind so many inherited ones.
+#[tactic(auto, using(crate::proofs::Positions::last_position_at_end))]
 pub fn last_position(count: usize, own: &[ComponentEntry]) -> usize
     ensures { result ≡ spec.last_position count own.now }
 {
-    let mut position = count;
-    for component in own {
-        position = component.position;
+    match own.split_last() {
+        Some((component, _)) => component.position,
+        None => count,
     }
-    position
 }
 
 /// Answers the position of the next component: inherited ones have the first positions (RM 3.9.1). One that cannot be counted is answered as
@@ -142,18 +148,6 @@ fn next_position(draft: &Draft, parent: Option<usize>) -> Result<usize, AllocErr
     let inherited = inherited_count(&draft.tables, parent);
     let last = last_position(inherited, draft.own.as_slice());
     last.checked_add(1).ok_or(AllocError)
-}
-
-/// Tells whether a name is one of these.
-fn is_name_among(name: &Text, names: &[Text]) -> bool
-    ensures { result ≡ spec.is_name_among name.now names.now }
-{
-    for other in names {
-        if is_same_name(name.as_bytes(), other.as_bytes()) {
-            return true;
-        }
-    }
-    false
 }
 
 /// Tells whether a parent, if there is one, has a component or a discriminant of a name (RM 3.9.1).
@@ -167,14 +161,7 @@ fn has_inherited(tables: &Tables, name: &Text, parent: Option<usize>) -> bool
         || discriminant_named(root_of(tables, number), name).is_some()
 }
 
-/// Tells whether there is a component of a name already (RM 8.3(26), 3.9.1).
-fn is_repeated(draft: &Draft, parent: Option<usize>, name: &Text) -> bool
-    ensures { result ≡ spec.is_repeated draft.now parent name.now }
-{
-    is_name_among(name, draft.own_names.as_slice()) || has_inherited(&draft.tables, name, parent)
-}
-
-/// Keeps the name of one more component, which is to be a new one.
+/// Keeps the name of one more component, which is to be a new one (RM 8.3(26), 3.9.1).
 fn name_component(
     alloc: Global,
     within: Enclosing,
@@ -183,10 +170,11 @@ fn name_component(
 ) -> Result<(), AllocError>
     ensures { OnOk result (draft.new ≡ spec.name_component within identifier.now draft.old) }
 {
-    let is_broken = is_repeated(draft, within.parent, &identifier.text);
+    let name = &identifier.text;
+    let is_among = draft.own_names.add(alloc, name)?;
+    let is_broken = is_among || has_inherited(&draft.tables, name, within.parent);
     draft.early_when(is_broken, FaultCode::Duplicate, identifier.span);
-    let name = Text::from_slice(alloc, identifier.text.as_bytes())?;
-    draft.own_names.push(name)
+    Ok(())
 }
 
 /// Enters a component whose type is known.
@@ -235,6 +223,9 @@ fn component_judged(
     ensures { Judges (spec.component_judged within mark.now (option_map sense value.now) identifier.now tables.now) notes.old result notes.new }
 {
     let place = identifier.span;
+    if is_root_pool(mark) && excludes_limited(within, value.is_some()) {
+        return Ok(wrong(FaultCode::Limited, place, notes));
+    }
     match component_type(alloc, tables, within, place, mark, notes)? {
         Some(ty) => Ok(may_be_limited(tables, within, place, value.is_some(), ty, notes)),
         None => Ok(None),

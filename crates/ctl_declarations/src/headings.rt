@@ -7,16 +7,16 @@ ghost use Rattle.ctl_draft.specs.Operations as operation_spec;
 ghost use Rattle.ctl_typing.specs.Judgement.{Answers, Judges};
 
 use ctl_draft::draft::Draft;
-use ctl_draft::named_types::named_type;
+use ctl_draft::named_types::{is_root_pool, named_type};
 use ctl_draft::operations::formal;
-use ctl_draft::types::is_controlled;
+use ctl_draft::types::has_controlled;
 use ctl_program::types::Ty;
 use ctl_syntax::denoted::{Definition, Use};
 use ctl_syntax::item::{Formal, Mode, Specification};
 use ctl_syntax::name::Mark;
 use ctl_tree::fault::FaultCode;
 use ctl_tree::span::Span;
-use ctl_typing::judging::note;
+use ctl_typing::judging::{note, wrong};
 use ctl_typing::lookup::is_limited;
 use ctl_typing::notes::Notes;
 use ctl_typing::table::{FormalEntry, Tables};
@@ -117,7 +117,7 @@ fn only_in(formals: &[Formal<Definition, Use>], draft: &mut Draft)
 fn returned(tables: &Tables, place: Span, ty: Ty, notes: &mut Notes) -> Option<Ty>
     ensures { Answers (spec.returned tables.now place ty) notes.old result notes.new }
 {
-    if is_limited(tables, ty) || is_controlled(tables, ty) {
+    if is_limited(tables, ty) || has_controlled(tables, ty) {
         note(notes, FaultCode::Limited, place);
     }
     Some(ty)
@@ -133,6 +133,9 @@ fn returned_type(
 ) -> Result<Option<Ty>, AllocError>
     ensures { Judges (spec.returned_type tables.now place named.now) notes.old result notes.new }
 {
+    if is_root_pool(named) {
+        return Ok(wrong(FaultCode::Limited, named.first.span, notes));
+    }
     match named_type(alloc, tables, place, named, notes)? {
         Some(ty) => Ok(returned(tables, named.first.span, ty, notes)),
         None => Ok(None),

@@ -37,7 +37,7 @@ fn type_found(place: Span, found: &Found, notes: &mut Notes) -> Option<Ty>
     }
 }
 
-/// Answers the type that a name names.
+/// Answers the type that a name names; it is told of at the item where it names none, also where it is wrong itself.
 fn type_named(
     alloc: Global,
     tables: &Tables,
@@ -53,7 +53,7 @@ fn type_named(
             discard(found);
             Ok(ty)
         }
-        None => Ok(None),
+        None => Ok(wrong(FaultCode::Type, place, notes)),
     }
 }
 

@@ -10,7 +10,7 @@ use crate::discriminants::discriminants_given;
 use crate::own_names::keep_names;
 use ctl_draft::draft::{Around, Draft, Order, Waiting};
 use ctl_draft::freezing::done_by;
-use ctl_draft::named_types::concrete_type;
+use ctl_draft::named_types::{concrete_type, is_root_pool};
 use ctl_draft::rows::together;
 use ctl_draft::types::{is_pool, no_pool};
 use ctl_program::expression::Expr;
@@ -276,7 +276,7 @@ fn value_kept(
     let is_given = declared.value.is_some();
     let is_constant = declared.constancy == Constancy::Constant;
     draft.fault_when(is_constant && !is_given, FaultCode::Type, place);
-    let is_limited = limited_as(&draft.tables, ty);
+    let is_limited = limited_as(&draft.tables, ty) || is_root_pool(&declared.mark);
     draft.fault_when(is_limited && is_given, FaultCode::Limited, name);
 }
 

@@ -8,38 +8,17 @@ use crate::headings::Heading;
 use ctl_draft::draft::{Around, Draft, Role};
 use ctl_draft::freezing::is_free_type;
 use ctl_draft::operations::{operation_formals, provides};
-use ctl_grammar::spelling::is_same_name;
 use ctl_program::types::{Operations, Ty};
+use ctl_resolve::library::operation_named;
 use ctl_syntax::denoted::{Definition, OperationName, Use};
 use ctl_syntax::item::{Indicator, Mode, Specification};
 use ctl_tree::fault::FaultCode;
 use ctl_tree::span::Span;
-use ctl_tree::text::Text;
 use ctl_typing::judging::is_same;
 use ctl_typing::lookup::{is_limited, root_of};
 use ctl_typing::table::{FormalEntry, RecordState, Tables};
 use sqlite_items::Items;
 use std::alloc::{AllocError, Global};
-
-/// Answers the operation of a name (RM 7.6, 13.11).
-pub fn operation_named(name: &Text) -> Option<OperationName>
-    ensures { result ≡ spec.operation_named name.now }
-{
-    let name = name.as_bytes();
-    if is_same_name(name, b"initialize") {
-        Some(OperationName::Initialize)
-    } else if is_same_name(name, b"adjust") {
-        Some(OperationName::Adjust)
-    } else if is_same_name(name, b"finalize") {
-        Some(OperationName::Finalize)
-    } else if is_same_name(name, b"allocate") {
-        Some(OperationName::Allocate)
-    } else if is_same_name(name, b"deallocate") {
-        Some(OperationName::Deallocate)
-    } else {
-        None
-    }
-}
 
 /// Tells whether both are one mode.
 fn is_same_mode(a: Mode, b: Mode) -> bool
@@ -175,7 +154,7 @@ pub fn role_of(
     match heading {
         None => Ok(Role::Plain),
         Some((formals, result_type)) => {
-            let named = operation_named(&specification.name.identifier.text);
+            let named = operation_named(specification.name.identifier.text.as_bytes());
             let formals = formals.as_slice();
             role_by(
                 alloc,
@@ -204,7 +183,7 @@ fn is_unfounded(indicator: Indicator, named: Option<OperationName>) -> bool
 pub fn keep_indicator(specification: &Specification<Definition, Use>, draft: &mut Draft)
     ensures { draft.new ≡ spec.indicator_kept specification.now draft.old }
 {
-    let named = operation_named(&specification.name.identifier.text);
+    let named = operation_named(specification.name.identifier.text.as_bytes());
     let is_broken = is_unfounded(specification.indicator, named);
     draft.fault_when(
         is_broken,

@@ -3,8 +3,8 @@
 ghost use Rattle.std.specs.Prelude.{◌≡◌};
 ghost use Rattle.ctl_declarations.specs.Declarations as spec;
 
-use crate::overriding::operation_named;
 use ctl_draft::draft::Draft;
+use ctl_resolve::library::operation_named;
 use ctl_syntax::denoted::Definition;
 use ctl_tree::fault::FaultCode;
 
@@ -12,7 +12,7 @@ use ctl_tree::fault::FaultCode;
 pub fn keep_name(name: &Definition, draft: &mut Draft)
     ensures { draft.new ≡ spec.name_kept name.now draft.old }
 {
-    let is_broken = operation_named(&name.identifier.text).is_some();
+    let is_broken = operation_named(name.identifier.text.as_bytes()).is_some();
     draft.fault_when(is_broken, FaultCode::Override, name.identifier.span);
 }
 

@@ -8,12 +8,13 @@ ghost use Rattle.ctl_typing.specs.Judgement.{Answers, Judges, Yields};
 
 use crate::components::{components, inherited_count, last_position};
 use crate::incomplete::silent;
-use ctl_access_types::accesses::{enter_type, untagged_kept};
+use ctl_access_types::accesses::{enter_type, no_pool_awaited, untagged_kept};
 use ctl_draft::draft::{Around, Draft, Enclosing};
 use ctl_draft::freezing::done_by;
 use ctl_draft::named_types::named_type;
+use ctl_draft::names::Names;
 use ctl_draft::operations::no_operations;
-use ctl_draft::types::is_controlled;
+use ctl_draft::types::has_controlled;
 use ctl_program::statement::Item;
 use ctl_program::types::{Component, Operations, Root, Ty};
 use ctl_syntax::denoted::Use;
@@ -60,7 +61,7 @@ fn any_controlled(tables: &Tables, own: &[ComponentEntry]) -> bool
     ensures { result ≡ spec.any_controlled tables.now own.now }
 {
     for component in own {
-        if is_controlled(tables, component.ty) {
+        if has_controlled(tables, component.ty) {
             return true;
         }
     }
@@ -83,7 +84,7 @@ fn take_own(alloc: Global, draft: &mut Draft) -> Items<ComponentEntry>
     ensures own { result ≡ draft.old.own }
     ensures draft { draft.new ≡ spec.without_own draft.old }
 {
-    draft.own_names = Items::new(alloc);
+    draft.own_names = Names::new(alloc);
     mem::replace(&mut draft.own, Items::new(alloc))
 }
 
@@ -186,6 +187,7 @@ fn declare_record(
 {
     draft.ask(alloc);
     let judged = components(alloc, within, declared, draft)?;
+    no_pool_awaited(around, within.number, root, draft);
     enter_record(alloc, around, within, root, said, judged, draft)
 }
 

@@ -1,8 +1,12 @@
--- Rows that are put together from the last one on.
-use Rattle.std.proofs.Common.{◌≡◌, ap, sym, ◌∙◌, List, [], ◌∷◌, ◌++◌, append_assoc, append-nil}
-use Rattle.ctl_typing.specs.Typing.{together}
+-- Rows that are put together.
+use Rattle.std.proofs.Common.{◌≡◌, List, [], ◌∷◌, ◌++◌}
+use Rattle.std.specs.Prelude.{reverse}
+use mathlib.Core.List.{reverse-append, reverse-reverse}
 
--- the last row stands behind the others
-pub together_last : {A : Type 0} (rows : List (List A)) (row behind : List A) → together (rows ++ row ∷ []) ++ behind ≡ together rows ++ (row ++ behind)
-together_last [] row behind = ap (λ r. r ++ behind) (append-nil row)
-together_last (x ∷ xs) row behind = append_assoc x (together (xs ++ row ∷ [])) behind ∙ ap (λ r. x ++ r) (together_last xs row behind) ∙ sym (append_assoc x (together xs) (row ++ behind))
+-- what stood last stands first in a row that is turned round
+pub turned_last : {A : Type 0} (xs : List A) (x : A) → reverse (xs ++ x ∷ []) ≡ x ∷ reverse xs
+turned_last xs x = reverse-append xs (x ∷ [])
+
+-- a row that is turned round twice is as it was
+pub turned_twice : {A : Type 0} (xs : List A) → reverse (reverse xs) ≡ xs
+turned_twice xs = reverse-reverse xs

@@ -1,5 +1,5 @@
 -- When types are frozen, and what an object that stands too early calls (13.14, 3.11).
-use Rattle.std.specs.Prelude.{ℕ, zero, suc, ◌+◌, ◌-◌, max, Bool, true, false, ◌&&◌, ◌||◌, if◌then◌else◌, nat_eq, nat_le, List, [], ◌∷◌, length, drop, slice_get, slice_set, Option, Some, None}
+use Rattle.std.specs.Prelude.{ℕ, zero, suc, ◌+◌, ◌-◌, ◌^◌, max, Bool, true, false, ◌&&◌, ◌||◌, if◌then◌else◌, nat_eq, nat_le, List, [], ◌∷◌, ◌++◌, length, drop, slice_get, slice_set, Option, Some, None}
 use Rattle.ctl_tree.specs.declared.fault.FaultCode.TheVariants as rule
 use Rattle.ctl_program.specs.declared.types.Ty.{Ty}
 use Rattle.ctl_program.specs.declared.types.Ty.TheVariants as ty
@@ -64,54 +64,45 @@ do_deed (Freezes t) states = freeze t states
 do_deed (Initializes t) states = initialize t states
 do_deed d states = states
 
-abbrev pub do_deeds : List Deed → States → States
-do_deeds [] states = states
-do_deeds (d ∷ ds) states = do_deeds ds (do_deed d states)
-
 -- What follows from it ----------------------------------------------------------------
 
-abbrev pub freeze_components : List ComponentEntry → States → States
-freeze_components [] states = states
-freeze_components (c ∷ cs) states = freeze_components cs (freeze c.ty states)
+abbrev pub parent_frozen : Option ℕ → List Deed
+parent_frozen None = []
+parent_frozen (Some t) = Freezes (ty.Record t) ∷ []
 
-abbrev pub freeze_parent : Option ℕ → States → States
-freeze_parent None states = states
-freeze_parent (Some t) states = freeze (ty.Record t) states
+abbrev pub components_frozen : List ComponentEntry → List Deed
+components_frozen [] = []
+components_frozen (c ∷ cs) = Freezes c.ty ∷ components_frozen cs
 
 -- a record type freezes its parent, and the types of its components (13.14(15)); an access type freezes nothing
-abbrev pub frozen_by : RecordEntry → Freezing → States → States
-frozen_by r Free states = states
-frozen_by r f states = freeze_components r.own (freeze_parent r.parent states)
+abbrev pub frozen_with : RecordEntry → List Deed
+frozen_with r = parent_frozen r.parent ++ components_frozen r.own
 
-abbrev pub initialize_component : Ty → Beginning → States → States
-initialize_component t beginning.Default states = initialize t states
-initialize_component t beginning.Value states = states
+abbrev pub parent_initialized : Option ℕ → List Deed
+parent_initialized None = []
+parent_initialized (Some t) = Initializes (ty.Record t) ∷ []
 
-abbrev pub initialize_components : List ComponentEntry → States → States
-initialize_components [] states = states
-initialize_components (c ∷ cs) states = initialize_components cs (initialize_component c.ty c.beginning states)
+abbrev pub component_initialized : Ty → Beginning → List Deed
+component_initialized t beginning.Default = Initializes t ∷ []
+component_initialized t beginning.Value = []
 
-abbrev pub initialize_parent : Option ℕ → States → States
-initialize_parent None states = states
-initialize_parent (Some t) states = initialize (ty.Record t) states
+abbrev pub components_initialized : List ComponentEntry → List Deed
+components_initialized [] = []
+components_initialized (c ∷ cs) = component_initialized c.ty c.beginning ++ components_initialized cs
 
--- where the defaults of a record are used, their expressions do what they do
-abbrev pub initialized_by : RecordEntry → Defaults → States → States
-initialized_by r Unused states = states
-initialized_by r Used states = do_deeds r.deeds (initialize_components r.own (initialize_parent r.parent states))
+-- where the defaults of a record are used, so are those of its parent and its components, and their expressions do what they do
+abbrev pub initialized_with : RecordEntry → List Deed
+initialized_with r = (parent_initialized r.parent ++ components_initialized r.own) ++ r.deeds
 
-abbrev pub followed_from : Option RecordEntry → Option RecordState → States → States
-followed_from (Some r) (Some s) states = initialized_by r s.defaults (frozen_by r s.freezing states)
-followed_from r s states = states
+abbrev pub following_from : (RecordEntry → List Deed) → Option RecordEntry → List Deed
+following_from f None = []
+following_from f (Some r) = f r
 
--- what follows from the state of one of these record types
-abbrev pub followed : List RecordEntry → ℕ → States → States
-followed rs t states = followed_from (slice_get rs t) (slice_get states.records t) states
-
--- of so many from the first one on, the last of them first: a type stands behind the types of its components
-abbrev pub followed_down : List RecordEntry → ℕ → ℕ → States → States
-followed_down rs zero first states = states
-followed_down rs (suc n) first states = followed_down rs n first (followed rs (first + n) states)
+-- what follows from a deed
+abbrev pub following : List RecordEntry → Deed → List Deed
+following rs (Freezes (ty.Record t)) = following_from frozen_with (slice_get rs t)
+following rs (Initializes (ty.Record t)) = following_from initialized_with (slice_get rs t)
+following rs d = []
 
 -- The place of collections ---------------------------------------------------------------
 
@@ -195,13 +186,29 @@ abbrev pub are_new : States → List Deed → Bool
 are_new states [] = false
 are_new states (d ∷ ds) = is_new states d || are_new states ds
 
-abbrev pub all_followed : Around → List RecordEntry → States → States
-all_followed around rs states = followed_down rs (length rs - around.first_record) around.first_record states
+-- what a deed adds where it is new, and what it does then
+abbrev pub added : List RecordEntry → Bool → Deed → List Deed
+added rs true d = following rs d
+added rs false d = []
+
+abbrev pub done_if : Bool → Deed → States → States
+done_if true d states = do_deed d states
+done_if false d states = states
+
+-- so many of these deeds are done in turn, each that is new, and what follows from it behind the others
+abbrev pub done_in_turn : List RecordEntry → ℕ → List Deed → States → States
+done_in_turn rs zero ds states = states
+done_in_turn rs (suc n) [] states = states
+done_in_turn rs (suc n) (d ∷ ds) states = done_in_turn rs n (ds ++ added rs (is_new states d) d) (done_if (is_new states d) d states)
+
+-- these deeds are done, with all that follows: a text has fewer than are counted
+abbrev pub all_done : List RecordEntry → List Deed → States → States
+all_done rs ds states = done_in_turn rs (2 ^ 64 - 1) ds states
 
 -- what a construct does, with all that follows; the collections of the types that it freezes stand before it (13.14)
 abbrev pub done_by : Around → List Deed → Draft → List Checked_item × Draft
 done_by around ds d =
-    if are_new d.tables.states ds then placed around (with_states (all_followed around d.tables.records (do_deeds ds d.tables.states)) d) else ([], d)
+    if are_new d.tables.states ds then placed around (with_states (all_done d.tables.records ds d.tables.states) d) else ([], d)
 
 -- a body, and the end of a part, freeze all types of the part (13.14(3)); those of the parts around are frozen
 abbrev pub all_frozen : Around → States → States

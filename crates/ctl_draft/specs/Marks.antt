@@ -10,6 +10,7 @@ use Rattle.ctl_program.specs.declared.types.Root.TheVariants as root
 use Rattle.ctl_program.specs.declared.types.Var.{Var}
 use Rattle.ctl_syntax.specs.declared.denoted.Denoted.{Denoted}
 use Rattle.ctl_syntax.specs.declared.denoted.Denoted.TheVariants as denoted
+use Rattle.ctl_syntax.specs.declared.denoted.LibraryName.TheVariants as library
 use Rattle.ctl_syntax.specs.declared.denoted.Use.{Use}
 use Rattle.ctl_syntax.specs.declared.item.Association.{Association}
 use Rattle.ctl_syntax.specs.declared.name.Identifier.{Identifier}
@@ -27,16 +28,29 @@ use Rattle.ctl_draft.specs.declared.associations.Associated.{Associated}
 use Rattle.ctl_draft.specs.declared.associations.Associated.TheVariants.{Discriminants, Deallocation}
 use Rattle.ctl_typing.specs.Judgement.{Judgement, known, but, wrong, unresolved, ◌>>=◌}
 use Rattle.ctl_typing.specs.Lookup.{root_of}
-use Rattle.ctl_typing.specs.Typing.{mark_judged, has_objects, discriminant_named}
+use Rattle.ctl_typing.specs.Typing.{told_at, mark_judged, has_objects, discriminant_named}
 
 -- Types ----------------------------------------------------------------------------------------
 
-abbrev pub told_at : Span → Use → Use
-told_at place u = record { span = place; denoted = u.denoted }
+-- a name alone, and no expanded one
+abbrev pub is_alone : Mark Use → Bool
+is_alone m = is_nothing m.rest
+  where
+    is_nothing : List Identifier → Bool
+    is_nothing [] = true
+    is_nothing (i ∷ is) = false
+
+-- Root_Storage_Pool, which is no type here: pool types extend Block_Pool (13.11, profile)
+abbrev pub is_root_pool : Mark Use → Bool
+is_root_pool m = is_root m.first.denoted && is_alone m
+  where
+    is_root : Denoted → Bool
+    is_root (denoted.Library library.RootStoragePool) = true
+    is_root d = false
 
 -- the type that a mark names; where it names none, the item is wrong
 abbrev pub named_type : Tables → Span → Mark Use → Judgement Ty
-named_type tables place m = mark_judged tables (told_at place m.first) m.rest
+named_type tables place m = if is_root_pool m then wrong rule.Pool m.first.span else mark_judged tables (told_at place m.first) m.rest
 
 -- a type that has objects (3.9.3)
 abbrev pub concrete_type : Tables → Span → Mark Use → Judgement Ty
@@ -67,9 +81,9 @@ controlled_in None = false
 controlled_in (Some r) = controls r.control
 
 -- whether a type has a controlled part (7.6)
-abbrev pub is_controlled : Tables → Ty → Bool
-is_controlled tables (ty.Record t) = controlled_in (slice_get tables.records t)
-is_controlled tables t = false
+abbrev pub has_controlled : Tables → Ty → Bool
+has_controlled tables (ty.Record t) = controlled_in (slice_get tables.records t)
+has_controlled tables t = false
 
 -- Pools (13.11) --------------------------------------------------------------------------------------
 

@@ -1,5 +1,6 @@
 //! The program as far as it was checked, and what stands around a statement or an item.
 
+use crate::names::Names;
 use ctl_program::operators::SubprogramKind;
 use ctl_program::statement::Master;
 use ctl_program::types::{Component, Ty};
@@ -52,7 +53,7 @@ pub struct Draft {
     /// the components of the record type that is being declared
     pub own: Items<ComponentEntry>,
     /// the names of these, and of those that are wrong themselves
-    pub own_names: Items<Text>,
+    pub own_names: Names,
     pub notes: Notes,
 }
 

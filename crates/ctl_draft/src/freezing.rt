@@ -1,7 +1,7 @@
 //! Freezing: what a construct does to the types of its part, and the collections that stand before it (RM 13.14).
 
 ghost use Rattle.std.specs.Option.{option_copied};
-ghost use Rattle.std.specs.Prelude.{◌≡◌, IfOk, drop, length, slice_get};
+ghost use Rattle.std.specs.Prelude.{◌≡◌, ◌++◌, IfOk, OnOk, drop, length, slice_get};
 ghost use Rattle.ctl_draft.specs.Freezing as spec;
 ghost use Rattle.ctl_typing.specs.Judgement.{Yields};
 
@@ -74,85 +74,6 @@ fn do_deed(deed: Deed, states: &mut States)
     }
 }
 
-/// Does each of these deeds.
-fn do_deeds(deeds: &[Deed], states: &mut States)
-    ensures { states.new ≡ spec.do_deeds deeds.now states.old }
-{
-    for deed in deeds {
-        do_deed(*deed, states);
-    }
-}
-
-/// Freezes the types of components.
-fn freeze_components(own: &[ComponentEntry], states: &mut States)
-    ensures { states.new ≡ spec.freeze_components own.now states.old }
-{
-    for component in own {
-        freeze(component.ty, states);
-    }
-}
-
-/// Notes that components begin with the defaults of their types, where they have none themselves.
-fn initialize_components(own: &[ComponentEntry], states: &mut States)
-    ensures { states.new ≡ spec.initialize_components own.now states.old }
-{
-    for component in own {
-        if component.beginning == Beginning::Default {
-            initialize(component.ty, states);
-        }
-    }
-}
-
-/// Freezes the parent and the components of a record type that is frozen (RM 13.14(15)).
-fn frozen_by(entry: &RecordEntry, freezing: Freezing, states: &mut States)
-    ensures { states.new ≡ spec.frozen_by entry.now freezing states.old }
-{
-    if freezing == Freezing::Free {
-        return;
-    }
-    if let Some(parent) = entry.parent {
-        freeze(Ty::Record(parent), states);
-    }
-    freeze_components(entry.own.as_slice(), states);
-}
-
-/// Does what the defaults of a record type do, where they were used.
-fn initialized_by(entry: &RecordEntry, defaults: Defaults, states: &mut States)
-    ensures { states.new ≡ spec.initialized_by entry.now defaults states.old }
-{
-    if defaults == Defaults::Unused {
-        return;
-    }
-    if let Some(parent) = entry.parent {
-        initialize(Ty::Record(parent), states);
-    }
-    initialize_components(entry.own.as_slice(), states);
-    do_deeds(entry.deeds.as_slice(), states);
-}
-
-/// Does what follows from the state of one record type.
-fn followed(records: &[RecordEntry], number: usize, states: &mut States)
-    ensures { states.new ≡ spec.followed records.now number states.old }
-{
-    let state = sqlite_items::at(states.records.as_slice(), number).copied();
-    if let (Some(entry), Some(state)) = (sqlite_items::at(records, number), state) {
-        frozen_by(entry, state.freezing, states);
-        initialized_by(entry, state.defaults, states);
-    }
-}
-
-/// Does what follows from the states of the record types of a part, the last of them first.
-fn all_followed(around: Around, records: &[RecordEntry], states: &mut States)
-    ensures { states.new ≡ spec.all_followed around records.now states.old }
-{
-    let first = around.first_record;
-    let mut left = records.len().saturating_sub(first);
-    while left > 0 {
-        left -= 1;
-        followed(records, first + left, states);
-    }
-}
-
 /// Tells whether a type is not frozen.
 pub fn is_free_type(states: &States, ty: Ty) -> bool
     ensures { result ≡ spec.is_free_type states.now ty }
@@ -196,6 +117,119 @@ fn are_new(states: &States, deeds: &[Deed]) -> bool
         }
     }
     false
+}
+
+/// Adds the freezing of the parent and of the components of a record type (RM 13.14(15)).
+fn add_frozen(entry: &RecordEntry, todo: &mut Items<Deed>) -> Result<(), AllocError>
+    ensures { OnOk result (todo.new ≡ todo.old ++ spec.frozen_with entry.now) }
+{
+    if let Some(parent) = entry.parent {
+        todo.push(Deed::Freezes(Ty::Record(parent)))?;
+    }
+    add_components_frozen(entry.own.as_slice(), todo)
+}
+
+/// Adds the freezing of components.
+fn add_components_frozen(own: &[ComponentEntry], todo: &mut Items<Deed>) -> Result<(), AllocError>
+    ensures { OnOk result (todo.new ≡ todo.old ++ spec.components_frozen own.now) }
+{
+    for component in own {
+        todo.push(Deed::Freezes(component.ty))?;
+    }
+    Ok(())
+}
+
+/// Adds what the defaults of a record type do.
+fn add_initialized(entry: &RecordEntry, todo: &mut Items<Deed>) -> Result<(), AllocError>
+    ensures { OnOk result (todo.new ≡ todo.old ++ spec.initialized_with entry.now) }
+{
+    if let Some(parent) = entry.parent {
+        todo.push(Deed::Initializes(Ty::Record(parent)))?;
+    }
+    add_components_initialized(entry.own.as_slice(), todo)?;
+    add_deeds(entry.deeds.as_slice(), todo)
+}
+
+/// Adds the use of the defaults of components' types, where a component has none itself.
+fn add_components_initialized(
+    own: &[ComponentEntry],
+    todo: &mut Items<Deed>,
+) -> Result<(), AllocError>
+    ensures { OnOk result (todo.new ≡ todo.old ++ spec.components_initialized own.now) }
+{
+    for component in own {
+        if component.beginning == Beginning::Default {
+            todo.push(Deed::Initializes(component.ty))?;
+        }
+    }
+    Ok(())
+}
+
+/// Adds deeds.
+fn add_deeds(deeds: &[Deed], todo: &mut Items<Deed>) -> Result<(), AllocError>
+    ensures { OnOk result (todo.new ≡ todo.old ++ deeds.now) }
+{
+    for deed in deeds {
+        todo.push(*deed)?;
+    }
+    Ok(())
+}
+
+/// Adds what follows from a deed.
+fn add_following(
+    records: &[RecordEntry],
+    deed: Deed,
+    todo: &mut Items<Deed>,
+) -> Result<(), AllocError>
+    ensures { OnOk result (todo.new ≡ todo.old ++ spec.following records.now deed) }
+{
+    match deed {
+        Deed::Freezes(Ty::Record(number)) => match sqlite_items::at(records, number) {
+            Some(entry) => add_frozen(entry, todo),
+            None => Ok(()),
+        },
+        Deed::Initializes(Ty::Record(number)) => match sqlite_items::at(records, number) {
+            Some(entry) => add_initialized(entry, todo),
+            None => Ok(()),
+        },
+        _ => Ok(()),
+    }
+}
+
+/// Does a deed, if it is new, and adds what follows from it.
+fn do_next(
+    records: &[RecordEntry],
+    deed: Deed,
+    todo: &mut Items<Deed>,
+    states: &mut States,
+) -> Result<(), AllocError>
+    ensures added { OnOk result (todo.new ≡ todo.old ++ spec.added records.now (spec.is_new states.old deed) deed) }
+    ensures done { OnOk result (states.new ≡ spec.done_if (spec.is_new states.old deed) deed states.old) }
+{
+    if !is_new(states, deed) {
+        return Ok(());
+    }
+    do_deed(deed, states);
+    add_following(records, deed, todo)
+}
+
+/// Does these deeds with all that follows from them, each once.
+fn do_all(
+    alloc: Global,
+    records: &[RecordEntry],
+    deeds: &[Deed],
+    states: &mut States,
+) -> Result<(), AllocError>
+    ensures { OnOk result (states.new ≡ spec.all_done records.now deeds.now states.old) }
+{
+    let mut todo = Items::from_slice(alloc, deeds)?;
+    for at in 0..usize::MAX {
+        let Some(&deed) = todo.get(at) else {
+            return Ok(());
+        };
+        do_next(records, deed, &mut todo, states)?;
+    }
+    Ok(())
 }
 
 /// Answers the access types from a number on that are frozen and whose collections have no place yet.
@@ -273,9 +307,8 @@ pub fn done_by(
     if !are_new(&draft.tables.states, deeds) {
         return Ok(Items::new(alloc));
     }
-    do_deeds(deeds, &mut draft.tables.states);
     let records = draft.tables.records.as_slice();
-    all_followed(around, records, &mut draft.tables.states);
+    do_all(alloc, records, deeds, &mut draft.tables.states)?;
     placed(alloc, around, draft)
 }
 

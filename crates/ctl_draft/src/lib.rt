@@ -7,6 +7,7 @@ pub mod associations;
 pub mod draft;
 pub mod freezing;
 pub mod named_types;
+pub mod names;
 pub mod operations;
 pub mod order;
 pub mod rows;

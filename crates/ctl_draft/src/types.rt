@@ -24,14 +24,21 @@ pub fn root_of_type(tables: &Tables, ty: Ty) -> Root
     }
 }
 
+/// Tells whether a type of this root is a pool's (RM 13.11).
+pub fn is_pool_root(root: Root) -> bool
+    ensures { result ≡ spec.is_pool_root root }
+{
+    match root {
+        Root::BlockPool | Root::MarkPool => true,
+        _ => false,
+    }
+}
+
 /// Tells whether a type is a pool's (RM 13.11).
 pub fn is_pool(tables: &Tables, ty: Ty) -> bool
     ensures { result ≡ spec.is_pool tables.now ty }
 {
-    match root_of_type(tables, ty) {
-        Root::BlockPool | Root::MarkPool => true,
-        _ => false,
-    }
+    is_pool_root(root_of_type(tables, ty))
 }
 
 /// Notes a pool type where none may stand; the type is known all the same.
@@ -45,8 +52,8 @@ pub fn no_pool(tables: &Tables, place: Span, ty: Ty, notes: &mut Notes) -> Optio
 }
 
 /// Tells whether a type has a controlled part (RM 7.6).
-pub fn is_controlled(tables: &Tables, ty: Ty) -> bool
-    ensures { result ≡ spec.is_controlled tables.now ty }
+pub fn has_controlled(tables: &Tables, ty: Ty) -> bool
+    ensures { result ≡ spec.has_controlled tables.now ty }
 {
     match ty {
         Ty::Record(number) => match sqlite_items::at(tables.records.as_slice(), number) {

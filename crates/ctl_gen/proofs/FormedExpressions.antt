@@ -252,7 +252,7 @@ module _ (code : Code) (records : List RecordType) where
       typed_fine {env} (T.allocate {a = a} {t = t} {handle = handle} {value = x} to designates view h g) runs =
           let same = value_new a t handle x in
           fine_as env _ _ (TyOf.Access a) same (allocated_fine env a t (option_map value_code handle) x (may_new env a t to designates) (copy_found g) (perhaps_usable g) (runs_as _ _ same runs))
-      typed_fine {env} (T.subpool {which = which} {x = x} denotes rooted) runs = absurd (not_missing _ (value_subpool which x) runs)
+      typed_fine {env} (T.subpool {which = which} {x = x} covers denotes rooted) runs = absurd (not_missing _ (value_subpool which x) runs)
       typed_fine {env} (T.discriminant {x = x} {i = i} denotes rooted has) runs =
           let same = value_discriminant x i in
           fine_as env _ _ Count same (inl (discriminant_own code env records (reached_by x) i (name_found denotes) (runs_as _ _ same runs)))
@@ -274,7 +274,7 @@ module _ (code : Code) (records : List RecordType) where
       start_typed {env} (T.as_access {x = x} {a = a} {b = b} from to same h) = start_as env x a b (start_typed h)
       start_typed (T.access {v = v} names found designates) = plain_as _ _ (value_access v) refl
       start_typed (T.allocate {a = a} {t = t} {handle = handle} {value = x} to designates view h g) = inl (ap is_result (new_reached a t handle x))
-      start_typed (T.subpool {which = which} {x = x} denotes rooted) = plain_as _ _ (value_subpool which x) refl
+      start_typed (T.subpool {which = which} {x = x} covers denotes rooted) = plain_as _ _ (value_subpool which x) refl
       start_typed (T.discriminant {x = x} {i = i} denotes rooted has) = plain_as _ _ (value_discriminant x i) refl
 
       operating : {env : W.Frames} {s t : Ty} {os : List Operand} → Chains k env s os t → operators_run records (map operator_of os) ≡ true → Valid.IsScalar s → Operating code env (map operator_of os) s t
@@ -294,7 +294,7 @@ module _ (code : Code) (records : List RecordType) where
           next_condition code env form (value_code x) (map value_code more) (usable_as code env (value_code x) Boolean tt (typed_fine h e.0)) (conditions form rest e.1)
 
       actual_good : {env : W.Frames} {f : W.Formal} {a : Actual} → Fits k env f a → (actual_code a).runs records ≡ true → GoodActual code env (actual_code a)
-      actual_good {env} (T.by_value {x = x} {s = s} {t = t} covers typed) = good_as code env records _ _ (actual_value x t) (value_good code env records (value_code x) k t s covers (λ runs. typed_fine typed runs) (λ u. value_copied typed u))
+      actual_good {env} (T.by_value {x = x} {s = s} {t = t} covers value typed) = good_as code env records _ _ (actual_value x t) (value_good code env records (value_code x) k t s covers (λ runs. typed_fine typed runs) (λ u. value_copied typed u))
       actual_good {env} (T.by_reference {x = x} {t = t} from to denotes) = good_as code env records _ _ (actual_part x t) (reference_good code env records (reached_by x) t (name_found denotes))
       actual_good {env} (T.by_copy {x = x} {p = p} {t = t} written scalar denotes) = good_as code env records _ _ (actual_copied x t (J.copy_of p t)) (copy_good code env records (reached_by x) t (J.copy_of p t) (name_found denotes))
 
@@ -319,7 +319,7 @@ module _ (code : Code) (records : List RecordType) where
       value_copied (T.as_access from to same h) u = value_copied h u
       value_copied {env} (T.access {v = v} names found designates) u = unreached env u _ _ (value_access v) refl
       value_copied {env} (T.allocate {a = a} {t = t} {handle = handle} {value = x} to designates view h g) u = unreached env u (value_code (ExprOf.New a t handle x)) (value_code (ExprOf.New a t handle x)) refl (new_reached a t handle x)
-      value_copied {env} (T.subpool {which = which} {x = x} denotes rooted) u = unreached env u _ _ (value_subpool which x) refl
+      value_copied {env} (T.subpool {which = which} {x = x} covers denotes rooted) u = unreached env u _ _ (value_subpool which x) refl
       value_copied {env} (T.discriminant {x = x} {i = i} denotes rooted has) u = unreached env u _ _ (value_discriminant x i) refl
 
       copy_found : {env : W.Frames} {x : Option Expr} {t : Ty} → Perhaps k env x t → IsCopyFound env x
@@ -336,7 +336,7 @@ module _ (code : Code) (records : List RecordType) where
 
     -- the source of an assignment
     pub source_found : {env : W.Frames} {f : W.Formal} {a : Actual} → Fits k env f a → (u : ℕ) → f.ty ≡ TyOf.Record u → IsFoundAt code env records u (sourced a)
-    source_found {env} (T.by_value {x = x} {t = t} covers typed) u is =
+    source_found {env} (T.by_value {x = x} {t = t} covers value typed) u is =
         subst (λ o. IsFoundAt code env records u o) (sym (ap (λ (z : ActualCode). z.reached) (actual_value x t)))
         (subst (λ w. IsFoundAt code env records u (by_value (value_code x) w).reached) (sym is) (source_at env u (copied u (value_code x)) (value_copied typed u)))
     source_found {env} (T.by_reference {x = x} {t = t} from to denotes) u is = subst (λ o. IsFoundAt code env records u o) (sym (part_source x t)) (found_at code env records u (reached_by x) (name_found denotes))

@@ -122,10 +122,6 @@ module _ (code : Code) (records : List RecordType) (k : W.Setting) (declarable :
       (one code gather s (Some s) (λ p next. ((Layout.home_of of.is, (seen env a of).0, level ∙ sym agrees.0.0, newest_slot code env s of.is.collection (W.Collection a) agrees names level), (let deep = agrees.0.0 in omega (arith, least, level, deep)), next)))
       (gathers_good rest (count + 1) s agrees)
 
-  collections_good : {env : W.Frames} (as' : List ℕ) → D.Gathers k env as' → GoodItem env (item_code (Collections as'))
-  collections_good [] h = λ runs s agrees. absurd (cc)
-  collections_good (a ∷ more) h = λ runs s agrees. gathers_good h 0 s agrees
-
   -- a block pool is declared with a value for each of its discriminants
   ordered_good : (env : W.Frames) (slot t : ℕ) (o : Option DiscriminantOrder) (x y : Expr) → Fills env slot (W.Declared (Record t)) → W.InView k env (Record t) → T.Typed k env x Count → T.Typed k env y Count → GoodItem env (ordered_pool slot t o (value_code x) (value_code y))
   ordered_good env slot t None x y fresh view h g = λ runs s agrees. absurd (cc)
@@ -148,8 +144,8 @@ module _ (code : Code) (records : List RecordType) (k : W.Setting) (declarable :
   item_good : {env : W.Frames} {x : Item} → Elaborated k env x → GoodItem env (item_code x)
   item_good {env} (D.object {number = slot} {t = ty} {value = o} fresh view perhaps) = object_good env slot ty o fresh view perhaps
   item_good D.silent = λ runs s agrees. none code s
-  item_good (D.collections {as' = as'} gathers) = collections_good as' gathers
-  item_good (D.pool {number = slot} {t = t} fresh view rooted pool long given) = pool_good slot t fresh view given
+  item_good (D.collections gathers) = λ runs s agrees. gathers_good gathers 0 s agrees
+  item_good (D.pool {number = slot} {t = t} fresh view rooted pool long once given) = pool_good slot t fresh view given
 
   items_good : {env : W.Frames} {xs : List Item} → ElaboratedEach k env xs → GoodItem env (all_items (map item_code xs))
   items_good D.no_more_items = λ runs s agrees. none code s

@@ -63,9 +63,13 @@ definition id number level = record { identifier = id; number = number; level = 
 abbrev pub next : View → Identifier → Definition
 next v id = definition id (length v.table) v.part.level
 
+-- A second declaration in one region declares nothing: the name goes on denoting the first one.
+abbrev pub role_as : Bool → Role → Role
+role_as is_second r = if is_second then role.Repeated else r
+
 -- DUPLICATE: a second declaration of a name in one region (8.3(26))
 abbrev pub declare_name : Stage → Identifier → View → View
-declare_name s id v = declare (folded id) role.Direct s id.span (note_if (is_taken v id) rule.Duplicate id.span v)
+declare_name s id v = declare (folded id) (role_as (is_taken v id) role.Direct) s id.span (note_if (is_taken v id) rule.Duplicate id.span v)
 
 unfoldable pub new_name : Stage → Identifier → Naming Definition
 new_name s id v = (next v id, declare_name s id v)
@@ -117,12 +121,12 @@ abbrev pub filed : View → Specification Identifier Identifier → Filing
 filed v s = filed_by v s (operation_named s.name.text)
 
 abbrev pub sought_of : Role → Sought
-sought_of role.Direct = sought.Direct
 sought_of (role.Override o d) = sought.Override o d
+sought_of r = sought.Direct
 
 abbrev pub bodiless_of : Role → Sought
-bodiless_of role.Direct = sought.Bodiless
 bodiless_of (role.Override o d) = sought.BodilessOverride o d
+bodiless_of r = sought.Bodiless
 
 -- Does the region declare a subprogram of this heading, or something else of its name?
 abbrev pub is_declared : View → Specification Identifier Identifier → Filing → Bool
@@ -130,7 +134,8 @@ is_declared v s f = is_some (own_found v (sought_of f.role) f.key) || is_some (o
 
 -- a new subprogram, hidden in its heading; DUPLICATE where its region has one already
 abbrev pub declare_subprogram : Specification Identifier Identifier → Filing → View → View
-declare_subprogram s f v = declare f.key f.role stage.Hidden s.name.span (note_if (is_declared v s f) rule.Duplicate s.name.span v)
+declare_subprogram s f v =
+    declare f.key (role_as (is_declared v s f) f.role) stage.Hidden s.name.span (note_if (is_declared v s f) rule.Duplicate s.name.span v)
 
 -- parameters of one mode and type: each is hidden in their declaration (6.1)
 abbrev pub formal : Formal Identifier Identifier → Naming (Formal Definition Use)

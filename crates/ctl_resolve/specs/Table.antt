@@ -48,14 +48,17 @@ is_alike _ _ = false
 abbrev pub is_direct : Role → Bool
 is_direct role.Direct = true
 is_direct (role.Override o d) = false
+is_direct role.Repeated = false
 
 abbrev pub overrides : OperationName → Role → Bool
 overrides o role.Direct = false
 overrides o (role.Override p e) = is_same_operation o p
+overrides o role.Repeated = false
 
 abbrev pub overrides_for : OperationName → Denoted → Role → Bool
 overrides_for o d role.Direct = false
 overrides_for o d (role.Override p e) = is_same_operation o p && is_alike d e
+overrides_for o d role.Repeated = false
 
 abbrev pub is_hidden : Stage → Bool
 is_hidden stage.Hidden = true
@@ -108,8 +111,3 @@ with_stage_at (d ∷ ds) (suc k) s = d ∷ with_stage_at ds k s
 -- does one of these override the operation, for whatever type?
 abbrev pub is_overridden : OperationName → List Declaration → Bool
 is_overridden o ds = list_any (λ d. overrides o d.role) ds
-
--- where those stand that are not completed
-abbrev pub unfinished : List Declaration → List Span
-unfinished [] = []
-unfinished (d ∷ ds) = if waits d.stage then d.span ∷ unfinished ds else unfinished ds

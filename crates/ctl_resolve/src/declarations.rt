@@ -80,20 +80,33 @@ pub fn next(alloc: Global, view: &View, id: &Identifier) -> Result<Definition, A
     })
 }
 
-/// Declares a name as far as this.
-fn declare(alloc: Global, view: &mut View, stage: Stage, id: &Identifier) -> Result<(), AllocError>
-    ensures { OnOk result (view.new ≡ naming.declare (folded id.now) role.Direct stage id.now.span view.old) }
+/// Declares a name as far as this, known by this role.
+fn declare(
+    alloc: Global,
+    view: &mut View,
+    role: Role,
+    stage: Stage,
+    id: &Identifier,
+) -> Result<(), AllocError>
+    ensures { OnOk result (view.new ≡ naming.declare (folded id.now) role stage id.now.span view.old) }
 {
     let name = folded(alloc, id)?;
     let level = view.part.level;
-    view.table.push(name, Role::Direct, stage, level, id.span)
+    view.table.push(name, role, stage, level, id.span)
+}
+
+/// Answers what a declaration of this role is known by: a second one of its region declares nothing.
+pub fn role_as(is_second: bool, role: Role) -> Role
+    ensures { result ≡ spec.role_as is_second role }
+{
+    if is_second { Role::Repeated } else { role }
 }
 
 /// Hides a name in its own declaration.
 pub fn hide(alloc: Global, view: &mut View, id: &Identifier) -> Result<(), AllocError>
     ensures { OnOk result (view.new ≡ spec.hide id.now view.old) }
 {
-    declare(alloc, view, Stage::Hidden, id)
+    declare(alloc, view, Role::Direct, Stage::Hidden, id)
 }
 
 /// Hides names in their own declaration.
@@ -117,7 +130,7 @@ pub fn declare_name(
 {
     let taken = is_taken(alloc, view, id)?;
     note_if(view, taken, FaultCode::Duplicate, id.span);
-    declare(alloc, view, stage, id)
+    declare(alloc, view, role_as(taken, Role::Direct), stage, id)
 }
 
 /// Declares a name, and answers its definition.

@@ -7,7 +7,7 @@ ghost use Rattle.ctl_resolve.specs.declared.view.Usage.TheVariants as usage;
 ghost use Rattle.ctl_resolve.specs.Declarations as spec;
 
 use crate::copies::{folded, identifier};
-use crate::declarations::{hide_each, new_names, next, own_found};
+use crate::declarations::{hide_each, new_names, next, own_found, role_as};
 use crate::library::operation_named;
 use crate::lists::{added, room_for};
 use crate::names::{mark, meaning};
@@ -121,8 +121,8 @@ fn sought_of(role: Role) -> Sought
     ensures { result ≡ spec.sought_of role }
 {
     match role {
-        Role::Direct => Sought::Direct,
         Role::Override(operation, denoted) => Sought::Override(operation, denoted),
+        Role::Direct | Role::Repeated => Sought::Direct,
     }
 }
 
@@ -131,8 +131,8 @@ fn bodiless_of(role: Role) -> Sought
     ensures { result ≡ spec.bodiless_of role }
 {
     match role {
-        Role::Direct => Sought::Bodiless,
         Role::Override(operation, denoted) => Sought::BodilessOverride(operation, denoted),
+        Role::Direct | Role::Repeated => Sought::Bodiless,
     }
 }
 
@@ -163,9 +163,10 @@ fn declare_subprogram(
     let declared = is_declared(alloc, view, of, filing)?;
     note_if(view, declared, FaultCode::Duplicate, of.name.span);
     let key = Vec::from_slice(alloc, filing.key.as_bytes())?;
+    let role = role_as(declared, filing.role);
     let level = view.part.level;
     view.table
-        .push(key, filing.role, Stage::Hidden, level, of.name.span)
+        .push(key, role, Stage::Hidden, level, of.name.span)
 }
 
 /// Resolves parameters of one mode and type.

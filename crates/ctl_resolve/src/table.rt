@@ -68,7 +68,7 @@ fn is_direct(role: Role) -> bool
 {
     match role {
         Role::Direct => true,
-        Role::Override(_, _) => false,
+        Role::Override(_, _) | Role::Repeated => false,
     }
 }
 
@@ -77,7 +77,7 @@ fn overrides(operation: OperationName, role: Role) -> bool
     ensures { result ≡ spec.overrides operation role }
 {
     match role {
-        Role::Direct => false,
+        Role::Direct | Role::Repeated => false,
         Role::Override(other, _) => is_same_operation(operation, other),
     }
 }
@@ -87,7 +87,7 @@ fn overrides_for(operation: OperationName, denoted: Denoted, role: Role) -> bool
     ensures { result ≡ spec.overrides_for operation denoted role }
 {
     match role {
-        Role::Direct => false,
+        Role::Direct | Role::Repeated => false,
         Role::Override(other, of) => is_same_operation(operation, other) && is_alike(denoted, of),
     }
 }

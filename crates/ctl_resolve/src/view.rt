@@ -28,6 +28,8 @@ pub enum Role {
     /// nothing: it overrides this operation for the type that the mark of its first parameter denotes, and a call is resolved by the
     /// type of its first actual (RM 7.6, 8.6, 13.11)
     Override(OperationName, Denoted),
+    /// nothing: it is a second declaration of its name in one region, and the name goes on denoting the first one
+    Repeated,
 }
 
 /// A declaration in view.

@@ -9,6 +9,8 @@ use Rattle.ctl_tree.specs.declared.span.Span.{Span}
 use Rattle.ctl_program.specs.declared.types.Ty.{Ty}
 use Rattle.ctl_program.specs.declared.types.Ty.TheVariants as ty
 use Rattle.ctl_program.specs.declared.types.Var.{Var}
+use Rattle.ctl_program.specs.declared.types.RecordType.{RecordType}
+use Rattle.ctl_program.specs.declared.types.Root.TheVariants as root
 use Rattle.ctl_program.specs.declared.statement.Item.{Item as Checked_item}
 use Rattle.ctl_program.specs.declared.statement.Item.TheVariants as made
 use Rattle.ctl_syntax.specs.declared.denoted.Definition.{Definition}
@@ -40,7 +42,8 @@ use Rattle.ctl_draft.specs.declared.associations.Associated.TheVariants.{Dealloc
 use Rattle.ctl_draft.specs.declared.draft.Around.{Around}
 use Rattle.ctl_draft.specs.declared.draft.Draft.{Draft}
 use Rattle.ctl_declarations.specs.Declarations as decl
-use Rattle.ctl_declarations.specs.Declarations.{name_kept, operation_named}
+use Rattle.ctl_declarations.specs.Declarations.{name_kept}
+use Rattle.ctl_resolve.specs.Library.{operation_named}
 use Rattle.ctl_draft.specs.Draft.{enter, with_entries}
 use Rattle.ctl_types.specs.Elaboration.{surely}
 use Rattle.ctl_draft.specs.Freezing.{changed, changed_from, changed_each, done_by, is_free_type, with_accesses}
@@ -52,13 +55,13 @@ use Rattle.ctl_well_typed.specs.Setting.{Collection, Names, Frames, Encloses, Se
 use Rattle.ctl_well_typed.specs.Statements as rule
 use Rattle.ctl_sound.specs.Known.{IfSome, Gives}
 use Rattle.ctl_sound.specs.Sound.{EntryFine, FoundFine, Sound}
-use Rattle.ctl_sound.proofs.Known.{next, tested, both_give}
+use Rattle.ctl_sound.proofs.Known.{next, tested, both_give, followed_gives}
 use Rattle.ctl_sound.proofs.Values.{expression_right}
 use Rattle.ctl_sound.proofs.Items.{PoolFine, DesignatedFine, pool_named_good, designated_good}
 use Rattle.ctl_sound.proofs.Growing.{Later, later_self, StandsLater, AllLater, all_further, behind_same, last_read, front_read, still_self, still_noted, still_further, still_back, Made, nothing, Grows, grows_self}
 use Rattle.ctl_sound.proofs.Freezing.{Quiet, done_quiet, each_length}
-use Rattle.ctl_sound.proofs.Sites.{Site, around_site, here, IsHere, PoolKnown, AccessKnown, Known, Front, InAccesses, Back}
-use Rattle.ctl_sound.proofs.Fronts.{access_below, encloses_self, encloses_both, front_still, front_sound}
+use Rattle.ctl_sound.proofs.Sites.{Site, around_site, here, IsHere, PoolKnown, NoDeeper, AccessKnown, Known, Front, InAccesses, Back}
+use Rattle.ctl_sound.proofs.Fronts.{access_below, encloses_self, encloses_both, front_still, front_sound, one_access}
 use Rattle.ctl_sound.proofs.Declared.{innermost, front_declared}
 use Rattle.ctl_sound.proofs.Completing.{changed_later, completed_later, complete_known}
 use Rattle.ctl_sound.proofs.Objects.{RightItems, told_still, elaborated_joined, same_pools, unknown_comes}
@@ -81,35 +84,95 @@ module _ (a : Around) where
 
 -- Pools of access types (13.11) ---------------------------------------------------------------------------------
 
+-- a clause for an access type of the tables gives a pool where it has none yet
+abbrev Unpooled : Option AccessEntry → Type 0
+Unpooled o = (x : AccessEntry) → o ≡ Some x → x.pool ≡ None
+
+whatever : {A : Type 0} (Q : Type 0) (o : Option A) → Q → IfSome (λ (a : A). Q) o
+whatever Q None h = tt
+whatever Q (Some a) h = h
+
+unpooled_entry : (tables : Tables) (place : Span) (o : Option AccessEntry) (p : Var × ℕ) → Gives (λ (q : Var × ℕ). Unpooled o) (types.pool_for_entry tables place o p)
+unpooled_entry tables place None p s = λ x e. absurd (cc)
+unpooled_entry tables place (Some x) p s = by_pool x.pool refl
+  where
+    one_entry : (y : AccessEntry) → Some x ≡ Some y → x ≡ y
+    one_entry y e = cc
+
+    by_pool : (o : Option (Var × ℕ)) → x.pool ≡ o → IfSome (λ (q : Var × ℕ). Unpooled (Some x)) ((if is_given o then wrong fault.Pool place else accessing.pool_for tables x.generality x.level x.span place p) s).0
+    by_pool (Some q) e = tt
+    by_pool None e = whatever (Unpooled (Some x)) (accessing.pool_for tables x.generality x.level x.span place p s).0 (λ y f. ap (λ z. z.pool) (sym (one_entry y f)) ∙ e)
+
+clause_unpooled : (tables : Tables) (m : Mark Use) (a : ℕ) → Gives (λ (q : Var × ℕ). Unpooled (slice_get tables.states.accesses a)) (types.clause_pool m (Some a) tables)
+clause_unpooled tables m a =
+    next (λ (p : Var × ℕ). Unit {0}) (λ (q : Var × ℕ). Unpooled (slice_get tables.states.accesses a)) (marks.pool_named tables m) (types.pool_for_type tables m.first.span (Some a)) (λ s. whatever (Unit {0}) (marks.pool_named tables m s).0 tt)
+    (λ p h. unpooled_entry tables m.first.span (slice_get tables.states.accesses a) p)
+
 module _ (k : Setting) (env : Frames) (tables : Tables) (sound : Sound k env tables) where
   abbrev Fine : Var × ℕ → Type 0
   Fine p = PoolFine k env tables sound p
 
-  same_pool_good : (p : Var × ℕ) (b : Bool) (which : FaultCode) (place : Span) → Fine p → Gives Fine (accessing.same_pool p b which place)
-  same_pool_good p true which place h = λ s. h
-  same_pool_good p false which place h = λ s. h
+  -- an access type of this level that has the pool is no deeper than it
+  abbrev Deep : ℕ → Var × ℕ → Type 0
+  Deep level p = is_mark_root (root_of (slice_get tables.records p.1)) ≡ true → level ≤ p.0.level
 
-  pool_for_good : (g : Generality) (level : ℕ) (identifier place : Span) (p : Var × ℕ) → Fine p → Gives Fine (accessing.pool_for tables g level identifier place p)
-  pool_for_good g level identifier place p h = by_root (is_mark_root (root_of (slice_get tables.records p.1)))
+  abbrev FineAt : ℕ → Var × ℕ → Type 0
+  FineAt level p = Fine p × Deep level p
+
+  unless_good : (Q : Var × ℕ → Type 0) (b : Bool) (which : FaultCode) (place : Span) (p : Var × ℕ) → Q p → Gives Q (accessing.unless b which place p)
+  unless_good Q true which place p h = λ s. tt
+  unless_good Q false which place p h = λ s. h
+
+  level_good : (level : ℕ) (identifier : Span) (p : Var × ℕ) → Fine p → Gives (FineAt level) (accessing.unless (nat_lt p.0.level level) fault.SubpoolLevel identifier p)
+  level_good level identifier p h = by_test (nat_lt p.0.level level) refl
     where
-      by_root : (b : Bool) → Gives Fine (if b then (accessing.same_pool p (accessing.is_all g) fault.Pool place >>= (λ q. accessing.same_pool q (nat_lt q.0.level level) fault.SubpoolLevel identifier)) else known p)
-      by_root true = next Fine Fine (accessing.same_pool p (accessing.is_all g) fault.Pool place) (λ q. accessing.same_pool q (nat_lt q.0.level level) fault.SubpoolLevel identifier) (same_pool_good p (accessing.is_all g) fault.Pool place h) (λ q i. same_pool_good q (nat_lt q.0.level level) fault.SubpoolLevel identifier i)
-      by_root false = λ s. h
+      by_test : (b : Bool) → nat_lt p.0.level level ≡ b → Gives (FineAt level) (accessing.unless b fault.SubpoolLevel identifier p)
+      by_test true e = λ s. tt
+      by_test false e = λ s. (h, λ m. grind (arith, nat_tests))
 
-  pub pool_given_good : (g : Generality) (level : ℕ) (identifier : Span) (m : Option (Mark Use)) → Gives Fine (accessing.pool_given g level identifier m tables)
+  pool_for_good : (g : Generality) (level : ℕ) (identifier place : Span) (p : Var × ℕ) → Fine p → Gives (FineAt level) (accessing.pool_for tables g level identifier place p)
+  pool_for_good g level identifier place p h = by_root (is_mark_root (root_of (slice_get tables.records p.1))) refl
+    where
+      by_root : (b : Bool) → is_mark_root (root_of (slice_get tables.records p.1)) ≡ b → Gives (FineAt level) (if b then (accessing.unless (nat_lt p.0.level level) fault.SubpoolLevel identifier p >>= accessing.unless (accessing.is_all g) fault.Pool place) else known p)
+      by_root true e = next (FineAt level) (FineAt level) (accessing.unless (nat_lt p.0.level level) fault.SubpoolLevel identifier p) (accessing.unless (accessing.is_all g) fault.Pool place) (level_good level identifier p h) (λ q i. unless_good (FineAt level) (accessing.is_all g) fault.Pool place q i)
+      by_root false e = λ s. (h, λ m. absurd (cc))
+
+  pub pool_given_good : (g : Generality) (level : ℕ) (identifier : Span) (m : Option (Mark Use)) → Gives (FineAt level) (accessing.pool_given g level identifier m tables)
   pool_given_good g level identifier None = λ s. tt
-  pool_given_good g level identifier (Some m) = next Fine Fine (marks.pool_named tables m) (accessing.pool_for tables g level identifier m.first.span) (pool_named_good k env tables sound m) (pool_for_good g level identifier m.first.span)
+  pool_given_good g level identifier (Some m) = next Fine (FineAt level) (marks.pool_named tables m) (accessing.pool_for tables g level identifier m.first.span) (pool_named_good k env tables sound m) (pool_for_good g level identifier m.first.span)
 
-  pool_for_entry_good : (place : Span) (o : Option AccessEntry) (p : Var × ℕ) → Fine p → Gives Fine (types.pool_for_entry tables place o p)
-  pool_for_entry_good place None p h = λ s. h
-  pool_for_entry_good place (Some x) p h = tested_not (is_given x.pool)
+  -- the pool of a clause for this access type
+  pub record ForEntry (o : Option AccessEntry) (p : Var × ℕ) : Type 0 where
+    pub fine : Fine p
+    pub deep : (x : AccessEntry) → o ≡ Some x → Deep x.level p
+
+  one_entry : (x y : AccessEntry) → Some x ≡ Some y → x ≡ y
+  one_entry x y e = cc
+
+  pool_for_entry_good : (place : Span) (o : Option AccessEntry) (p : Var × ℕ) → Fine p → Gives (ForEntry o) (types.pool_for_entry tables place o p)
+  pool_for_entry_good place None p h = λ s. record { fine = h; deep = λ x e. absurd (cc) }
+  pool_for_entry_good place (Some x) p h = by_pool x.pool
     where
-      tested_not : (b : Bool) → Gives Fine (if b then wrong fault.Pool place else accessing.pool_for tables x.generality x.level x.span place p)
-      tested_not true = λ s. tt
-      tested_not false = pool_for_good x.generality x.level x.span place p h
+      for_entry : (q : Option (Var × ℕ)) → IfSome (FineAt x.level) q → IfSome (ForEntry (Some x)) q
+      for_entry None i = tt
+      for_entry (Some q) i = record { fine = i.0; deep = λ y f. subst (λ z. Deep z.level q) (one_entry x y f) i.1 }
 
-  pub clause_pool_good : (m : Mark Use) (a : ℕ) → Gives Fine (types.clause_pool m (Some a) tables)
-  clause_pool_good m a = next Fine Fine (marks.pool_named tables m) (types.pool_for_type tables m.first.span (Some a)) (pool_named_good k env tables sound m) (pool_for_entry_good m.first.span (slice_get tables.states.accesses a))
+      by_pool : (o : Option (Var × ℕ)) → Gives (ForEntry (Some x)) (if is_given o then wrong fault.Pool place else accessing.pool_for tables x.generality x.level x.span place p)
+      by_pool (Some q) = λ s. tt
+      by_pool None = λ s. for_entry (accessing.pool_for tables x.generality x.level x.span place p s).0 (pool_for_good x.generality x.level x.span place p h s)
+
+  pub clause_pool_good : (m : Mark Use) (a : ℕ) → Gives (ForEntry (slice_get tables.states.accesses a)) (types.clause_pool m (Some a) tables)
+  clause_pool_good m a = next Fine (ForEntry (slice_get tables.states.accesses a)) (marks.pool_named tables m) (types.pool_for_type tables m.first.span (Some a)) (pool_named_good k env tables sound m) (pool_for_entry_good m.first.span (slice_get tables.states.accesses a))
+
+  -- what the tables say of its depth, the program says
+  pub deep_known : (level : ℕ) (p : Var × ℕ) → Fine p → Deep level p → NoDeeper k level p
+  deep_known level p h deep rooted = deep (ap (λ o. is_mark_root (root_of o)) h.found ∙ ap is_mark_root root_is)
+    where
+      one_type : (x y : RecordType) (o : Option RecordType) → o ≡ Some x → o ≡ Some y → x ≡ y
+      one_type x y o e f = cc
+
+      root_is : h.is.root ≡ root.MarkPool
+      root_is = let own = sound.types.rooted p.1 h.is h.found in sym own.rooted ∙ ap (λ y. y.root) (one_type own.is rooted.is (slice_get k.records p.1) own.found rooted.found) ∙ rooted.rooted
 
   pub pool_known : (p : Var × ℕ) → Fine p → PoolKnown k env p
   pool_known p h = record { root = h.is.root; names = h.names; rooted = sound.types.rooted p.1 h.is h.found; pool = same_pools k env tables sound h.is.root h.is_pool }
@@ -232,9 +295,9 @@ module _ (a : Around) (number : ℕ) (x : AccessEntry) (d : Draft) where
   in_program s b =
       let y = changed_later (accessing.completed_access number (ty.Access n)) (completed_later number (ty.Access n)) a.first_access longer n x (last_read d.tables.states.accesses x) in
       let q = b.accesses n y.is y.found in
-      record { is = q.is; found = q.found; collection = q.collection ∙ y.later.collection; designated = λ t e. q.designated t (y.later.designated t e) }
+      record { is = q.is; found = q.found; collection = q.collection ∙ y.later.collection; designated = λ t e. q.designated t (y.later.designated t e); pool = λ p e. q.pool p (y.later.pool p e) }
 
-  pub access_leads : x.level ≡ a.level → x.collection ≡ record { level = a.level; slot = length d.slots } → ((s : Site) → Front s d → (t : Ty) → x.designated ≡ designated.Known t → InView s.k (around_site s) t) → ((s : Site) → Front s d → (p : Var × ℕ) → x.pool ≡ Some p → PoolKnown s.k (around_site s) p) →
+  pub access_leads : x.level ≡ a.level → x.collection ≡ record { level = a.level; slot = length d.slots } → ((s : Site) → Front s d → (t : Ty) → x.designated ≡ designated.Known t → InView s.k (around_site s) t) → ((s : Site) → Front s d → (p : Var × ℕ) → x.pool ≡ Some p → PoolKnown s.k (around_site s) p × NoDeeper s.k x.level p) →
       Leads (here a) (RightItems a) d (Some [], accessing.add_access a number x d)
   access_leads level collection usable pools = subst (λ e. Leads (here a) (RightItems a) d (Some [], e)) (sym access_is) (record {
     made = access_made n;
@@ -257,7 +320,9 @@ module _ (a : Around) (number : ℕ) (x : AccessEntry) (d : Draft) where
           level = deep;
           names = subst (λ v. Names env v (Collection n)) (sym (collection ∙ ap (λ l. record { level = l; slot = length d.slots }) i.level)) names;
           designated = λ t e. (own.designated t e, usable s f t e);
-          pool = pools s f;
+          pool = λ p e. (pools s f p e).0;
+          pooled = own.pool;
+          subpools = λ p e. (pools s f p e).1;
         } in
         let has : HasAccess s.k env n = record { is = own.is; home = env; found = own.found; at_home = home; encloses = encloses_self env } in
         let inner = inner_longer s f home in
@@ -274,11 +339,11 @@ known_designated : (k : Setting) (env : Frames) (tables : Tables) (sound : Sound
 known_designated k env tables sound None h t e = absurd (cc)
 known_designated k env tables sound (Some (designated.Known u)) h t e = let same : u ≡ t = cc in subst (InView k env) same h
 known_designated k env tables sound (Some designated.Unclear) h t e = absurd (cc)
-known_designated k env tables sound (Some (designated.Awaited n)) h t e = absurd (cc)
+known_designated k env tables sound (Some (designated.Awaited n at)) h t e = absurd (cc)
 
-known_pool : (k : Setting) (env : Frames) (tables : Tables) (sound : Sound k env tables) (o : Option (Var × ℕ)) → IfSome (PoolFine k env tables sound) o → (p : Var × ℕ) → o ≡ Some p → PoolKnown k env p
-known_pool k env tables sound None h p e = absurd (cc)
-known_pool k env tables sound (Some q) h p e = subst (PoolKnown k env) (one_pool q p e) (pool_known k env tables sound q h)
+known_pool : (k : Setting) (env : Frames) (tables : Tables) (sound : Sound k env tables) (level : ℕ) (o : Option (Var × ℕ)) → IfSome (FineAt k env tables sound level) o → (p : Var × ℕ) → o ≡ Some p → PoolKnown k env p × NoDeeper k level p
+known_pool k env tables sound level None h p e = absurd (cc)
+known_pool k env tables sound level (Some q) h p e = subst (λ r. PoolKnown k env r × NoDeeper k level r) (one_pool q p e) (pool_known k env tables sound q h.0, deep_known k env tables sound level q h.0 h.1)
   where
     one_pool : (q p : Var × ℕ) → Some q ≡ Some p → q ≡ p
     one_pool q p e = cc
@@ -296,7 +361,7 @@ module _ (a : Around) (place : Span) (name : Definition) (g : Generality) (m : M
       (still_further d d1 d3 (told_still (accessing.is_said_tagged (slice_get d.tables.entries name.number)) _ place d) (still_noted d1 d1.returning d1.waiting r2.1))
       (access_leads a name.number x d3 refl refl
       (λ s f t e. let sound = front_sound s d1 (back_to s f) in known_designated s.k (around_site s) d1.tables sound r1.0 (designated_good s.k (around_site s) d1.tables sound place m c d1.notes) t e)
-      (λ s f p e. let sound = front_sound s d1 (back_to s f) in known_pool s.k (around_site s) d1.tables sound r2.0 (pool_given_good s.k (around_site s) d1.tables sound g a.level name.identifier.span pool r1.1) p e))
+      (λ s f p e. let sound = front_sound s d1 (back_to s f) in known_pool s.k (around_site s) d1.tables sound a.level r2.0 (pool_given_good s.k (around_site s) d1.tables sound g a.level name.identifier.span pool r1.1) p e))
 
   pub access_defined : (d : Draft) → Leads (here a) (RightItems a) d (surely (decl.definition_of place name (definition.Access g m c pool) a d))
   access_defined d = still_leads (here a) (RightItems a) d (name_kept name d) (surely (decl.definition_of place name (definition.Access g m c pool) a d)) (told_still (is_given (operation_named name.identifier.text)) _ name.identifier.span d) (access_type_leads (name_kept name d))
@@ -321,11 +386,11 @@ changed_one f (suc at) (x ∷ xs) n y e = by_rest (slice_get xs at) n e (changed
         let g = h n y e in
         record { from = g.from; found = g.found; how = elim g.how [ inl i ↦ inl i | inr i ↦ inr (ap suc i.0, i.1) ] }
 
-changed_one_later : (f : AccessEntry → AccessEntry) → ((x : AccessEntry) → Later x (f x)) → (at : ℕ) (xs : List AccessEntry) → AllLater xs (changed f at xs)
-changed_one_later f h at [] n x e = absurd (cc)
-changed_one_later f h zero (y ∷ xs) zero x e = let same : y ≡ x = cc in record { is = f y; found = refl; later = subst (λ z. Later z (f y)) same (h y) }
-changed_one_later f h zero (y ∷ xs) (suc n) x e = record { is = x; found = e; later = later_self x }
-changed_one_later f h (suc at) (y ∷ xs) n x e = by_rest (slice_get xs at) n e (changed_one_later f h at xs)
+changed_one_later : (f : AccessEntry → AccessEntry) (at : ℕ) (xs : List AccessEntry) → ((x : AccessEntry) → slice_get xs at ≡ Some x → Later x (f x)) → AllLater xs (changed f at xs)
+changed_one_later f at [] h n x e = absurd (cc)
+changed_one_later f zero (y ∷ xs) h zero x e = let same : y ≡ x = cc in record { is = f y; found = refl; later = subst (λ z. Later z (f y)) same (h y refl) }
+changed_one_later f zero (y ∷ xs) h (suc n) x e = record { is = x; found = e; later = later_self x }
+changed_one_later f (suc at) (y ∷ xs) h n x e = by_rest (slice_get xs at) n e (changed_one_later f at xs h)
   where
     by_rest : (o : Option AccessEntry) (n : ℕ) → slice_get (y ∷ xs) n ≡ Some x → AllLater xs (changed_from f o at xs) → StandsLater (changed_from f o (suc at) (y ∷ xs)) n x
     by_rest None n e i = record { is = x; found = e; later = later_self x }
@@ -345,17 +410,17 @@ module _ (a : Around) (place : Span) where
   abbrev pooled : ℕ → Var × ℕ → Draft → Draft
   pooled n p d = with_accesses (changed (types.with_pool p) n d.tables.states.accesses) d
 
-  pool_later : (p : Var × ℕ) (x : AccessEntry) → Later x (types.with_pool p x)
-  pool_later p x = record { level = refl; collection = refl; designated = λ t e. e }
+  pool_later : (p : Var × ℕ) (x : AccessEntry) → x.pool ≡ None → Later x (types.with_pool p x)
+  pool_later p x e = record { level = refl; collection = refl; designated = λ t e. e; pool = λ q f. absurd (let none = e in cc) }
 
-  pooled_grows : (n : ℕ) (p : Var × ℕ) (d : Draft) → Grows nothing d (pooled n p d)
-  pooled_grows n p d =
+  pooled_grows : (n : ℕ) (p : Var × ℕ) (d : Draft) → ((x : AccessEntry) → slice_get d.tables.states.accesses n ≡ Some x → x.pool ≡ None) → Grows nothing d (pooled n p d)
+  pooled_grows n p d unpooled =
       let g = grows_self d in
       record {
         records = g.records;
         components = g.components;
         exceptions = g.exceptions;
-        accesses = changed_one_later (types.with_pool p) (pool_later p) n d.tables.states.accesses;
+        accesses = changed_one_later (types.with_pool p) n d.tables.states.accesses (λ x e. pool_later p x (unpooled x e));
         slots = g.slots;
         record_homes = g.record_homes;
         access_homes = λ env. let same = changed_one_length (types.with_pool p) n d.tables.states.accesses in omega (arith, same);
@@ -363,8 +428,8 @@ module _ (a : Around) (place : Span) where
       }
 
   -- the pool stands in the same master as the type
-  pooled_known : (s : Site) (i : IsHere s (here a)) (d : Draft) (f : Front s d) (n : ℕ) (p : Var × ℕ) → a.first_access ≤ n → InView s.k (around_site s) (ty.Access n) → PoolKnown s.k (around_site s) p → (x : AccessEntry) → slice_get d.tables.states.accesses n ≡ Some x → AccessKnown s.k n (types.with_pool p x)
-  pooled_known s i d f n p past v h x e =
+  pooled_known : (s : Site) (i : IsHere s (here a)) (d : Draft) (f : Front s d) (n : ℕ) (p : Var × ℕ) → a.first_access ≤ n → InView s.k (around_site s) (ty.Access n) → PoolKnown s.k (around_site s) p → (x : AccessEntry) → slice_get d.tables.states.accesses n ≡ Some x → NoDeeper s.k x.level p → InAccesses s.k n (types.with_pool p x) → AccessKnown s.k n (types.with_pool p x)
+  pooled_known s i d f n p past v h x e deep own =
       let q = f.known.accesses n x e in
       let first = i.first in
       let inside = f.inner n q.home (omega (arith, past, first)) (access_below d.tables.states.accesses n x e) q.at_home in
@@ -381,6 +446,8 @@ module _ (a : Around) (place : Span) where
         names = q.names;
         designated = q.designated;
         pool = λ r j. subst (PoolKnown s.k q.home) (one_pool p r j) (subst (λ g. PoolKnown s.k g p) here' h);
+        pooled = λ r j. ap (λ y. y.pool) (one_access q.is own.is (slice_get s.k.accesses n) q.found own.found) ∙ own.pool r j;
+        subpools = λ r j. subst (NoDeeper s.k x.level) (one_pool p r j) deep;
       }
     where
       home_is : (x y : Frames) (o : Option Frames) → o ≡ Some x → o ≡ Some y → x ≡ y
@@ -389,10 +456,14 @@ module _ (a : Around) (place : Span) where
       one_pool : (q p : Var × ℕ) → Some q ≡ Some p → q ≡ p
       one_pool q p e = cc
 
-  pooled_leads : (n : ℕ) (p : Var × ℕ) (d : Draft) (items : List Checked_item) → ((s : Site) → RightItems a s items) → ((s : Site) → IsHere s (here a) → Front s d → (a.first_access ≤ n) × (InView s.k (around_site s) (ty.Access n) × PoolKnown s.k (around_site s) p)) → Leads (here a) (RightItems a) d (Some items, pooled n p d)
-  pooled_leads n p d items right shown = record {
+  -- the pool of a clause for this access type, at a site
+  abbrev PoolOf : Site → Draft → ℕ → Var × ℕ → Type 0
+  PoolOf s d n p = PoolKnown s.k (around_site s) p × ((x : AccessEntry) → slice_get d.tables.states.accesses n ≡ Some x → NoDeeper s.k x.level p)
+
+  pooled_leads : (n : ℕ) (p : Var × ℕ) (d : Draft) (items : List Checked_item) → ((s : Site) → RightItems a s items) → Unpooled (slice_get d.tables.states.accesses n) → ((s : Site) → IsHere s (here a) → Front s d → (a.first_access ≤ n) × (InView s.k (around_site s) (ty.Access n) × PoolOf s d n p)) → Leads (here a) (RightItems a) d (Some items, pooled n p d)
+  pooled_leads n p d items right unpooled shown = record {
     made = nothing;
-    grows = pooled_grows n p d;
+    grows = pooled_grows n p d unpooled;
     right = λ s i f b g.
         let h = shown s i f in
         let counts = changed_one_length (types.with_pool p) n d.tables.states.accesses in
@@ -400,17 +471,20 @@ module _ (a : Around) (place : Span) where
         let c = changed_one (types.with_pool p) n d.tables.states.accesses m y e in
         elim c.how [
           | inl j ↦ subst (AccessKnown s.k m) (sym j) (f.known.accesses m c.from c.found)
-          | inr j ↦ subst (AccessKnown s.k m) (sym j.1) (subst (λ z. AccessKnown s.k z (types.with_pool p c.from)) (sym j.0) (pooled_known s i d f n p h.0 h.1.0 h.1.1 c.from (subst (λ z. slice_get d.tables.states.accesses z ≡ Some c.from) j.0 c.found)))
+          | inr j ↦
+              let there = subst (λ z. slice_get d.tables.states.accesses z ≡ Some c.from) j.0 c.found in
+              let own = subst (λ z. InAccesses s.k z (types.with_pool p c.from)) j.0 (subst (InAccesses s.k m) j.1 (b.accesses m y e)) in
+              subst (AccessKnown s.k m) (sym j.1) (subst (λ z. AccessKnown s.k z (types.with_pool p c.from)) (sym j.0) (pooled_known s i d f n p h.0 h.1.0 h.1.1.0 c.from there (h.1.1.1 c.from there) own))
         ] in
         let known' : Known s.k (pooled n p d) = record { records = f.known.records; operations = f.known.operations; subprograms = f.known.subprograms; accesses = accesses; states = f.known.states; components = f.known.components } in
         (record { entries = f.entries; base = f.base; known = known'; own = f.own; inner = λ m home first less at. f.inner m home first (omega (arith, counts, less)) at }, right s);
   }
 
-  given_pool : (o : Option ℕ) (q : Option (Var × ℕ)) (d : Draft) → ((s : Site) → IsHere s (here a) → Front s d → IfSome (λ n. (a.first_access ≤ n) × InView s.k (around_site s) (ty.Access n)) o) → ((s : Site) → IsHere s (here a) → Front s d → (n : ℕ) → o ≡ Some n → IfSome (PoolKnown s.k (around_site s)) q) →
+  given_pool : (o : Option ℕ) (q : Option (Var × ℕ)) (d : Draft) → ((s : Site) → IsHere s (here a) → Front s d → IfSome (λ n. (a.first_access ≤ n) × InView s.k (around_site s) (ty.Access n)) o) → ((n : ℕ) → o ≡ Some n → IfSome (λ (p : Var × ℕ). Unpooled (slice_get d.tables.states.accesses n)) q) → ((s : Site) → IsHere s (here a) → Front s d → (n : ℕ) → o ≡ Some n → IfSome (PoolOf s d n) q) →
       Leads (here a) (RightItems a) d (Some (made.Silent ∷ []), types.give_pool o (q, d))
-  given_pool None q d h g = still_given (here a) (RightItems a) d (Some (made.Silent ∷ []), d) (still_self d) (λ s i f. silent_right a s)
-  given_pool (Some n) None d h g = still_given (here a) (RightItems a) d (Some (made.Silent ∷ []), d) (still_self d) (λ s i f. silent_right a s)
-  given_pool (Some n) (Some p) d h g = pooled_leads n p d (made.Silent ∷ []) (silent_right a) (λ s i f. let own = h s i f in (own.0, (own.1, g s i f n refl)))
+  given_pool None q d h u g = still_given (here a) (RightItems a) d (Some (made.Silent ∷ []), d) (still_self d) (λ s i f. silent_right a s)
+  given_pool (Some n) None d h u g = still_given (here a) (RightItems a) d (Some (made.Silent ∷ []), d) (still_self d) (λ s i f. silent_right a s)
+  given_pool (Some n) (Some p) d h u g = pooled_leads n p d (made.Silent ∷ []) (silent_right a) (u n refl) (λ s i f. let own = h s i f in (own.0, (own.1, g s i f n refl)))
 
   pub pool_clause_leads : (u : Use) (m : Mark Use) (d : Draft) → Leads (here a) (RightItems a) d (surely (types.pool_clause place u m a d))
   pool_clause_leads u m d =
@@ -421,15 +495,16 @@ module _ (a : Around) (place : Span) where
       still_leads (here a) (RightItems a) d e (surely (types.pool_clause place u m a d)) (still_noted d d.returning d.waiting r2.1)
       (given_pool r1.0 r2.0 e
       (λ s i f. clause_is s r1.0 (front_sound s d (back_to s f)) (clause_type_good s.k (around_site s) d.tables (front_sound s d (back_to s f)) a place u.denoted d.notes))
-      (λ s i f n same. let sound = front_sound s d (back_to s f) in pool_is s sound (types.clause_pool m r1.0 d.tables r1.1).0 (subst (λ o. IfSome (PoolFine s.k (around_site s) d.tables sound) (types.clause_pool m o d.tables r1.1).0) (sym same) (clause_pool_good s.k (around_site s) d.tables sound m n r1.1))))
+      (λ n same. subst (λ o. IfSome (λ (p : Var × ℕ). Unpooled (slice_get d.tables.states.accesses n)) (types.clause_pool m o d.tables r1.1).0) (sym same) (clause_unpooled d.tables m n r1.1))
+      (λ s i f n same. let sound = front_sound s d (back_to s f) in pool_is s sound n (types.clause_pool m r1.0 d.tables r1.1).0 (subst (λ o. IfSome (ForEntry s.k (around_site s) d.tables sound (slice_get d.tables.states.accesses n)) (types.clause_pool m o d.tables r1.1).0) (sym same) (clause_pool_good s.k (around_site s) d.tables sound m n r1.1))))
     where
       clause_is : (s : Site) (o : Option ℕ) (sound : Sound s.k (around_site s) d.tables) → IfSome (ClauseFor s.k (around_site s) d.tables sound a.first_access) o → IfSome (λ n. (a.first_access ≤ n) × InView s.k (around_site s) (ty.Access n)) o
       clause_is s None sound h = tt
       clause_is s (Some n) sound h = (h.past, h.usable)
 
-      pool_is : (s : Site) (sound : Sound s.k (around_site s) d.tables) (o : Option (Var × ℕ)) → IfSome (PoolFine s.k (around_site s) d.tables sound) o → IfSome (PoolKnown s.k (around_site s)) o
-      pool_is s sound None h = tt
-      pool_is s sound (Some p) h = pool_known s.k (around_site s) d.tables sound p h
+      pool_is : (s : Site) (sound : Sound s.k (around_site s) d.tables) (n : ℕ) (o : Option (Var × ℕ)) → IfSome (ForEntry s.k (around_site s) d.tables sound (slice_get d.tables.states.accesses n)) o → IfSome (PoolOf s d n) o
+      pool_is s sound n None h = tt
+      pool_is s sound n (Some p) h = (pool_known s.k (around_site s) d.tables sound p h.fine, λ x e. deep_known s.k (around_site s) d.tables sound x.level p h.fine (h.deep x e))
 
 -- Instances of Ada.Unchecked_Deallocation (13.11.2) ----------------------------------------------------------------------
 
@@ -446,7 +521,7 @@ module _ (k : Setting) (env : Frames) (tables : Tables) (sound : Sound k env tab
 
   type_by_good : (place : Span) (o : Option (Tables → Judgement Found)) → IfSome (λ (f : Tables → Judgement Found). Gives (FoundFine k env) (f tables)) o → Gives Usable (decl.type_by tables place o)
   type_by_good place None h = λ s. tt
-  type_by_good place (Some name) h = next (FoundFine k env) Usable (name tables) (decl.type_found place) h (type_found_good place)
+  type_by_good place (Some name) h = followed_gives (FoundFine k env) Usable (name tables) (decl.type_known place) h (type_found_good place) (λ s. tt)
 
   deallocated_good : (place : Span) (t u : Ty) → Usable u → Gives InstanceFine (decl.deallocated tables place t u)
   deallocated_good place t (ty.Access a) h = tested InstanceFine (designates_this t (designated_by tables a)) (known (a, t)) (wrong fault.Type place) (λ e s. h) (λ s. tt)

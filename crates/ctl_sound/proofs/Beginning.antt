@@ -6,10 +6,10 @@ use Rattle.ctl_syntax.specs.declared.denoted.OperationName.{OperationName}
 use Rattle.ctl_syntax.specs.declared.denoted.OperationName.TheVariants.{Initialize, Adjust, Finalize, Allocate, Deallocate}
 use Rattle.ctl_typing.specs.declared.table.Tables.{Tables}
 use Rattle.ctl_typing.specs.declared.table.RecordEntry.{RecordEntry}
-use Rattle.ctl_typing.specs.Lookup.{component_of, descends, designated_by}
+use Rattle.ctl_typing.specs.Lookup.{component_of, descends, designated_by, has_subpools}
 use Rattle.ctl_types.specs.Elaboration.{library_records, main_declared, library, begun, outside}
 use Rattle.ctl_draft.specs.Draft.{declare}
-use Rattle.ctl_declarations.specs.Declarations.{operation_named}
+use Rattle.ctl_resolve.specs.Library.{operation_named}
 use Rattle.ctl_types.specs.Subprograms.{add_subprogram}
 use Rattle.ctl_declarations.specs.Types.{is_given}
 use Rattle.ctl_typing.specs.declared.table.Entry.TheVariants as entry
@@ -101,6 +101,9 @@ module _ (k : Setting) (env : Frames) (has : HasLibrary k) where
   nothing_designated : (a : ℕ) → designated_by tables a ≡ None
   nothing_designated a = refl
 
+  nothing_in_subpools : (a : ℕ) → has_subpools tables (slice_get tables.states.accesses a) ≡ false
+  nothing_in_subpools a = refl
+
   pub types_sound : TypesFine k env tables
   types_sound = record {
     component = λ name t i c e v. absurd (let no = no_component name t in cc);
@@ -110,6 +113,8 @@ module _ (k : Setting) (env : Frames) (has : HasLibrary k) where
     mark_pool = rooted 3 _ refl;
     designated = λ a t x e f. absurd (let no = nothing_designated a in cc);
     designated_in_view = λ a t e v. absurd (let no = nothing_designated a in cc);
+    designated_at_home = λ a t e to. absurd (let no = nothing_designated a in cc);
+    subpools = λ a e to. absurd (let no = nothing_in_subpools a in cc);
   }
 
   entries_sound : (n : ℕ) → IfSome (EntryFine k env) (slice_get tables.entries n)

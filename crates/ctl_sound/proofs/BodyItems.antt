@@ -21,6 +21,7 @@ use Rattle.ctl_typing.specs.declared.table.Tables.{Tables}
 use Rattle.ctl_draft.specs.declared.draft.Around.{Around}
 use Rattle.ctl_draft.specs.declared.draft.Draft.{Draft}
 use Rattle.ctl_draft.specs.declared.draft.Giving.{Giving}
+use Rattle.ctl_resolve.specs.Library.{operation_named}
 use Rattle.ctl_declarations.specs.Declarations as decl
 use Rattle.ctl_types.specs.Subprograms as routines
 use Rattle.ctl_draft.specs.Draft.{fault_when, is_declared_in, leave_view}
@@ -321,7 +322,7 @@ subprogram_entries a place x h d = by_test (is_declared_in a x.name.number d)
     completed_entries : (o : Option Entry) → Behind d.tables.entries (routines.completed a place x o (h, d)).1.tables.entries
     completed_entries (Some (entry.Subprogram p)) =
         let told = fault_when (not (routines.conformed p (routines.formal_names x.formals) h)) fault.Type place d in
-        let still = still_further d told (decl.indicator_kept x told) (told_still (not (routines.conformed p (routines.formal_names x.formals) h)) fault.Type place d) (told_still (decl.is_unfounded x.indicator (decl.operation_named x.name.identifier.text)) fault.Override x.name.identifier.span told) in
+        let still = still_further d told (decl.indicator_kept x told) (told_still (not (routines.conformed p (routines.formal_names x.formals) h)) fault.Type place d) (told_still (decl.is_unfounded x.indicator (operation_named x.name.identifier.text)) fault.Override x.name.identifier.span told) in
         behind_same d.tables.entries (decl.indicator_kept x told).tables.entries still.entries
     completed_entries None = behind_self d.tables.entries
     completed_entries (Some (entry.«Type» t)) = behind_self d.tables.entries

@@ -39,7 +39,7 @@ changed_later f h (suc m) (y ∷ xs) (suc n) x e = let g = changed_later f h m x
 -- Awaited types ------------------------------------------------------------------------------------------
 
 pub completed_later : (number : ℕ) (t : Ty) (x : AccessEntry) → Later x (completed_access number t x)
-completed_later number t x = record { level = refl; collection = refl; designated = λ u e. ap (completed_designated number t) e }
+completed_later number t x = record { level = refl; collection = refl; designated = λ u e. ap (completed_designated number t) e; pool = λ p e. e }
 
 module _ (s : Site) (number : ℕ) (t : Ty) (first : ℕ) (same_first : first ≡ s.first) (usable : InView s.k (around_site s) t) (xs : List AccessEntry)
     (inner : (n : ℕ) (home : Frames) → s.first ≤ n → n < length xs → slice_get s.k.access_homes n ≡ Some home → Encloses (around_site s) home)
@@ -47,9 +47,9 @@ module _ (s : Site) (number : ℕ) (t : Ty) (first : ℕ) (same_first : first �
   designated_usable : (home : Frames) (x : AccessEntry) (w : Designated) → x.designated ≡ w → ((u : Ty) → x.designated ≡ designated.Known u → InView s.k home u) → InView s.k home t → (u : Ty) → completed_designated number t w ≡ designated.Known u → InView s.k home u
   designated_usable home x (designated.Known v) e h g u q = let same : v ≡ u = cc in h u (e ∙ ap designated.Known same)
   designated_usable home x designated.Unclear e h g u q = absurd (cc)
-  designated_usable home x (designated.Awaited n) e h g u q = by_test (nat_eq n number) q
+  designated_usable home x (designated.Awaited n place) e h g u q = by_test (nat_eq n number) q
     where
-      by_test : (b : Bool) → (if b then designated.Known t else designated.Awaited n) ≡ designated.Known u → InView s.k home u
+      by_test : (b : Bool) → (if b then designated.Known t else designated.Awaited n place) ≡ designated.Known u → InView s.k home u
       by_test true q = let same : t ≡ u = cc in subst (InView s.k home) same g
       by_test false q = absurd (cc)
 
@@ -70,6 +70,8 @@ module _ (s : Site) (number : ℕ) (t : Ty) (first : ℕ) (same_first : first �
         names = q.names;
         designated = λ u d. (sym (ap (λ z. z.designated) one) ∙ g.designated u d, designated_usable q.home x x.designated refl (λ v w. (q.designated v w).1) home u d);
         pool = q.pool;
+        pooled = q.pooled;
+        subpools = q.subpools;
       }
 
   pub complete_known : ((a : ℕ) (y : AccessEntry) → slice_get (changed_each (completed_access number t) first xs) a ≡ Some y → InAccesses s.k a y) → (a : ℕ) (y : AccessEntry) → slice_get (changed_each (completed_access number t) first xs) a ≡ Some y → AccessKnown s.k a y

@@ -1,5 +1,5 @@
 -- Components as they are declared: in the tables and in the program they stand side by side (3.8, 3.9.1).
-use Rattle.std.proofs.Common.{arith, ◌≡◌, ◌<◌, refl, sym, ap, ◌∙◌, subst, ℕ, zero, suc, ◌+◌, Bool, true, false, ◌&&◌, ◌||◌, if◌then◌else◌, List, [], ◌∷◌, ◌++◌, length, slice_get, Option, Some, None, option_map}
+use Rattle.std.proofs.Common.{arith, ◌≡◌, ◌<◌, refl, sym, ap, ◌∙◌, subst, ℕ, zero, suc, ◌+◌, Bool, true, false, ◌&&◌, if◌then◌else◌, List, [], ◌∷◌, ◌++◌, length, slice_get, Option, Some, None, option_map}
 use Rattle.std.proofs.lemmas.List.{append-nil, append_assoc}
 use Rattle.ctl_grammar.specs.Spelling.{same_name}
 use Rattle.ctl_tree.specs.declared.span.Span.{Span}
@@ -114,15 +114,17 @@ module _ (tables : Tables) where
       (λ t u. tested HasObjects (has_objects tables t) (known t) (wrong fault.Type place) (λ e s. e) (λ s. tt))
 
   component_type_has : (within : Enclosing) (place : Span) (m : Mark Use) → Gives HasObjects (types.component_type tables within place m)
-  component_type_has within place m = by_test (types.is_name_of within.number m.first.denoted)
+  component_type_has within place m = by_test (types.is_name_of within.number m.first.denoted && marks.is_alone m)
     where
       by_test : (b : Bool) → Gives HasObjects (if b then wrong fault.SelfContained place else (marks.concrete_type tables within.place m >>= marks.no_pool tables m.first.span))
       by_test true = λ s. tt
       by_test false = next HasObjects HasObjects (marks.concrete_type tables within.place m) (marks.no_pool tables m.first.span) (concrete_has within.place m) (λ t h. told_has (marks.is_pool tables t) (but fault.Pool m.first.span t) t (λ s. h) h)
 
   component_has : (within : Enclosing) (m : Mark Use) (value : Option Sense) (i : Identifier) → Gives HasObjects (types.component_judged within m value i tables)
-  component_has within m value i = next HasObjects HasObjects (types.component_type tables within i.span m) (types.may_be_limited tables within i.span (types.is_given value)) (component_type_has within i.span m)
-      (λ t h. told_has (is_limited tables t && (types.is_given value || types.is_unlimited within.limitation)) (but fault.Limited i.span t) t (λ s. h) h)
+  component_has within m value i = tested HasObjects (marks.is_root_pool m && types.excludes_limited within (types.is_given value)) (wrong fault.Limited i.span)
+      (types.component_type tables within i.span m >>= types.may_be_limited tables within i.span (types.is_given value)) (λ e s. tt)
+      (next HasObjects HasObjects (types.component_type tables within i.span m) (types.may_be_limited tables within i.span (types.is_given value)) (component_type_has within i.span m)
+      (λ t h. told_has (is_limited tables t && types.excludes_limited within (types.is_given value)) (but fault.Limited i.span t) t (λ s. h) h))
 
   pub below : (xs : List RecordEntry) (i : ℕ) (x : RecordEntry) → slice_get xs i ≡ Some x → i < length xs
   below [] i x e = absurd (cc)

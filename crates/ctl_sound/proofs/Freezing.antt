@@ -1,5 +1,5 @@
 -- What is frozen keeps all else; the collections that stand before a construct are those of the master around.
-use Rattle.std.proofs.Common.{arith, ◌≡◌, ◌≤◌, refl, sym, ap, ◌∙◌, subst, ℕ, zero, suc, ◌+◌, ◌-◌, nat_eq, Bool, true, false, ◌&&◌, if◌then◌else◌, List, [], ◌∷◌, map, length, drop, slice_get, slice_set, Option, Some, None}
+use Rattle.std.proofs.Common.{arith, ◌≡◌, ◌≤◌, refl, sym, ap, ◌∙◌, subst, ℕ, zero, suc, ◌+◌, ◌-◌, ◌^◌, nat_eq, Bool, true, false, ◌&&◌, if◌then◌else◌, List, [], ◌∷◌, ◌++◌, map, length, drop, slice_get, slice_set, Option, Some, None}
 use Rattle.std.proofs.lemmas.Bool.Decides.{nat_tests}
 use Rattle.ctl_program.specs.declared.types.Ty.{Ty}
 use Rattle.ctl_program.specs.declared.types.Ty.TheVariants as ty
@@ -10,13 +10,6 @@ use Rattle.ctl_typing.specs.declared.table.States.{States}
 use Rattle.ctl_typing.specs.declared.table.RecordEntry.{RecordEntry}
 use Rattle.ctl_typing.specs.declared.table.RecordState.{RecordState}
 use Rattle.ctl_typing.specs.declared.table.AccessEntry.{AccessEntry}
-use Rattle.ctl_typing.specs.declared.table.ComponentEntry.{ComponentEntry}
-use Rattle.ctl_typing.specs.declared.table.Beginning.{Beginning}
-use Rattle.ctl_typing.specs.declared.table.Beginning.TheVariants as beginning
-use Rattle.ctl_typing.specs.declared.table.Freezing.{Freezing}
-use Rattle.ctl_typing.specs.declared.table.Freezing.TheVariants.{Free, Frozen, Placed}
-use Rattle.ctl_typing.specs.declared.table.Defaults.{Defaults}
-use Rattle.ctl_typing.specs.declared.table.Defaults.TheVariants.{Unused, Used}
 use Rattle.ctl_draft.specs.declared.draft.Draft.{Draft}
 use Rattle.ctl_draft.specs.declared.draft.Around.{Around}
 use Rattle.ctl_draft.specs.Freezing as spec
@@ -95,50 +88,18 @@ deed_alike (Creates t) s = alike_self s
 deed_alike (Allocates a) s = alike_self s
 deed_alike (Calls n) s = alike_self s
 
-deeds_alike : (ds : List Deed) (s : States) → Alike s (spec.do_deeds ds s)
-deeds_alike [] s = alike_self s
-deeds_alike (d ∷ ds) s = alike_further s (spec.do_deed d s) (spec.do_deeds ds (spec.do_deed d s)) (deed_alike d s) (deeds_alike ds (spec.do_deed d s))
+done_alike : (is_new : Bool) (d : Deed) (s : States) → Alike s (spec.done_if is_new d s)
+done_alike true d s = deed_alike d s
+done_alike false d s = alike_self s
 
-components_alike : (cs : List ComponentEntry) (s : States) → Alike s (spec.freeze_components cs s)
-components_alike [] s = alike_self s
-components_alike (c ∷ cs) s = alike_further s (spec.freeze c.ty s) (spec.freeze_components cs (spec.freeze c.ty s)) (freeze_alike c.ty s) (components_alike cs (spec.freeze c.ty s))
-
-parent_alike : (p : Option ℕ) (s : States) → Alike s (spec.freeze_parent p s)
-parent_alike None s = alike_self s
-parent_alike (Some t) s = freeze_alike (ty.Record t) s
-
-frozen_by_alike : (r : RecordEntry) (f : Freezing) (s : States) → Alike s (spec.frozen_by r f s)
-frozen_by_alike r Free s = alike_self s
-frozen_by_alike r Frozen s = alike_further s (spec.freeze_parent r.parent s) (spec.freeze_components r.own (spec.freeze_parent r.parent s)) (parent_alike r.parent s) (components_alike r.own (spec.freeze_parent r.parent s))
-frozen_by_alike r Placed s = alike_further s (spec.freeze_parent r.parent s) (spec.freeze_components r.own (spec.freeze_parent r.parent s)) (parent_alike r.parent s) (components_alike r.own (spec.freeze_parent r.parent s))
-
-begun_alike : (t : Ty) (b : Beginning) (s : States) → Alike s (spec.initialize_component t b s)
-begun_alike t beginning.Default s = initialize_alike t s
-begun_alike t beginning.Value s = alike_self s
-
-defaults_alike : (cs : List ComponentEntry) (s : States) → Alike s (spec.initialize_components cs s)
-defaults_alike [] s = alike_self s
-defaults_alike (c ∷ cs) s = let next = spec.initialize_component c.ty c.beginning s in alike_further s next (spec.initialize_components cs next) (begun_alike c.ty c.beginning s) (defaults_alike cs next)
-
-parent_begun_alike : (p : Option ℕ) (s : States) → Alike s (spec.initialize_parent p s)
-parent_begun_alike None s = alike_self s
-parent_begun_alike (Some t) s = initialize_alike (ty.Record t) s
-
-initialized_by_alike : (r : RecordEntry) (f : Defaults) (s : States) → Alike s (spec.initialized_by r f s)
-initialized_by_alike r Unused s = alike_self s
-initialized_by_alike r Used s =
-    let first = spec.initialize_parent r.parent s in
-    let second = spec.initialize_components r.own first in
-    alike_further s second (spec.do_deeds r.deeds second) (alike_further s first second (parent_begun_alike r.parent s) (defaults_alike r.own first)) (deeds_alike r.deeds second)
-
-followed_alike : (o : Option RecordEntry) (p : Option RecordState) (s : States) → Alike s (spec.followed_from o p s)
-followed_alike (Some r) (Some q) s = let first = spec.frozen_by r q.freezing s in alike_further s first (spec.initialized_by r q.defaults first) (frozen_by_alike r q.freezing s) (initialized_by_alike r q.defaults first)
-followed_alike None p s = alike_self s
-followed_alike (Some r) None s = alike_self s
-
-down_alike : (rs : List RecordEntry) (n first : ℕ) (s : States) → Alike s (spec.followed_down rs n first s)
-down_alike rs zero first s = alike_self s
-down_alike rs (suc n) first s = let next = spec.followed rs (first + n) s in alike_further s next (spec.followed_down rs n first next) (followed_alike (slice_get rs (first + n)) (slice_get s.records (first + n)) s) (down_alike rs n first next)
+in_turn_alike : (rs : List RecordEntry) (n : ℕ) (ds : List Deed) (s : States) → Alike s (spec.done_in_turn rs n ds s)
+in_turn_alike rs zero ds s = alike_self s
+in_turn_alike rs (suc n) [] s = alike_self s
+in_turn_alike rs (suc n) (d ∷ ds) s =
+    let new = spec.is_new s d in
+    let next = spec.done_if new d s in
+    let more = ds ++ spec.added rs new d in
+    alike_further s next (spec.done_in_turn rs n more next) (done_alike new d s) (in_turn_alike rs n more next)
 
 counted_alike : (t : ℕ) (o : Option RecordEntry) (s : States) → Alike s (spec.counted_from t o (slice_get s.records t) s)
 counted_alike t None s = alike_self s
@@ -241,11 +202,11 @@ quiet_behind around s d a =
 pub done_quiet : (around : Around) (ds : List Deed) (d : Draft) → Quiet around d (spec.done_by around ds d)
 done_quiet around ds d = by_test (spec.are_new d.tables.states ds)
   where
-    followed : Alike d.tables.states (spec.all_followed around d.tables.records (spec.do_deeds ds d.tables.states))
-    followed = let done = spec.do_deeds ds d.tables.states in alike_further d.tables.states done (spec.all_followed around d.tables.records done) (deeds_alike ds d.tables.states) (down_alike d.tables.records (length d.tables.records - around.first_record) around.first_record done)
+    done : States
+    done = spec.all_done d.tables.records ds d.tables.states
 
-    by_test : (b : Bool) → Quiet around d (if b then spec.placed around (spec.with_states (spec.all_followed around d.tables.records (spec.do_deeds ds d.tables.states)) d) else ([], d))
-    by_test true = quiet_behind around (spec.all_followed around d.tables.records (spec.do_deeds ds d.tables.states)) d followed
+    by_test : (b : Bool) → Quiet around d (if b then spec.placed around (spec.with_states done d) else ([], d))
+    by_test true = quiet_behind around done d (in_turn_alike d.tables.records (2 ^ 64 - 1) ds d.tables.states)
     by_test false = record { layers = λ s i f. rule.no_more_items; still = still_self d }
 
 pub freeze_all_quiet : (around : Around) (d : Draft) → Quiet around d (spec.freeze_all around d)

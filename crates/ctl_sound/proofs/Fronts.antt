@@ -3,6 +3,7 @@ use Rattle.std.proofs.Common.{arith, ◌≡◌, ◌<◌, refl, sym, ap, ◌∙�
 use Rattle.std.proofs.lemmas.Bool.Decides.{nat_tests}
 use Rattle.ctl_program.specs.declared.types.RecordType.{RecordType}
 use Rattle.ctl_program.specs.declared.types.Root.{Root}
+use Rattle.ctl_program.specs.declared.types.Root.TheVariants as root
 use Rattle.ctl_program.specs.declared.types.Ty.{Ty}
 use Rattle.ctl_program.specs.declared.types.Ty.TheVariants as ty
 use Rattle.ctl_program.specs.declared.types.Var.{Var}
@@ -25,11 +26,11 @@ use Rattle.ctl_typing.specs.declared.table.RecordState.{RecordState}
 use Rattle.ctl_typing.specs.declared.table.Standing.{Standing}
 use Rattle.ctl_typing.specs.declared.table.Standing.TheVariants as standing
 use Rattle.ctl_typing.specs.declared.table.Tables.{Tables}
-use Rattle.ctl_typing.specs.Lookup.{component_among, component_in, component_within, descends_within, designated_by, designated_in, is_parent, on, or_else}
+use Rattle.ctl_typing.specs.Lookup.{component_among, component_in, component_within, descends_within, designated_by, designated_in, has_subpools, is_mark_pool, is_mark_root, is_parent, on, or_else, root_of}
 use Rattle.ctl_draft.specs.declared.draft.Draft.{Draft}
 use Rattle.ctl_draft.specs.Operations.{user_operation, operations_of}
-use Rattle.ctl_well_typed.specs.Setting.{Holding, Declared, Frame, Frames, Names, slot, Encloses, HasRecord, Setting, InView}
-use Rattle.ctl_well_typed.specs.Types.{derived, Descends, itself, from_parent, Leads, component}
+use Rattle.ctl_well_typed.specs.Setting.{Holding, Declared, Frame, Frames, Names, slot, Encloses, HasRecord, HasAccess, Setting, InView}
+use Rattle.ctl_well_typed.specs.Types.{derived, HasSubpools, of_mark_pool, Descends, itself, from_parent, Leads, component}
 use Rattle.ctl_well_typed.specs.Programs as program
 use Rattle.ctl_well_typed.specs.Programs.{Parent}
 use Rattle.ctl_sound.specs.Known.{IfSome, All}
@@ -178,10 +179,10 @@ pub access_same : (k : Setting) (a : ℕ) (x y : AccessEntry) → unfrozen y ≡
 access_same k a x y same h = thawed (subst (AccessKnown k a) (sym same) frozen)
   where
     frozen : AccessKnown k a (unfrozen x)
-    frozen = record { is = h.is; home = h.home; found = h.found; at_home = h.at_home; collection = h.collection; own_level = h.own_level; level = h.level; names = h.names; designated = h.designated; pool = h.pool }
+    frozen = record { is = h.is; home = h.home; found = h.found; at_home = h.at_home; collection = h.collection; own_level = h.own_level; level = h.level; names = h.names; designated = h.designated; pool = h.pool; pooled = h.pooled; subpools = h.subpools }
 
     thawed : AccessKnown k a (unfrozen y) → AccessKnown k a y
-    thawed g = record { is = g.is; home = g.home; found = g.found; at_home = g.at_home; collection = g.collection; own_level = g.own_level; level = g.level; names = g.names; designated = g.designated; pool = g.pool }
+    thawed g = record { is = g.is; home = g.home; found = g.found; at_home = g.at_home; collection = g.collection; own_level = g.own_level; level = g.level; names = g.names; designated = g.designated; pool = g.pool; pooled = g.pooled; subpools = g.subpools }
 
 pub known_still : (k : Setting) (d e : Draft) → Still d e → Known k d → Known k e
 known_still k d e s h = record {
@@ -219,7 +220,7 @@ backwards k m d e g b = record {
   accesses = λ a x h.
       let y = g.accesses a x h in
       let q = b.accesses a y.is y.found in
-      record { is = q.is; found = q.found; collection = q.collection ∙ y.later.collection; designated = λ t i. q.designated t (y.later.designated t i) };
+      record { is = q.is; found = q.found; collection = q.collection ∙ y.later.collection; designated = λ t i. q.designated t (y.later.designated t i); pool = λ p i. q.pool p (y.later.pool p i) };
 }
 
 pub back_still : (k : Setting) (d e : Draft) → Still d e → Back k e → Back k d
@@ -332,7 +333,7 @@ designates_known tables a t h = by_entry (slice_get tables.states.accesses a) re
     by_designated : (x : AccessEntry) → slice_get tables.states.accesses a ≡ Some x → (w : Designated) → x.designated ≡ w → designated_in (record x { designated = w }) ≡ Some t → DesignatesKnown tables a t
     by_designated x e (designated.Known u) q h = let same : u ≡ t = cc in record { is = x; found = e; designated = q ∙ ap designated.Known same }
     by_designated x e designated.Unclear q h = absurd (cc)
-    by_designated x e (designated.Awaited n) q h = absurd (cc)
+    by_designated x e (designated.Awaited n place) q h = absurd (cc)
 
     by_entry : (o : Option AccessEntry) → slice_get tables.states.accesses a ≡ o → on designated_in o ≡ Some t → DesignatesKnown tables a t
     by_entry None e h = absurd (cc)
@@ -341,7 +342,54 @@ designates_known tables a t h = by_entry (slice_get tables.states.accesses a) re
 pub one_access : (x y : AccessType) (o : Option AccessType) → o ≡ Some x → o ≡ Some y → x ≡ y
 one_access x y o h i = cc
 
+mark_root_is : (r : Root) → is_mark_root r ≡ true → r ≡ root.MarkPool
+mark_root_is root.MarkPool h = refl
+mark_root_is root.BlockPool h = absurd (cc)
+mark_root_is root.Untagged h = absurd (cc)
+mark_root_is root.Controlled h = absurd (cc)
+
+-- the entry of an access type whose objects stand in subpools
+record InSubpools (tables : Tables) (a : ℕ) : Type 0 where
+  is : AccessEntry
+  found : slice_get tables.states.accesses a ≡ Some is
+  pool : Var × ℕ
+  pooled : is.pool ≡ Some pool
+  type : RecordEntry
+  type_found : slice_get tables.records pool.1 ≡ Some type
+  rooted : type.root ≡ root.MarkPool
+
+in_subpools : (tables : Tables) (a : ℕ) → has_subpools tables (slice_get tables.states.accesses a) ≡ true → InSubpools tables a
+in_subpools tables a h = by_entry (slice_get tables.states.accesses a) refl h
+  where
+    by_type : (x : AccessEntry) → slice_get tables.states.accesses a ≡ Some x → (p : Var × ℕ) → x.pool ≡ Some p → (o : Option RecordEntry) → slice_get tables.records p.1 ≡ o → is_mark_root (root_of o) ≡ true → InSubpools tables a
+    by_type x e p f None g h = absurd (cc)
+    by_type x e p f (Some r) g h = record { is = x; found = e; pool = p; pooled = f; type = r; type_found = g; rooted = mark_root_is r.root h }
+
+    by_pool : (x : AccessEntry) → slice_get tables.states.accesses a ≡ Some x → (o : Option (Var × ℕ)) → x.pool ≡ o → is_mark_pool tables o ≡ true → InSubpools tables a
+    by_pool x e None f h = absurd (cc)
+    by_pool x e (Some p) f h = by_type x e p f (slice_get tables.records p.1) refl h
+
+    by_entry : (o : Option AccessEntry) → slice_get tables.states.accesses a ≡ o → has_subpools tables o ≡ true → InSubpools tables a
+    by_entry None e h = absurd (cc)
+    by_entry (Some x) e h = by_pool x e x.pool refl h
+
 module _ (k : Setting) (has : HasLibrary k) (env : Frames) (d : Draft) (known : Known k d) where
+  at_home : (a : ℕ) (t : Ty) → designated_by d.tables a ≡ Some t → (to : HasAccess k env a) → InView k to.home t
+  at_home a t e to =
+      let g = designates_known d.tables a t e in
+      let q = known.accesses a g.is g.found in
+      subst (λ h. InView k h t) (one_home q.home to.home (slice_get k.access_homes a) q.at_home to.at_home) (q.designated t g.designated).1
+
+  subpools_known : (a : ℕ) → has_subpools d.tables (slice_get d.tables.states.accesses a) ≡ true → (to : HasAccess k env a) → HasSubpools k to.home to.is.pool
+  subpools_known a e to =
+      let g = in_subpools d.tables a e in
+      let q = known.accesses a g.is g.found in
+      let r = known.records g.pool.1 g.type g.type_found in
+      let here' = one_home q.home to.home (slice_get k.access_homes a) q.at_home to.at_home in
+      let pool = ap (λ y. y.pool) (one_access to.is q.is (slice_get k.accesses a) to.found q.found) ∙ q.pooled g.pool g.pooled in
+      let names = subst (λ h. Names h g.pool.0 (Declared (ty.Record g.pool.1))) here' (q.pool g.pool g.pooled).names in
+      subst (HasSubpools k to.home) (sym pool) (of_mark_pool names (record { is = r.is; found = r.found; rooted = r.rooted ∙ g.rooted }))
+
   pub types_known : TypesFine k env d.tables
   types_known = record {
     component = λ name t i c e v. let h = component_known k d.tables.records known.records (length d.tables.records) name t i c e in (h.leads, in_view_further k v.home env c v.encloses (h.in_view v.home v.at_home));
@@ -353,11 +401,9 @@ module _ (k : Setting) (has : HasLibrary k) (env : Frames) (d : Draft) (known : 
         let g = designates_known d.tables a t e in
         let q = known.accesses a g.is g.found in
         ap (λ y. y.designated) (one_access x q.is (slice_get k.accesses a) f q.found) ∙ (q.designated t g.designated).0;
-    designated_in_view = λ a t e v.
-        let g = designates_known d.tables a t e in
-        let q = known.accesses a g.is g.found in
-        let same = one_home q.home v.home (slice_get k.access_homes a) q.at_home v.at_home in
-        in_view_further k v.home env t v.encloses (subst (λ h. InView k h t) same (q.designated t g.designated).1);
+    designated_in_view = λ a t e v. in_view_further k v.home env t v.encloses (at_home a t e v);
+    designated_at_home = at_home;
+    subpools = subpools_known;
   }
 
 pub front_sound : (s : Site) (d : Draft) → Front s d → Sound s.k (around_site s) d.tables

@@ -3,6 +3,7 @@ use Rattle.std.proofs.Common.{arith, ◌≡◌, ◌≤◌, refl, sym, ap, ◌∙
 use Rattle.std.proofs.lemmas.List.{append-nil, append_assoc, length-append}
 use Rattle.ctl_program.specs.declared.types.Operations.{Operations}
 use Rattle.ctl_program.specs.declared.types.Ty.{Ty}
+use Rattle.ctl_program.specs.declared.types.Var.{Var}
 use Rattle.ctl_typing.specs.declared.notes.Notes.{Notes}
 use Rattle.ctl_typing.specs.declared.table.AccessEntry.{AccessEntry}
 use Rattle.ctl_typing.specs.declared.table.Designated.TheVariants as designated
@@ -116,18 +117,20 @@ pub record Later (x y : AccessEntry) : Type 0 where
   pub level : y.level ≡ x.level
   pub collection : y.collection ≡ x.collection
   pub designated : (t : Ty) → x.designated ≡ designated.Known t → y.designated ≡ designated.Known t
+  pub pool : (p : Var × ℕ) → x.pool ≡ Some p → y.pool ≡ Some p
 
 pub later_self : (x : AccessEntry) → Later x x
-later_self x = record { level = refl; collection = refl; designated = λ t e. e }
+later_self x = record { level = refl; collection = refl; designated = λ t e. e; pool = λ p e. e }
 
 pub later_further : (x y z : AccessEntry) → Later x y → Later y z → Later x z
-later_further x y z h i = record { level = i.level ∙ h.level; collection = i.collection ∙ h.collection; designated = λ t e. i.designated t (h.designated t e) }
+later_further x y z h i = record { level = i.level ∙ h.level; collection = i.collection ∙ h.collection; designated = λ t e. i.designated t (h.designated t e); pool = λ p e. i.pool p (h.pool p e) }
 
 later_same : (x y : AccessEntry) → unfrozen y ≡ unfrozen x → Later x y
 later_same x y h = record {
   level = ap (λ a. a.level) h;
   collection = ap (λ a. a.collection) h;
   designated = λ t e. ap (λ a. a.designated) h ∙ e;
+  pool = λ p e. ap (λ a. a.pool) h ∙ e;
 }
 
 -- an access type that stood at a place stands there later

@@ -1,7 +1,8 @@
 -- Headings of subprograms: what is read of them again where the body stands, and the formals in view there (6.1, 6.3).
-use Rattle.std.proofs.Common.{◌≡◌, refl, sym, ap, ◌∙◌, subst, ℕ, List, [], ◌∷◌, ◌++◌, map, slice_get, Option, Some, None}
+use Rattle.std.proofs.Common.{◌≡◌, refl, sym, ap, ◌∙◌, subst, ℕ, Bool, true, false, if◌then◌else◌, List, [], ◌∷◌, ◌++◌, map, slice_get, Option, Some, None}
 use Rattle.std.proofs.lemmas.List.{append-nil, append_assoc}
 use Rattle.ctl_tree.specs.declared.span.Span.{Span}
+use Rattle.ctl_tree.specs.declared.fault.FaultCode.TheVariants as fault
 use Rattle.ctl_program.specs.declared.types.Ty.{Ty}
 use Rattle.ctl_syntax.specs.declared.denoted.Definition.{Definition}
 use Rattle.ctl_syntax.specs.declared.denoted.Denoted.{Denoted}
@@ -21,13 +22,13 @@ use Rattle.ctl_typing.specs.declared.table.Entry.TheVariants as entry
 use Rattle.ctl_typing.specs.declared.table.FormalEntry.{FormalEntry}
 use Rattle.ctl_typing.specs.declared.table.Standing.TheVariants as standing
 use Rattle.ctl_typing.specs.declared.table.Tables.{Tables}
-use Rattle.ctl_typing.specs.Judgement.{Judging, known, with_known, ◌>>=◌, paired, beside, both}
+use Rattle.ctl_typing.specs.Judgement.{Judging, known, wrong, with_known, ◌>>=◌, paired, beside, both}
 use Rattle.ctl_typing.specs.Typing.{entry_found, library_found, marked, mark_judged}
 use Rattle.ctl_draft.specs.declared.draft.Around.{Around}
 use Rattle.ctl_draft.specs.declared.draft.Draft.{Draft}
 use Rattle.ctl_declarations.specs.Declarations as decl
 use Rattle.ctl_draft.specs.Draft.{declare, declare_object}
-use Rattle.ctl_draft.specs.Marks.{named_type}
+use Rattle.ctl_draft.specs.Marks.{named_type, is_root_pool}
 use Rattle.ctl_draft.specs.Operations.{formal}
 use Rattle.ctl_well_typed.specs.Setting.{Holding, OfFormal, formal as Formal_stands, InView}
 use Rattle.ctl_sound.specs.Known.{IfSome}
@@ -113,7 +114,12 @@ module _ (es fs : Tables) (more : Behind es.entries fs.entries) (n m : Notes) (t
 
   -- a type that a mark names is named where more declarations are in view
   pub named_again : (place : Span) (x : Mark Use) → (named_type es place x n).0 ≡ Some t → (named_type fs place x m).0 ≡ Some t
-  named_again place x h = mark_again place x.first.denoted x.rest h
+  named_again place x h = by_root (is_root_pool x) h
+    where
+      by_root : (b : Bool) → ((if b then wrong fault.Pool x.first.span else mark_judged es (record { span = place; denoted = x.first.denoted }) x.rest) n).0 ≡ Some t →
+          ((if b then wrong fault.Pool x.first.span else mark_judged fs (record { span = place; denoted = x.first.denoted }) x.rest) m).0 ≡ Some t
+      by_root true h = absurd (cc)
+      by_root false h = mark_again place x.first.denoted x.rest h
 
 -- Formals as they are read (6.1) -------------------------------------------------------------------------
 

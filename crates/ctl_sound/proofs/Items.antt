@@ -68,7 +68,7 @@ module _ (k : Setting) (env : Frames) (tables : Tables) (sound : Sound k env tab
   -- Types (3.2.2) ---------------------------------------------------------------------------
 
   pub named_type_good : (place : Span) (m : Mark Use) → Gives Usable (marks.named_type tables place m)
-  named_type_good place m = mark_good k env tables sound (marks.told_at place m.first) m.rest
+  named_type_good place m = tested Usable (marks.is_root_pool m) (wrong fault.Pool m.first.span) (expr.mark_judged tables (expr.told_at place m.first) m.rest) (λ e s. tt) (mark_good k env tables sound (expr.told_at place m.first) m.rest)
 
   pub concrete_type_good : (place : Span) (m : Mark Use) → Gives Usable (marks.concrete_type tables place m)
   concrete_type_good place m = next Usable Usable (marks.named_type tables place m) (λ t. if expr.has_objects tables t then known t else wrong fault.Type place) (named_type_good place m)
@@ -111,7 +111,7 @@ module _ (k : Setting) (env : Frames) (tables : Tables) (sound : Sound k env tab
       (λ r h s. (refl, subst (λ u. Typed k env r.value u) (sym (same_is ty.Count r.ty h.met)) h.typed))
 
   abbrev Positioned : Root → List (ℕ × Association Use) → List Checked_association → Type 0
-  Positioned r ps as' = All (λ (p : ℕ × Association Use). HasDiscriminant r p.0) ps → Given k env r as' × (length as' ≡ length ps)
+  Positioned r ps as' = (map (λ (a : Checked_association). a.position) as' ≡ map (λ (p : ℕ × Association Use). p.0) ps) × (All (λ (p : ℕ × Association Use). HasDiscriminant r p.0) ps → Given k env r as' × (length as' ≡ length ps))
 
   given_more : (r : Root) (as' : List Checked_association) (a : Checked_association) → Given k env r as' → HasDiscriminant r a.position → Typed k env a.value ty.Count → Given k env r (as' ++ a ∷ [])
   given_more r [] a does.no_more_values h i = does.one_more_value h i does.no_more_values
@@ -121,27 +121,45 @@ module _ (k : Setting) (env : Frames) (tables : Tables) (sound : Sound k env tab
   length_more [] x = refl
   length_more (y ∷ xs) x = ap suc (length_more xs x)
 
+  mapped_more : {A B : Type 0} (f : A → B) (xs : List A) (x : A) → map f (xs ++ x ∷ []) ≡ map f xs ++ f x ∷ []
+  mapped_more f [] x = refl
+  mapped_more f (y ∷ xs) x = ap (λ ys. f y ∷ ys) (mapped_more f xs x)
+
   all_before : {A : Type 0} (P : A → Type 0) (xs : List A) (x : A) → All P (xs ++ x ∷ []) → All P xs × P x
   all_before P [] x h = (tt, h.0)
   all_before P (y ∷ xs) x h = let i = all_before P xs x h.1 in ((h.0, i.0), i.1)
 
   positioned_more : (r : Root) (ps : List (ℕ × Association Use)) (as' : List Checked_association) (p : ℕ × Association Use) (a : Checked_association) → Positioned r ps as' → Counted p a → Positioned r (ps ++ p ∷ []) (as' ++ a ∷ [])
-  positioned_more r ps as' p a h i g =
-      let before = all_before (λ (q : ℕ × Association Use). HasDiscriminant r q.0) ps p g in
-      let so_far = h before.0 in
-      (given_more r as' a so_far.0 (subst (λ n. HasDiscriminant r n) (sym i.0) before.1) i.1, length_more as' a ∙ ap suc so_far.1 ∙ sym (length_more ps p))
+  positioned_more r ps as' p a h i = (
+    mapped_more (λ (b : Checked_association). b.position) as' a ∙ ap (λ ns. ns ++ a.position ∷ []) h.0 ∙ ap (λ n. map (λ (q : ℕ × Association Use). q.0) ps ++ n ∷ []) i.0 ∙ sym (mapped_more (λ (q : ℕ × Association Use). q.0) ps p),
+    λ g.
+        let before = all_before (λ (q : ℕ × Association Use). HasDiscriminant r q.0) ps p g in
+        let so_far = h.1 before.0 in
+        (given_more r as' a so_far.0 (subst (λ n. HasDiscriminant r n) (sym i.0) before.1) i.1, length_more as' a ∙ ap suc so_far.1 ∙ sym (length_more ps p)),
+  )
 
   all_counted : (ps : List (ℕ × Association Use)) → All (λ p. Gives (Counted p) (decl.discriminant tables p)) ps
   all_counted [] = tt
   all_counted (p ∷ ps) = (discriminant_good p, all_counted ps)
 
+  positioned : (r : Root) (ps : List (ℕ × Association Use)) (s : Notes) → IfSome (Positioned r ps) (each (decl.discriminant tables) (Some []) ps s).0
+  positioned r ps s = each_gives (Positioned r) Counted (decl.discriminant tables) (positioned_more r) [] (Some []) ps s (refl, λ q. (does.no_more_values, refl)) (all_counted ps)
+
   -- the discriminants at these positions
   pub discriminants_good : (r : Root) (ps : List (ℕ × Association Use)) → All (λ (p : ℕ × Association Use). HasDiscriminant r p.0) ps → Gives (λ as'. Given k env r as' × (length as' ≡ length ps)) (λ n. each (decl.discriminant tables) (Some []) ps n)
-  discriminants_good r ps g s = onward (each (decl.discriminant tables) (Some []) ps s).0 (each_gives (Positioned r) Counted (decl.discriminant tables) (positioned_more r) [] (Some []) ps s (λ q. (does.no_more_values, refl)) (all_counted ps))
+  discriminants_good r ps g s = onward (each (decl.discriminant tables) (Some []) ps s).0 (positioned r ps s)
     where
       onward : (o : Option (List Checked_association)) → IfSome (Positioned r ps) o → IfSome (λ as'. Given k env r as' × (length as' ≡ length ps)) o
       onward None h = tt
-      onward (Some as') h = h g
+      onward (Some as') h = h.1 g
+
+  -- and they stand at these
+  pub discriminants_stand : (ps : List (ℕ × Association Use)) → Gives (λ as'. map (λ (a : Checked_association). a.position) as' ≡ map (λ (p : ℕ × Association Use). p.0) ps) (λ n. each (decl.discriminant tables) (Some []) ps n)
+  discriminants_stand ps s = onward (each (decl.discriminant tables) (Some []) ps s).0 (positioned root.Untagged ps s)
+    where
+      onward : (o : Option (List Checked_association)) → IfSome (Positioned root.Untagged ps) o → IfSome (λ as'. map (λ (a : Checked_association). a.position) as' ≡ map (λ (p : ℕ × Association Use). p.0) ps) o
+      onward None h = tt
+      onward (Some as') h = h.0
 
   -- Pools (13.11) -----------------------------------------------------------------------------------
 
@@ -221,7 +239,8 @@ module _ (k : Setting) (env : Frames) (tables : Tables) (sound : Sound k env tab
   result_type_good : (place : Span) (m : Option (Mark Use)) → Gives (IfSome Usable) (decl.result_type place m tables)
   result_type_good place None = λ s. tt
   result_type_good place (Some m) = next Usable (IfSome Usable) (decl.returned_type tables place m) (λ t. known (Some t))
-      (next Usable Usable (marks.named_type tables place m) (decl.returned tables m.first.span) (named_type_good place m) (λ t v. told_good Usable (is_limited tables t || marks.is_controlled tables t) (but fault.Limited m.first.span t) t (λ s. v) v))
+      (tested Usable (marks.is_root_pool m) (wrong fault.Limited m.first.span) (marks.named_type tables place m >>= decl.returned tables m.first.span) (λ e s. tt)
+      (next Usable Usable (marks.named_type tables place m) (decl.returned tables m.first.span) (named_type_good place m) (λ t v. told_good Usable (is_limited tables t || marks.has_controlled tables t) (but fault.Limited m.first.span t) t (λ s. v) v)))
       (λ t v s. v)
 
   pub heading_types_good : (place : Span) (s : Specification Definition Use) → Gives (λ h. FormalsUsable h.0 × IfSome Usable h.1) (decl.heading_types place s tables)
@@ -230,15 +249,17 @@ module _ (k : Setting) (env : Frames) (tables : Tables) (sound : Sound k env tab
   -- Components, parents, designated types (3.8, 3.9.1, 3.10) ------------------------------------------------
 
   component_type_good : (within : Enclosing) (place : Span) (m : Mark Use) → Gives Usable (defined.component_type tables within place m)
-  component_type_good within place m = by_test (defined.is_name_of within.number m.first.denoted)
+  component_type_good within place m = by_test (defined.is_name_of within.number m.first.denoted && marks.is_alone m)
     where
       by_test : (b : Bool) → Gives Usable (if b then wrong fault.SelfContained place else (marks.concrete_type tables within.place m >>= marks.no_pool tables m.first.span))
       by_test true = λ s. tt
       by_test false = next Usable Usable (marks.concrete_type tables within.place m) (marks.no_pool tables m.first.span) (concrete_type_good within.place m) (no_pool_good m.first.span)
 
   pub component_judged_good : (within : Enclosing) (m : Mark Use) (value : Option Sense) (i : Identifier) → Gives Usable (defined.component_judged within m value i tables)
-  component_judged_good within m value i = next Usable Usable (defined.component_type tables within i.span m) (defined.may_be_limited tables within i.span (defined.is_given value)) (component_type_good within i.span m)
-      (λ t v. told_good Usable (is_limited tables t && (defined.is_given value || defined.is_unlimited within.limitation)) (but fault.Limited i.span t) t (λ s. v) v)
+  component_judged_good within m value i = tested Usable (marks.is_root_pool m && defined.excludes_limited within (defined.is_given value)) (wrong fault.Limited i.span)
+      (defined.component_type tables within i.span m >>= defined.may_be_limited tables within i.span (defined.is_given value)) (λ e s. tt)
+      (next Usable Usable (defined.component_type tables within i.span m) (defined.may_be_limited tables within i.span (defined.is_given value)) (component_type_good within i.span m)
+      (λ t v. told_good Usable (is_limited tables t && defined.excludes_limited within (defined.is_given value)) (but fault.Limited i.span t) t (λ s. v) v))
 
   -- a record type of the tables that can be extended here
   pub record Extends (t : ℕ) : Type 0 where
@@ -272,7 +293,7 @@ module _ (k : Setting) (env : Frames) (tables : Tables) (sound : Sound k env tab
   abbrev pub DesignatedFine : Designated → Type 0
   DesignatedFine (designated.Known t) = Usable t
   DesignatedFine designated.Unclear = Unit {0}
-  DesignatedFine (designated.Awaited n) = Unit {0}
+  DesignatedFine (designated.Awaited n place) = Unit {0}
 
   designated_type_good : (place : Span) (m : Mark Use) → Gives DesignatedFine (accessing.designated_type tables place m)
   designated_type_good place m = next Usable DesignatedFine (marks.named_type tables place m >>= marks.no_pool tables m.first.span) (λ t. known (designated.Known t)) (next Usable Usable (marks.named_type tables place m) (marks.no_pool tables m.first.span) (named_type_good place m) (no_pool_good m.first.span)) (λ t v s. v)

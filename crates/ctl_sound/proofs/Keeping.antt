@@ -1,10 +1,9 @@
 -- No judgement of an expression takes a fault back: values, operators, allocators and whole expressions.
-use Rattle.std.proofs.Common.{ℕ, nat_lt, Bool, true, false, ◌&&◌, not, if◌then◌else◌, List, [], ◌∷◌, ◌++◌, map, slice_get, Option, Some, None, option_map}
+use Rattle.std.proofs.Common.{ℕ, nat_lt, Bool, true, false, ◌&&◌, not, if◌then◌else◌, List, [], ◌∷◌, ◌++◌, map, slice_get, Option, Some, None}
 use Rattle.ctl_tree.specs.declared.span.Span.{Span}
 use Rattle.ctl_tree.specs.declared.fault.FaultCode.TheVariants as fault
 use Rattle.ctl_program.specs.declared.types.Ty.{Ty}
 use Rattle.ctl_program.specs.declared.types.Ty.TheVariants as ty
-use Rattle.ctl_program.specs.declared.types.Var.{Var}
 use Rattle.ctl_program.specs.declared.expression.Expr.{Expr}
 use Rattle.ctl_program.specs.declared.expression.Expr.TheVariants as e
 use Rattle.ctl_program.specs.declared.statement.Piece.{Piece}
@@ -27,34 +26,15 @@ use Rattle.ctl_typing.specs.declared.found.Adopts.{Adopts}
 use Rattle.ctl_typing.specs.declared.found.Typed.{Typed as Typed_value}
 use Rattle.ctl_typing.specs.declared.found.Found.{Found}
 use Rattle.ctl_typing.specs.declared.found.Found.TheVariants as is
-use Rattle.ctl_typing.specs.Judgement.{Judgement, known, but, wrong, doing, noting, ◌>>=◌, both, following}
-use Rattle.ctl_typing.specs.Lookup.{same, is_general, is_limited, has_subpools, level_of_access, designated_by}
+use Rattle.ctl_typing.specs.Judgement.{Judgement, known, but, wrong, doing, onward, ◌>>=◌, both, following}
+use Rattle.ctl_typing.specs.Lookup.{same, is_limited, has_subpools, designated_by}
 use Rattle.ctl_typing.specs.Senses.{suffix_sense}
 use Rattle.ctl_typing.specs.Typing as spec
 use Rattle.ctl_typing.specs.Typing.{Sense, Split, sense, step_of, adopted}
 use Rattle.ctl_sound.specs.Known.{IfSome, All, Stays}
 use Rattle.ctl_sound.specs.Law.{ExpressionKeepsFaults}
 use Rattle.ctl_sound.proofs.Layers.{OperandOf, LayerOf, of_each, suffixes_of}
-use Rattle.ctl_sound.proofs.Stays.{Keeps, KeepsSuffix, known_stays, wrong_stays, but_stays, doing_stays, next_stays, both_stays, following_stays, if_stays, each_stays, first_stays, settled_stays, found_stays, at_level_stays}
-
-noted : (t : Ty) (x : Typed_value) → Stays (noting t x)
-noted t x n h = record { early = h.early; fault = h.fault }
-
-pub fits_stays : (place : Span) (asked : Asked) (t : Typed_value) → Stays (spec.fits place asked t)
-fits_stays place asked t = if_stays (spec.meets asked t.ty) (noting t.ty t) (wrong fault.Type place) (noted t.ty t) (wrong_stays Typed_value fault.Type place)
-
-access_value_stays : (tables : Tables) (place : Span) (v : Var) (t : Ty) (asked : Asked) → Stays (spec.access_value tables place v t asked)
-access_value_stays tables place v t (asking.Exactly (ty.Access a)) =
-    if_stays (is_general (slice_get tables.states.accesses a) && spec.designates_this t (designated_by tables a)) (spec.at_level place v.level (level_of_access (slice_get tables.states.accesses a)) (record { ty = ty.Access a; value = e.Access v })) (wrong fault.Type place)
-    (at_level_stays place v.level (level_of_access (slice_get tables.states.accesses a)) (record { ty = ty.Access a; value = e.Access v })) (wrong_stays Typed_value fault.Type place)
-access_value_stays tables place v t _ = wrong_stays Typed_value fault.Type place
-
-value_found_stays : (tables : Tables) (place : Span) (asked : Asked) (f : Found) → Stays (spec.value_found tables place asked f)
-value_found_stays tables place asked (is.Part p) = fits_stays place asked (record { ty = p.ty; value = spec.value_at p.head p.steps p.ty })
-value_found_stays tables place asked (is.Computed t) = fits_stays place asked t
-value_found_stays tables place asked (is.Discriminant p k) = fits_stays place asked (record { ty = ty.Count; value = e.Discriminant (spec.name_of p) k })
-value_found_stays tables place asked (is.Accessed v t) = access_value_stays tables place v t asked
-value_found_stays tables place asked _ = wrong_stays Typed_value fault.Type place
+use Rattle.ctl_sound.proofs.Stays.{Keeps, KeepsSuffix, known_stays, wrong_stays, but_stays, doing_stays, next_stays, both_stays, following_stays, if_stays, each_stays, first_stays, settled_stays, found_stays, fits_stays, value_found_stays}
 
 pub settled_found_stays : (u : Use) (xs : List (Suffix Sense)) (tables : Tables) (place : Span) → All KeepsSuffix xs → Stays (spec.found u xs tables >>= spec.settled tables place)
 settled_found_stays u xs tables place g = next_stays (spec.found u xs tables) (spec.settled tables place) (found_stays u xs tables g) (settled_stays tables place)
@@ -169,8 +149,8 @@ abbrev KeepsHandle : Option (Name Use Sense) → Type 0
 KeepsHandle o = IfSome (λ (u : Name Use Sense). All KeepsSuffix u.suffixes) o
 
 in_subpools_stays : (tables : Tables) (place : Span) (asked : Asked) (x : Expr) → Stays (spec.in_subpools tables place asked x)
-in_subpools_stays tables place (asking.Exactly (ty.Access a)) x = if_stays (has_subpools tables (slice_get tables.states.accesses a)) (known x) (but fault.Pool place x) (known_stays x) (but_stays fault.Pool place x)
-in_subpools_stays tables place _ x = known_stays x
+in_subpools_stays tables place (asking.Exactly (ty.Access a)) x = if_stays (has_subpools tables (slice_get tables.states.accesses a)) (known (Some x)) (but fault.Pool place None) (known_stays (Some x)) (but_stays {A = Option Expr} fault.Pool place None)
+in_subpools_stays tables place _ x = known_stays (Some x)
 
 handle_judged_stays : (tables : Tables) (asked : Asked) (u : Name Use Sense) → All KeepsSuffix u.suffixes → Stays (spec.handle_judged tables asked u)
 handle_judged_stays tables asked u h =
@@ -179,9 +159,9 @@ handle_judged_stays tables asked u h =
     (next_stays (spec.found u.first u.suffixes tables >>= spec.settled tables place) (spec.handle_found place) (settled_found_stays u.first u.suffixes tables place h) (handle_found_stays place))
     (in_subpools_stays tables place asked)
 
-held_stays : (tables : Tables) (asked : Asked) (o : Option (Name Use Sense)) → KeepsHandle o → Stays (spec.held (option_map (spec.handle_judged tables asked) o))
-held_stays tables asked None h = λ n c. c
-held_stays tables asked (Some u) h = next_stays (spec.handle_judged tables asked u) (λ a. known (Some a)) (handle_judged_stays tables asked u h) (λ a n c. c)
+given_stays : (tables : Tables) (asked : Asked) (o : Option (Name Use Sense)) → KeepsHandle o → Stays (spec.handle_given tables asked o)
+given_stays tables asked None h = λ n c. c
+given_stays tables asked (Some u) h = handle_judged_stays tables asked u h
 
 value_asked_stays : (tables : Tables) (place : Span) (t : Option Ty) → Stays (spec.value_asked tables place t)
 value_asked_stays tables place None = known_stays asking.Anything
@@ -195,13 +175,18 @@ allocates_stays : (tables : Tables) (place : Span) (asked : Asked) (t : Ty) → 
 allocates_stays tables place (asking.Exactly (ty.Access a)) t = if_stays (spec.designates_this t (designated_by tables a) && spec.has_objects tables t) (known a) (wrong fault.Type place) (known_stays a) (wrong_stays ℕ fault.Type place)
 allocates_stays tables place _ t = wrong_stays ℕ fault.Type place
 
+object_stays : (tables : Tables) (place : Span) (asked : Asked) (value : Option Sense) (t : Option Ty) → IfSome Keeps value → Stays (spec.object_judged tables place asked value t)
+object_stays tables place asked value None i = both_stays (onward None (spec.allocates tables place asked)) (spec.value_judged tables place None value) (λ n c. c) (value_judged_stays tables place None value i)
+object_stays tables place asked value (Some t) i = both_stays (spec.allocates tables place asked t) (spec.value_judged tables place (Some t) value) (allocates_stays tables place asked t) (value_judged_stays tables place (Some t) value i)
+
 new_stays : (place : Span) (handle : Option (Name Use Sense)) (m : Mark Use) (value : Option Sense) (tables : Tables) (asked : Asked) → KeepsHandle handle → IfSome Keeps value → Stays (spec.new_judged place handle m value tables asked)
 new_stays place handle m value tables asked h i =
-    let p = spec.held (option_map (spec.handle_judged tables asked) handle) in
-    let mark = spec.mark_judged tables m.first m.rest in
-    next_stays (both p (following mark (λ t. spec.value_judged tables place t value))) (λ r. spec.allocates tables place asked r.1.0 >>= (λ a. doing (spec.making a r.1.0 r.1.1) (record { ty = ty.Access a; value = e.New a r.1.0 r.0 r.1.1 })))
-    (both_stays p (following mark (λ t. spec.value_judged tables place t value)) (held_stays tables asked handle h) (following_stays mark (λ t. spec.value_judged tables place t value) (mark_stays tables m.first m.rest) (λ t. value_judged_stays tables place t value i)))
-    (λ r. next_stays (spec.allocates tables place asked r.1.0) (λ a. doing (spec.making a r.1.0 r.1.1) (record { ty = ty.Access a; value = e.New a r.1.0 r.0 r.1.1 })) (allocates_stays tables place asked r.1.0) (λ a. doing_stays {A = Typed_value} (spec.making a r.1.0 r.1.1) (record { ty = ty.Access a; value = e.New a r.1.0 r.0 r.1.1 })))
+    let p = spec.handle_given tables asked handle in
+    let mark = spec.mark_judged tables (spec.told_at place m.first) m.rest in
+    let object = spec.object_judged tables place asked value in
+    next_stays (both p (following mark object)) (λ r. doing (spec.making r.1.1.0 r.1.0 r.1.1.1) (record { ty = ty.Access r.1.1.0; value = e.New r.1.1.0 r.1.0 r.0 r.1.1.1 }))
+    (both_stays p (following mark object) (given_stays tables asked handle h) (following_stays mark object (mark_stays tables (spec.told_at place m.first) m.rest) (λ t. object_stays tables place asked value t i)))
+    (λ r. doing_stays {A = Typed_value} (spec.making r.1.1.0 r.1.0 r.1.1.1) (record { ty = ty.Access r.1.1.0; value = e.New r.1.1.0 r.1.0 r.0 r.1.1.1 }))
 
 -- What is put ---------------------------------------------------------------------------------------------
 

@@ -17,7 +17,7 @@ use Rattle.ctl_typing.specs.declared.table.FormalEntry.{FormalEntry}
 use Rattle.ctl_typing.specs.declared.table.Tables.{Tables}
 use Rattle.ctl_typing.specs.declared.notes.Notes.{Notes}
 use Rattle.ctl_typing.specs.declared.found.Asked.TheVariants as asking
-use Rattle.ctl_typing.specs.Judgement.{known, but, wrong, each}
+use Rattle.ctl_typing.specs.Judgement.{known, but, wrong, ◌>>=◌, each}
 use Rattle.ctl_typing.specs.Lookup.{is_limited}
 use Rattle.ctl_typing.specs.Typing as expr
 use Rattle.ctl_typing.specs.Typing.{Sense, sense}
@@ -30,7 +30,7 @@ use Rattle.ctl_sound.proofs.Stays.{Keeps, known_stays, wrong_stays, but_stays, n
 use Rattle.ctl_sound.proofs.Keeping.{mark_stays, expression_keeps}
 
 named_type_stays : (tables : Tables) (place : Span) (m : Mark Use) → Stays (marks.named_type tables place m)
-named_type_stays tables place m = mark_stays tables (marks.told_at place m.first) m.rest
+named_type_stays tables place m = if_stays (marks.is_root_pool m) (wrong fault.Pool m.first.span) (expr.mark_judged tables (expr.told_at place m.first) m.rest) (wrong_stays Ty fault.Pool m.first.span) (mark_stays tables (expr.told_at place m.first) m.rest)
 
 concrete_type_stays : (tables : Tables) (place : Span) (m : Mark Use) → Stays (marks.concrete_type tables place m)
 concrete_type_stays tables place m = next_stays (marks.named_type tables place m) (λ t. if expr.has_objects tables t then known t else wrong fault.Type place) (named_type_stays tables place m) (λ t. if_stays (expr.has_objects tables t) (known t) (wrong fault.Type place) (known_stays t) (wrong_stays Ty fault.Type place))
@@ -75,7 +75,8 @@ formals_stay tables place (f ∷ fs) before n c =
 result_type_stays : (tables : Tables) (place : Span) (m : Option (Mark Use)) → Stays (decl.result_type place m tables)
 result_type_stays tables place None = λ n c. c
 result_type_stays tables place (Some m) = next_stays (decl.returned_type tables place m) (λ t. known (Some t))
-    (next_stays (marks.named_type tables place m) (decl.returned tables m.first.span) (named_type_stays tables place m) (λ t. if_stays (is_limited tables t || marks.is_controlled tables t) (but fault.Limited m.first.span t) (known t) (but_stays fault.Limited m.first.span t) (known_stays t)))
+    (if_stays (marks.is_root_pool m) (wrong fault.Limited m.first.span) (marks.named_type tables place m >>= decl.returned tables m.first.span) (wrong_stays Ty fault.Limited m.first.span)
+    (next_stays (marks.named_type tables place m) (decl.returned tables m.first.span) (named_type_stays tables place m) (λ t. if_stays (is_limited tables t || marks.has_controlled tables t) (but fault.Limited m.first.span t) (known t) (but_stays fault.Limited m.first.span t) (known_stays t))))
     (λ t n c. c)
 
 pub declarations_keep_faults : (o : Objects Definition Use) (s : Specification Definition Use) → DeclarationsKeepFaults o s

@@ -4,7 +4,6 @@ use Rattle.ctl_tree.specs.declared.span.Span.{Span}
 use Rattle.ctl_tree.specs.declared.fault.FaultCode.TheVariants as fault
 use Rattle.ctl_program.specs.declared.types.Ty.{Ty}
 use Rattle.ctl_program.specs.declared.types.Ty.TheVariants as ty
-use Rattle.ctl_program.specs.declared.expression.Name.{Name as Checked_name}
 use Rattle.ctl_program.specs.declared.statement.Stmt.{Stmt}
 use Rattle.ctl_program.specs.declared.statement.Stmt.TheVariants as stmt
 use Rattle.ctl_syntax.specs.declared.denoted.Denoted.{Denoted}
@@ -25,7 +24,6 @@ use Rattle.ctl_typing.specs.declared.table.Entry.TheVariants as entry
 use Rattle.ctl_typing.specs.declared.table.Profile.{Profile}
 use Rattle.ctl_typing.specs.declared.found.Asked.{Asked}
 use Rattle.ctl_typing.specs.declared.found.Asked.TheVariants as asking
-use Rattle.ctl_typing.specs.declared.found.Place.{Place}
 use Rattle.ctl_typing.specs.declared.found.Found.{Found}
 use Rattle.ctl_typing.specs.declared.found.Found.TheVariants as is
 use Rattle.ctl_typing.specs.Judgement.{Judgement, known, but, wrong, noting, ◌>>=◌, both, following}
@@ -40,25 +38,13 @@ use Rattle.ctl_statements.specs.declared.assignments.Source.TheVariants as as_so
 use Rattle.ctl_statements.specs.declared.assignments.Target.{Target}
 use Rattle.ctl_sound.specs.Known.{IfSome, All, Stays}
 use Rattle.ctl_sound.specs.Law.{SimpleStatementsKeepFaults}
-use Rattle.ctl_sound.proofs.Stays.{Keeps, KeepsSuffix, FoundStays, known_stays, silent_stays, wrong_stays, but_stays, next_stays, both_stays, following_stays, if_stays, settled_stays, as_variable_stays, actuals_stay}
+use Rattle.ctl_sound.proofs.Stays.{Keeps, KeepsSuffix, FoundStays, known_stays, silent_stays, wrong_stays, but_stays, next_stays, both_stays, following_stays, followed_stays, if_stays, settled_stays, as_variable_stays, variable_of_stays, actuals_stay}
 use Rattle.ctl_sound.proofs.Keeping.{settled_found_stays, truth_stays, expression_keeps, suffixes_keep}
 
 -- Variables that are written to ----------------------------------------------------------
 
-written_part_stays : (place : Span) (t : Ty) (p : Place) → Stays (spec.written_part place t p)
-written_part_stays place t p = if_stays (same t p.ty) (expr.as_variable place p.mutability (expr.name_of p)) (wrong fault.Type place) (as_variable_stays place p.mutability (expr.name_of p)) (wrong_stays Checked_name fault.Type place)
-
-written_name_stays : (place : Span) (t : Ty) (f : Found) → Stays (spec.written_name place t f)
-written_name_stays place t (is.Part p) = written_part_stays place t p
-written_name_stays place t (is.View p) = written_part_stays place t p
-written_name_stays place t _ = wrong_stays Checked_name fault.Mode place
-
-writing_by_stays : (tables : Tables) (place : Span) (t : Ty) (o : Option (Tables → Judgement Found)) → FoundStays o → Stays (spec.writing_by tables place t o)
-writing_by_stays tables place t None h = wrong_stays Checked_name fault.Mode place
-writing_by_stays tables place t (Some name) h = next_stays (name tables) (spec.written_name place t) (h tables) (written_name_stays place t)
-
 writing_stays : (tables : Tables) (t : Ty) (x : Sense) → Keeps x → Stays (spec.writing tables t x)
-writing_stays tables t x g = writing_by_stays tables x.place t x.bare g.bare
+writing_stays tables t x g = next_stays (expr.variable_of tables t x) (λ p. known (expr.name_of p)) (variable_of_stays tables t x g) (λ p. known_stays (expr.name_of p))
 
 -- Assignments (5.2) --------------------------------------------------------------------------
 
@@ -89,7 +75,7 @@ source_of_record_stays tables place t x (Some name) g h = next_stays (name table
 
 source_stays : (tables : Tables) (o : Option Ty) (x : Sense) → Keeps x → Stays (spec.source tables o x)
 source_stays tables None x g = value_source_stays tables x asking.Anything g
-source_stays tables (Some (ty.Record t)) x g = source_of_record_stays tables x.place t x x.named g g.named
+source_stays tables (Some (ty.Record t)) x g = source_of_record_stays tables x.within t x x.named g g.named
 source_stays tables (Some ty.Integer) x g = value_source_stays tables x (asking.Exactly ty.Integer) g
 source_stays tables (Some ty.Count) x g = value_source_stays tables x (asking.Exactly ty.Count) g
 source_stays tables (Some ty.Boolean) x g = value_source_stays tables x (asking.Exactly ty.Boolean) g
@@ -141,8 +127,12 @@ operation_of_stays tables place o xs (ty.Record t) g =
     if_stays (operations.provides (root_of (slice_get tables.records t)) (is_limited tables (ty.Record t)) o) (spec.operation_by tables place o (ty.Record t) q xs) (wrong fault.Type place) (operation_by_stays tables place o (ty.Record t) q xs g) (wrong_stays Stmt fault.Type place)
 operation_of_stays tables place o xs _ g = wrong_stays Stmt fault.Type place
 
+operation_for_stays : (tables : Tables) (place : Span) (o : OperationName) (xs : List Sense) (t : Option Ty) → All Keeps xs → Stays (spec.operation_for tables place o xs t)
+operation_for_stays tables place o xs None g = wrong_stays Stmt fault.Type place
+operation_for_stays tables place o xs (Some t) g = operation_of_stays tables place o xs t g
+
 operation_with_stays : (tables : Tables) (place : Span) (o : OperationName) (xs : Option (List Sense)) → IfSome (All Keeps) xs → Stays (spec.operation_with tables place o xs)
-operation_with_stays tables place o (Some (x ∷ more)) g = next_stays (spec.operand_type tables x) (spec.operation_of tables place o (x ∷ more)) (operand_by_stays tables x x.bare g.0 g.0.bare) (λ t. operation_of_stays tables place o (x ∷ more) t g)
+operation_with_stays tables place o (Some (x ∷ more)) g = followed_stays (spec.operand_type tables x) (spec.operation_for tables place o (x ∷ more)) (operand_by_stays tables x x.bare g.0 g.0.bare) (λ t. operation_for_stays tables place o (x ∷ more) t g)
 operation_with_stays tables place o (Some []) g = wrong_stays Stmt fault.Type place
 operation_with_stays tables place o None g = wrong_stays Stmt fault.Type place
 

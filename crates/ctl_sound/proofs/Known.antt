@@ -1,7 +1,7 @@
 -- What holds of whatever judgements give that are put together.
 use Rattle.std.proofs.Common.{◌≡◌, refl, sym, ap, subst, List, [], ◌∷◌, ◌++◌, map, Option, Some, None, Bool, true, false, if◌then◌else◌}
 use Rattle.std.proofs.lemmas.List.{append-nil}
-use Rattle.ctl_typing.specs.Judgement.{Judging, Judgement, with_known, ◌>>=◌, paired, beside, both, then_beside, following, appended, each, each_on}
+use Rattle.ctl_typing.specs.Judgement.{Judging, Judgement, with_known, ◌>>=◌, paired, beside, both, then_beside, following, then_by, followed_by, appended, each, each_on}
 use Rattle.ctl_sound.specs.Known.{IfSome, Gives, All}
 
 pub next : {S A B : Type 0} (Q : A → Type 0) (R : B → Type 0) (p : Judging S A) (f : A → Judging S B) → Gives Q p → ((a : A) → Q a → Gives R (f a)) → Gives R (p >>= f)
@@ -47,6 +47,22 @@ following_give Q R p f h k s = onward (p s) (h s)
     onward : (r : Option _ × _) → IfSome Q r.0 → IfSome (λ y. Q y.0 × R y.0 y.1) (then_beside f r).0
     onward (None, s) h = absent_gives (λ y. Q y.0 × R y.0 y.1) (f None s)
     onward (Some a, s) h = then_gives Q R a (f (Some a) s) h (k a h s)
+
+-- the second alone counts, whether the first is known or not
+pub followed_gives : {S A B : Type 0} (Q : A → Type 0) (R : B → Type 0) (p : Judging S A) (f : Option A → Judging S B) → Gives Q p → ((a : A) → Q a → Gives R (f (Some a))) → Gives R (f None) → Gives R (followed_by p f)
+followed_gives Q R p f h k l s = onward (p s) (h s)
+  where
+    onward : (r : Option _ × _) → IfSome Q r.0 → IfSome R (then_by f r).0
+    onward (None, s) h = l s
+    onward (Some a, s) h = k a h s
+
+nothing_asked : {A : Type 0} (o : Option A) → IfSome (λ (a : A). Unit {0}) o
+nothing_asked None = tt
+nothing_asked (Some a) = tt
+
+-- of what is known nothing need be known
+pub any_gives : {S A : Type 0} (p : Judging S A) → Gives (λ a. Unit {0}) p
+any_gives p s = nothing_asked (p s).0
 
 each_on_turn : {S A B : Type 0} (f : A → Judging S B) (done : Option (List B)) (r : Option B × S) (xs : List A) → each_on f done r xs ≡ each f (appended done r.0) xs r.1
 each_on_turn f so_far (b, s) [] = refl

@@ -47,7 +47,7 @@ use Rattle.ctl_typing.specs.declared.found.Place.{Place}
 use Rattle.ctl_typing.specs.declared.found.Found.{Found}
 use Rattle.ctl_typing.specs.declared.found.Found.TheVariants as is
 use Rattle.ctl_typing.specs.Judgement.{Judgement, known, but, wrong, noting, ◌>>=◌, each}
-use Rattle.ctl_typing.specs.Lookup.{same, is_record, component_of, descends, root_of, designated_by, is_general, level_of_access}
+use Rattle.ctl_typing.specs.Lookup.{same, is_record, component_of, descends, root_of, designated_by, designate_same, is_general, is_convertible, level_of, level_of_access}
 use Rattle.ctl_typing.specs.Typing as spec
 use Rattle.ctl_typing.specs.Typing.{Sense}
 use Rattle.ctl_well_typed.specs.Setting.{In, Frames, Setting, InView}
@@ -55,10 +55,10 @@ use Rattle.ctl_program.specs.Limits.{integer_last, integer_first_cell}
 use Rattle.ctl_well_typed.specs.Types as types
 use Rattle.ctl_well_typed.specs.Types.{is_scalar, IsCell, is_written, Covers, same_type, ancestor, Walks, arrived, further, Leads, HasRoot, HasDiscriminant}
 use Rattle.ctl_well_typed.specs.Expressions as rule
-use Rattle.ctl_well_typed.specs.Expressions.{Typed, Denotes, Fits, FitEach}
+use Rattle.ctl_well_typed.specs.Expressions.{Typed, Denotes, Fits, FitEach, IsValue}
 use Rattle.ctl_sound.specs.Known.{IfSome, Gives, All}
 use Rattle.ctl_sound.specs.Sound.{AliasFine, AccessedFine, ScalarUnlessNamed, is_imaged, passing_of, formal_of, EntryFine, ProfileFine, Sound, PartOf, PlaceFine, FoundFine, AskedFine, Fine, Good}
-use Rattle.ctl_sound.proofs.Known.{next, tested, each_gives}
+use Rattle.ctl_sound.proofs.Known.{next, tested, any_gives, each_gives}
 use Rattle.ctl_sound.proofs.Layers.{SuffixOf}
 use Rattle.ctl_sound.proofs.Tests.{same_is, same_self, number_is, copy_is, covers_scalar}
 
@@ -115,10 +115,13 @@ module _ (k : Setting) (env : Frames) (tables : Tables) (sound : Sound k env tab
 
   pub name_good : (h : Head) (steps : List Step) (t : Ty) → PartOf k env h steps t → Denotes k env (spec.name_at h steps) t
   name_good (head.At v) steps t w = rule.variable w.heads.1.0 w.heads.1.1 w.walks
-  name_good (head.Given x) steps t w = rule.value w.heads w.walks
+  name_good (head.Given x) steps t w = rule.value w.heads.0 w.walks
 
   alone_good : (x : Expr) (t : Ty) → PartOf k env (head.Given x) [] t → Typed k env x t
-  alone_good x t w = subst (λ u. Typed k env x u) (arrived_is w.walks) w.heads
+  alone_good x t w = subst (λ u. Typed k env x u) (arrived_is w.walks) w.heads.0
+
+  alone_value : (x : Expr) (t : Ty) → PartOf k env (head.Given x) [] t → IsValue x t
+  alone_value x t w = subst (λ u. IsValue x u) (arrived_is w.walks) w.heads.1
 
   pub value_good : (h : Head) (steps : List Step) (t : Ty) → PartOf k env h steps t → Typed k env (spec.value_at h steps t) t
   value_good (head.Given x) [] t w = alone_good x t w
@@ -127,7 +130,7 @@ module _ (k : Setting) (env : Frames) (tables : Tables) (sound : Sound k env tab
   value_good (head.At v) (y ∷ steps) t w = rule.read (name_good (head.At v) (y ∷ steps) t w)
 
   pub handed_on_good : (h : Head) (steps : List Step) (u : ℕ) (t : Ty) → PartOf k env h steps t → Covers k (ty.Record u) t → Fits k env (record { passing = In; ty = ty.Record u }) (spec.handed_on h steps (ty.Record u))
-  handed_on_good (head.Given x) [] u t w c = rule.by_value c (alone_good x t w)
+  handed_on_good (head.Given x) [] u t w c = rule.by_value c (alone_value x t w) (alone_good x t w)
   handed_on_good (head.Given x) (y ∷ steps) u t w c = rule.by_reference c c (name_good (head.Given x) (y ∷ steps) t w)
   handed_on_good (head.At v) [] u t w c = rule.by_reference c c (name_good (head.At v) [] t w)
   handed_on_good (head.At v) (y ∷ steps) u t w c = rule.by_reference c c (name_good (head.At v) (y ∷ steps) t w)
@@ -153,22 +156,8 @@ module _ (k : Setting) (env : Frames) (tables : Tables) (sound : Sound k env tab
   as_variable_good Q place mutability.Variable a h s = h
   as_variable_good Q place mutability.Constant a h s = h
 
-  written_good : (place : Span) (m : Mode) (t s : Ty) (p : Place) → is_written (passing_of m) ≡ true → PartOf k env p.head p.steps s → Covers k p.ty s → Gives (Fitting m t) (spec.written place m t p)
-  written_good place m t s p w part c = tested (Fitting m t) (same t p.ty) (spec.as_variable place p.mutability (spec.by_name m p)) (wrong fault.Type place)
-      (λ e. as_variable_good (Fitting m t) place p.mutability (spec.by_name m p) (subst (λ u. Fitting m u (spec.by_name m p)) (sym (same_is t p.ty e)) (named_good m (spec.name_of p) p.ty s w c (name_good p.head p.steps s part))))
-      (λ s. tt)
-
-  written_found_good : (place : Span) (m : Mode) (t : Ty) (f : Found) → is_written (passing_of m) ≡ true → FoundFine k env f → Gives (Fitting m t) (spec.written_found place m t f)
-  written_found_good place m t (is.Part p) w h = written_good place m t p.ty p w h.part same_type
-  written_found_good place m t (is.View p) w h = written_good place m t h.own p w h.part h.covers
-  written_found_good place m t _ w h = λ s. tt
-
   abbrev Named : Option (Tables → Judgement Found) → Type 0
   Named o = IfSome (λ (f : Tables → Judgement Found). FoundRight (f tables)) o
-
-  written_by_good : (place : Span) (m : Mode) (t : Ty) (o : Option (Tables → Judgement Found)) → is_written (passing_of m) ≡ true → Named o → Gives (Fitting m t) (spec.written_by tables place m t o)
-  written_by_good place m t None w h = λ s. tt
-  written_by_good place m t (Some name) w h = next (FoundFine k env) (Fitting m t) (name tables) (spec.written_found place m t) h (λ f i. written_found_good place m t f w i)
 
   -- Functions without actuals ---------------------------------------------------------------------------
 
@@ -190,7 +179,7 @@ module _ (k : Setting) (env : Frames) (tables : Tables) (sound : Sound k env tab
   result_of place p actuals (Some t) e h i s =
       let v : IfSome (InView k env) (Some t) = subst (λ r. IfSome (InView k env) r) e h.result_in_view in
       let f : FitEach k env h.is.formals actuals = subst (λ fs. FitEach k env fs actuals) (sym h.formals) i in
-      rw e (record { part = record { start = t; heads = rule.call h.callable (h.result ∙ e) f; walks = arrived; in_view = v }; alias = tt })
+      rw e (record { part = record { start = t; heads = (rule.call h.callable (h.result ∙ e) f, rule.of_call p.subprogram actuals t); walks = arrived; in_view = v }; alias = tt })
 
   pub result_good : (place : Span) (p : Profile) (actuals : List Actual) → ProfileFine k env p → FitEach k env (map formal_of p.formals) actuals → FoundRight (spec.result_found place p actuals)
   result_good place p actuals = result_of place p actuals p.result refl
@@ -226,7 +215,50 @@ module _ (k : Setting) (env : Frames) (tables : Tables) (sound : Sound k env tab
   abbrev Reading : Ty → Actual → Type 0
   Reading t a = Fits k env (record { passing = In; ty = t }) a
 
-  record_part : (place : Span) (u : ℕ) (s : Ty) (p : Place) → PartOf k env p.head p.steps s → Covers k p.ty s → Gives (Reading (ty.Record u)) (if same (ty.Record u) p.ty then noting (ty.Record u) (spec.handed_on p.head p.steps p.ty) else wrong fault.Type place)
+  -- a part that is a variable of a type: of that type, or a view of one that the type covers
+  pub record VariableFine (t : Ty) (p : Place) : Type 0 where
+    pub typed : t ≡ p.ty
+    pub own : Ty
+    pub part : PartOf k env p.head p.steps own
+    pub covers : Covers k p.ty own
+
+  variable_part_good : (place : Span) (t s : Ty) (p : Place) → PartOf k env p.head p.steps s → Covers k p.ty s → Gives (VariableFine t) (spec.variable_part place t p)
+  variable_part_good place t s p part c = tested (VariableFine t) (same t p.ty) (spec.as_variable place p.mutability p) (wrong fault.Type place)
+      (λ e. as_variable_good (VariableFine t) place p.mutability p (record { typed = same_is t p.ty e; own = s; part = part; covers = c }))
+      (λ s. tt)
+
+  value_is_no_variable : (place : Span) (t : Ty) (f : Found) → Gives (VariableFine t) (spec.value_found tables place (asking.Exactly t) f >>= spec.no_variable place)
+  value_is_no_variable place t f = next (λ r. Unit {0}) (VariableFine t) (spec.value_found tables place (asking.Exactly t) f) (spec.no_variable place) (any_gives (spec.value_found tables place (asking.Exactly t) f)) (λ r h s. tt)
+
+  variable_found_good : (place : Span) (t : Ty) (f : Found) → FoundFine k env f → Gives (VariableFine t) (spec.variable_found tables place t f)
+  variable_found_good place t (is.Part p) h = variable_part_good place t p.ty p h.part same_type
+  variable_found_good place t (is.View p) h = variable_part_good place t h.own p h.part h.covers
+  variable_found_good place t (is.TypeName u) h = value_is_no_variable place t (is.TypeName u)
+  variable_found_good place t (is.Callable n) h = value_is_no_variable place t (is.Callable n)
+  variable_found_good place t (is.Computed r) h = value_is_no_variable place t (is.Computed r)
+  variable_found_good place t (is.Subpools f) h = value_is_no_variable place t (is.Subpools f)
+  variable_found_good place t (is.Image u) h = value_is_no_variable place t (is.Image u)
+  variable_found_good place t (is.Imaged r) h = value_is_no_variable place t (is.Imaged r)
+  variable_found_good place t (is.Discriminant p i) h = value_is_no_variable place t (is.Discriminant p i)
+  variable_found_good place t (is.Accessed v u) h = value_is_no_variable place t (is.Accessed v u)
+
+  variable_by_good : (t : Ty) (x : Sense) (o : Option (Tables → Judgement Found)) → Named o → Gives (VariableFine t) (spec.variable_by tables t x o)
+  variable_by_good t x None h = next (λ r. Unit {0}) (VariableFine t) (x.judged tables (asking.Exactly t)) (spec.no_variable x.place) (any_gives (x.judged tables (asking.Exactly t))) (λ r i s. tt)
+  variable_by_good t x (Some name) h =
+      next (FoundFine k env) (VariableFine t) (name tables >>= spec.settled tables x.place) (spec.variable_found tables x.place t)
+      (next (FoundFine k env) (FoundFine k env) (name tables) (spec.settled tables x.place) h (settled_good x.place))
+      (variable_found_good x.place t)
+
+  pub variable_of_good : (t : Ty) (x : Sense) → Right x → Gives (VariableFine t) (spec.variable_of tables t x)
+  variable_of_good t x g = variable_by_good t x x.bare g.bare
+
+  by_name_good : (m : Mode) (t : Ty) (p : Place) → is_written (passing_of m) ≡ true → VariableFine t p → Fitting m t (spec.by_name m p)
+  by_name_good m t p w h = subst (λ u. Fitting m u (spec.by_name m p)) (sym h.typed) (named_good m (spec.name_of p) p.ty h.own w h.covers (name_good p.head p.steps h.own h.part))
+
+  written_by_good : (m : Mode) (t : Ty) (x : Sense) → is_written (passing_of m) ≡ true → Right x → Gives (Fitting m t) (spec.variable_of tables t x >>= (λ p. known (spec.by_name m p)))
+  written_by_good m t x w g = next (VariableFine t) (Fitting m t) (spec.variable_of tables t x) (λ p. known (spec.by_name m p)) (variable_of_good t x g) (λ p h s. by_name_good m t p w h)
+
+  record_part : (place : Span) (u : ℕ) (s : Ty) (p : Place) → PartOf k env p.head p.steps s → Covers k p.ty s → Gives (Reading (ty.Record u)) (spec.record_part place (ty.Record u) p)
   record_part place u s p part c = tested (Reading (ty.Record u)) (same (ty.Record u) p.ty) (noting (ty.Record u) (spec.handed_on p.head p.steps p.ty)) (wrong fault.Type place)
       (λ e. noting_good (Reading (ty.Record u)) (ty.Record u) (spec.handed_on p.head p.steps p.ty) (subst (λ v. Reading (ty.Record u) (spec.handed_on p.head p.steps v)) (same_is (ty.Record u) p.ty e) (handed_on_good p.head p.steps u s part (subst (λ t. Covers k t s) (sym (same_is (ty.Record u) p.ty e)) c))))
       (λ s. tt)
@@ -236,30 +268,40 @@ module _ (k : Setting) (env : Frames) (tables : Tables) (sound : Sound k env tab
   record_found_good place u (is.View p) h = record_part place u h.own p h.part h.covers
   record_found_good place u _ h = λ s. tt
 
-  value_read : (t : Ty) (x : Sense) → InView k env t → Right x → Gives (Reading t) (x.judged tables (asking.Exactly t) >>= spec.by_value)
-  value_read t x v g = next (Fine k env (asking.Exactly t) x.named) (Reading t) (x.judged tables (asking.Exactly t)) spec.by_value (g.judged (asking.Exactly t) v)
-      (λ r h s. subst (λ u. Reading t (actual.ByValue r.value u)) (same_is t r.ty h.met) (rule.by_value same_type (subst (λ u. Typed k env r.value u) (sym (same_is t r.ty h.met)) h.typed)))
+  record_enclosed_good : (place : Span) (u : ℕ) (f : Found) → FoundFine k env f → Gives (Reading (ty.Record u)) (spec.record_enclosed place (ty.Record u) f)
+  record_enclosed_good place u (is.Part p) h = record_part place u p.ty p h.part same_type
+  record_enclosed_good place u _ h = λ s. tt
 
-  record_by_good : (u : ℕ) (x : Sense) (o : Option (Tables → Judgement Found)) → InView k env (ty.Record u) → Right x → Named o → Gives (Reading (ty.Record u)) (spec.record_by tables (ty.Record u) x o)
-  record_by_good u x None v g h = value_read (ty.Record u) x v g
-  record_by_good u x (Some name) v g h =
-      next (FoundFine k env) (Reading (ty.Record u)) (name tables >>= spec.settled tables x.place) (spec.record_found x.place (ty.Record u))
-      (next (FoundFine k env) (FoundFine k env) (name tables) (spec.settled tables x.place) h (settled_good x.place))
-      (record_found_good x.place u)
+  -- a value that has one cell
+  value_read : (t : Ty) (x : Sense) → InView k env t → Right x → ((r : Typed_value) → Fine k env (asking.Exactly t) x.named r → is_scalar t ≡ true) → Gives (Reading t) (x.judged tables (asking.Exactly t) >>= spec.by_value)
+  value_read t x v g scalar = next (Fine k env (asking.Exactly t) x.named) (Reading t) (x.judged tables (asking.Exactly t)) spec.by_value (g.judged (asking.Exactly t) v)
+      (λ r h s. subst (λ u. Reading t (actual.ByValue r.value u)) (same_is t r.ty h.met) (rule.by_value same_type (rule.of_one_cell (scalar r h)) (subst (λ u. Typed k env r.value u) (sym (same_is t r.ty h.met)) h.typed)))
+
+  record_by_good : (u : ℕ) (x : Sense) (alone named : Option (Tables → Judgement Found)) → InView k env (ty.Record u) → Right x → Named alone → Named named → x.named ≡ named → Gives (Reading (ty.Record u)) (spec.record_by tables (ty.Record u) x alone named)
+  record_by_good u x (Some alone) named v g h i e =
+      next (FoundFine k env) (Reading (ty.Record u)) (alone tables >>= spec.settled tables x.within) (spec.record_found x.within (ty.Record u))
+      (next (FoundFine k env) (FoundFine k env) (alone tables) (spec.settled tables x.within) h (settled_good x.within))
+      (record_found_good x.within u)
+  record_by_good u x None (Some name) v g h i e =
+      next (FoundFine k env) (Reading (ty.Record u)) (name tables >>= spec.settled tables x.within) (spec.record_enclosed x.within (ty.Record u))
+      (next (FoundFine k env) (FoundFine k env) (name tables) (spec.settled tables x.within) i (settled_good x.within))
+      (record_enclosed_good x.within u)
+  record_by_good u x None None v g h i e =
+      value_read (ty.Record u) x v g (λ r f. subst (λ t. is_scalar t ≡ true) (sym (same_is (ty.Record u) r.ty f.met)) (subst (λ (o : Option (Tables → Judgement Found)). ScalarUnlessNamed o r.ty) e f.scalar))
 
   read_by_good : (t : Ty) (x : Sense) → InView k env t → Right x → Gives (Reading t) (spec.read_by tables t x)
-  read_by_good (ty.Record u) x v g = record_by_good u x x.named v g g.named
-  read_by_good ty.Integer x v g = value_read ty.Integer x v g
-  read_by_good ty.Count x v g = value_read ty.Count x v g
-  read_by_good ty.Boolean x v g = value_read ty.Boolean x v g
-  read_by_good ty.Address x v g = value_read ty.Address x v g
-  read_by_good ty.Handle x v g = value_read ty.Handle x v g
-  read_by_good (ty.Access a) x v g = value_read (ty.Access a) x v g
+  read_by_good (ty.Record u) x v g = record_by_good u x x.bare x.named v g g.bare g.named refl
+  read_by_good ty.Integer x v g = value_read ty.Integer x v g (λ r f. refl)
+  read_by_good ty.Count x v g = value_read ty.Count x v g (λ r f. refl)
+  read_by_good ty.Boolean x v g = value_read ty.Boolean x v g (λ r f. refl)
+  read_by_good ty.Address x v g = value_read ty.Address x v g (λ r f. refl)
+  read_by_good ty.Handle x v g = value_read ty.Handle x v g (λ r f. refl)
+  read_by_good (ty.Access a) x v g = value_read (ty.Access a) x v g (λ r f. refl)
 
   actual_by_good : (m : Mode) (t : Ty) (x : Sense) → InView k env t → Right x → Gives (Fitting m t) (spec.actual_by tables m t x)
   actual_by_good mode.In t x v g = read_by_good t x v g
-  actual_by_good mode.Out t x v g = written_by_good x.place mode.Out t x.bare refl g.bare
-  actual_by_good mode.InOut t x v g = written_by_good x.place mode.InOut t x.bare refl g.bare
+  actual_by_good mode.Out t x v g = written_by_good mode.Out t x refl g
+  actual_by_good mode.InOut t x v g = written_by_good mode.InOut t x refl g
 
   abbrev Fitted : FormalEntry × Sense → Actual → Type 0
   Fitted p a = Fits k env (formal_of p.0) a
@@ -299,20 +341,20 @@ module _ (k : Setting) (env : Frames) (tables : Tables) (sound : Sound k env tab
   number_converted t x n c v g = next (Fine k env asking.Number x.named) (FoundFine k env) (x.judged tables asking.Number) (spec.converted_number t) (g.judged asking.Number tt)
       (λ r h s. (record { typed = rule.convert n (number_is r.ty h.met) h.typed; in_view = v }, c))
 
-  same_designated : (a b : ℕ) (s t : Option Ty) → designated_by tables a ≡ s → designated_by tables b ≡ t → spec.designate_same s t ≡ true → InView k env (ty.Access a) → InView k env (ty.Access b) → (x : Expr) → Typed k env x (ty.Access b) → Typed k env x (ty.Access a)
+  same_designated : (a b : ℕ) (s t : Option Ty) → designated_by tables a ≡ s → designated_by tables b ≡ t → designate_same s t ≡ true → InView k env (ty.Access a) → InView k env (ty.Access b) → (x : Expr) → Typed k env x (ty.Access b) → Typed k env x (ty.Access a)
   same_designated a b (Some s) (Some t) e f h u v x typed =
       rule.as_access v.found u.found (sound.types.designated b t v.is f v.found ∙ sym (same_is s t h) ∙ sym (sound.types.designated a s u.is e u.found)) typed
   same_designated a b None t e f h u v x typed = absurd (cc)
   same_designated a b (Some s) None e f h u v x typed = absurd (cc)
 
-  convertible_good : (a : ℕ) (t : Ty) → spec.is_convertible tables a t ≡ true → InView k env (ty.Access a) → InView k env t → (x : Expr) → Typed k env x t → Typed k env x (ty.Access a)
+  convertible_good : (a : ℕ) (t : Ty) → is_convertible tables a t ≡ true → InView k env (ty.Access a) → InView k env t → (x : Expr) → Typed k env x t → Typed k env x (ty.Access a)
   convertible_good a (ty.Access b) h u v x typed = by_test (nat_eq a b) refl h
     where
-      by_general : (g : Bool) → (g && spec.designate_same (designated_by tables a) (designated_by tables b)) ≡ true → Typed k env x (ty.Access a)
+      by_general : (g : Bool) → (g && designate_same (designated_by tables a) (designated_by tables b)) ≡ true → Typed k env x (ty.Access a)
       by_general true h = same_designated a b (designated_by tables a) (designated_by tables b) refl refl h u v x typed
       by_general false h = absurd (cc)
 
-      by_test : (q : Bool) → nat_eq a b ≡ q → (q || (is_general (slice_get tables.states.accesses a) && spec.designate_same (designated_by tables a) (designated_by tables b))) ≡ true → Typed k env x (ty.Access a)
+      by_test : (q : Bool) → nat_eq a b ≡ q → (q || (is_general (slice_get tables.states.accesses a) && designate_same (designated_by tables a) (designated_by tables b))) ≡ true → Typed k env x (ty.Access a)
       by_test true e h = let same : b ≡ a = grind (arith, nat_tests) in subst (λ c. Typed k env x (ty.Access c)) same typed
       by_test false e h = by_general (is_general (slice_get tables.states.accesses a)) h
   convertible_good a ty.Integer h u v x typed = absurd (cc)
@@ -329,16 +371,16 @@ module _ (k : Setting) (env : Frames) (tables : Tables) (sound : Sound k env tab
       by_test true s = h
       by_test false s = h
 
-  access_converted : (place : Span) (a : ℕ) (r : Typed_value) → InView k env (ty.Access a) → Typed k env r.value r.ty → InView k env r.ty → FoundRight (spec.converted_access tables place a r)
-  access_converted place a r v typed w =
+  access_converted : (place inner : Span) (a : ℕ) (r : Typed_value) → InView k env (ty.Access a) → Typed k env r.value r.ty → InView k env r.ty → FoundRight (spec.converted_access tables place inner a r)
+  access_converted place inner a r v typed w =
       let made : Found = is.Part (spec.given_place (record { ty = ty.Access a; value = r.value })) in
-      tested (FoundFine k env) (spec.is_convertible tables a r.ty) (spec.at_level place (spec.level_of tables r.ty) (level_of_access (slice_get tables.states.accesses a)) made) (wrong fault.Type place)
-      (λ e. at_level_good (FoundFine k env) place (spec.level_of tables r.ty) (level_of_access (slice_get tables.states.accesses a)) made
-      (record { part = record { start = ty.Access a; heads = convertible_good a r.ty e v w r.value typed; walks = arrived; in_view = v }; alias = tt }))
+      tested (FoundFine k env) (is_convertible tables a r.ty) (spec.at_level place (level_of tables r.ty) (level_of_access (slice_get tables.states.accesses a)) made) (wrong fault.Type inner)
+      (λ e. at_level_good (FoundFine k env) place (level_of tables r.ty) (level_of_access (slice_get tables.states.accesses a)) made
+      (record { part = record { start = ty.Access a; heads = (convertible_good a r.ty e v w r.value typed, rule.of_one_cell refl); walks = arrived; in_view = v }; alias = tt }))
       (λ s. tt)
 
   viewed_as_good : (place : Span) (t : ℕ) (p : Place) (s : Ty) → InView k env (ty.Record t) → PartOf k env p.head p.steps s → FoundRight (spec.viewed_as tables place t p s)
-  viewed_as_good place t p (ty.Record s) v part = tested (FoundFine k env) (descends tables t s) (known (is.View (spec.as_type (ty.Record t) p))) (wrong fault.Type place)
+  viewed_as_good place t p (ty.Record s) v part = tested (FoundFine k env) (descends tables t s) (noting (ty.Record s) (is.View (spec.as_type (ty.Record t) p))) (wrong fault.Type place)
       (λ e n. record { own = ty.Record s; part = part; covers = ancestor (sound.types.ancestor t s e); in_view = v })
       (λ n. tt)
   viewed_as_good place t p ty.Integer v part = λ n. tt
@@ -359,7 +401,7 @@ module _ (k : Setting) (env : Frames) (tables : Tables) (sound : Sound k env tab
   converted_good : (place : Span) (t : Ty) (x : Sense) → InView k env t → Right x → FoundRight (spec.converted tables place t x)
   converted_good place ty.Integer x v g = number_converted ty.Integer x refl refl tt g
   converted_good place ty.Count x v g = number_converted ty.Count x refl refl tt g
-  converted_good place (ty.Access a) x v g = next (Fine k env asking.Anything x.named) (FoundFine k env) (x.judged tables asking.Anything) (spec.converted_access tables place a) (g.judged asking.Anything tt) (λ r h. access_converted place a r v h.typed h.in_view)
+  converted_good place (ty.Access a) x v g = next (Fine k env asking.Anything x.named) (FoundFine k env) (x.judged tables asking.Anything) (spec.converted_access tables place x.within a) (g.judged asking.Anything tt) (λ r h. access_converted place x.within a r v h.typed h.in_view)
   converted_good place (ty.Record t) x v g = viewed_by_good place x.place t x.bare v g.bare
   converted_good place ty.Boolean x v g = λ s. tt
   converted_good place ty.Address x v g = λ s. tt
@@ -367,27 +409,13 @@ module _ (k : Setting) (env : Frames) (tables : Tables) (sound : Sound k env tab
 
   -- Functions on mark pools (13.11.4) -----------------------------------------------------------------------------
 
-  subpool_in_good : (place : Span) (which : SubpoolFunction) (p : Place) (t : Ty) → PartOf k env p.head p.steps t → FoundRight (spec.subpool_in place which p t)
-  subpool_in_good place which p (ty.Record t) part =
-      let made : Found = is.Computed (record { ty = ty.Handle; value = e.Subpool which (spec.name_of p) }) in
-      tested (FoundFine k env) (nat_eq t mark_release_pool) (spec.as_variable place p.mutability made) (wrong fault.Type place)
-      (λ h. as_variable_good (FoundFine k env) place p.mutability made
-      (record { typed = rule.subpool (name_good p.head p.steps (ty.Record t) part) (let same : mark_release_pool ≡ t = grind (arith, nat_tests) in subst (λ n. HasRoot k n root.MarkPool) same sound.types.mark_pool); in_view = tt }, refl))
-      (λ s. tt)
-  subpool_in_good place which p ty.Integer part = λ s. tt
-  subpool_in_good place which p ty.Count part = λ s. tt
-  subpool_in_good place which p ty.Boolean part = λ s. tt
-  subpool_in_good place which p ty.Address part = λ s. tt
-  subpool_in_good place which p ty.Handle part = λ s. tt
-  subpool_in_good place which p (ty.Access a) part = λ s. tt
+  subpool_made : (which : SubpoolFunction) (p : Place) (s : Ty) → ty.Record mark_release_pool ≡ p.ty → PartOf k env p.head p.steps s → Covers k p.ty s → FoundFine k env (is.Computed (record { ty = ty.Handle; value = e.Subpool which (spec.name_of p) }))
+  subpool_made which p s q part c = (record { typed = rule.subpool (subst (λ u. Covers k u s) (sym q) c) (name_good p.head p.steps s part) sound.types.mark_pool; in_view = tt }, refl)
 
-  subpool_of_good : (place : Span) (which : SubpoolFunction) (f : Found) → FoundFine k env f → FoundRight (spec.subpool_of place which f)
-  subpool_of_good place which (is.Part p) h = subpool_in_good place which p p.ty h.part
-  subpool_of_good place which _ h = λ s. tt
-
-  subpool_by_good : (which : SubpoolFunction) (place : Span) (o : Option (Tables → Judgement Found)) → Named o → FoundRight (spec.subpool_by tables which place o)
-  subpool_by_good which place None h = λ s. tt
-  subpool_by_good which place (Some name) h = next (FoundFine k env) (FoundFine k env) (name tables) (spec.subpool_of place which) h (subpool_of_good place which)
+  subpool_by_good : (which : SubpoolFunction) (x : Sense) → Right x → FoundRight (spec.subpool_by tables which x)
+  subpool_by_good which x g =
+      next (VariableFine (ty.Record mark_release_pool)) (FoundFine k env) (spec.variable_of tables (ty.Record mark_release_pool) x) (λ p. known (is.Computed (record { ty = ty.Handle; value = e.Subpool which (spec.name_of p) }))) (variable_of_good (ty.Record mark_release_pool) x g)
+      (λ p h s. subpool_made which p h.own h.typed h.part h.covers)
 
   -- Selectors and dereferences (4.1) ---------------------------------------------------------------------------------
 
@@ -505,7 +533,7 @@ module _ (k : Setting) (env : Frames) (tables : Tables) (sound : Sound k env tab
 
   with_one_good : (place : Span) (f : Found) (x : Sense) → FoundFine k env f → Right x → FoundRight (spec.with_one tables place f x)
   with_one_good place (is.TypeName t) x h g = converted_good place t x h g
-  with_one_good place (is.Subpools which) x h g = subpool_by_good which x.place x.bare g.bare
+  with_one_good place (is.Subpools which) x h g = subpool_by_good which x g
   with_one_good place (is.Image t) x h g = imaged_good place t x h g
   with_one_good place _ x h g = λ s. tt
 

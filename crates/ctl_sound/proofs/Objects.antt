@@ -1,5 +1,5 @@
 -- Declared objects and exceptions are well typed.
-use Rattle.std.proofs.Common.{arith, ◌≡◌, refl, sym, ap, ◌∙◌, subst, ℕ, suc, ◌+◌, nat_eq, Bool, true, false, ◌&&◌, not, if◌then◌else◌, List, [], ◌∷◌, ◌++◌, length, slice_get, Option, Some, None, option_map}
+use Rattle.std.proofs.Common.{arith, ◌≡◌, refl, sym, ap, ◌∙◌, subst, ℕ, suc, ◌+◌, nat_eq, Bool, true, false, ◌&&◌, ◌||◌, not, if◌then◌else◌, List, [], ◌∷◌, ◌++◌, length, map, slice_get, Option, Some, None, option_map}
 use Rattle.std.proofs.lemmas.Bool.Decides.{nat_tests}
 use Rattle.std.proofs.lemmas.List.{length-append}
 use Rattle.ctl_tree.specs.declared.span.Span.{Span}
@@ -40,6 +40,7 @@ use Rattle.ctl_draft.specs.declared.draft.Order.TheVariants as order
 use Rattle.ctl_draft.specs.Draft.{fault_when, asking, asked, deeds_of, declare}
 use Rattle.ctl_draft.specs.Freezing.{done_by}
 use Rattle.ctl_draft.specs.Marks as marks
+use Rattle.ctl_resolve.specs.Library.{operation_named}
 use Rattle.ctl_declarations.specs.Types.{is_given}
 use Rattle.ctl_declarations.specs.Declarations as decl
 use Rattle.ctl_types.specs.Elaboration.{surely}
@@ -52,7 +53,7 @@ use Rattle.ctl_sound.specs.Known.{IfSome, All, Gives}
 use Rattle.ctl_sound.specs.Sound.{AliasFine, Sound}
 use Rattle.ctl_sound.proofs.Names.{discriminant_is}
 use Rattle.ctl_sound.proofs.Values.{expression_right}
-use Rattle.ctl_sound.proofs.Items.{object_type_good, value_of_good, discriminants_good}
+use Rattle.ctl_sound.proofs.Items.{object_type_good, value_of_good, discriminants_good, discriminants_stand}
 use Rattle.ctl_sound.proofs.Growing.{behind_one, behind_further, behind_length, Still, still_self, still_noted, still_further, still_back, nothing, grows_self}
 use Rattle.ctl_sound.proofs.Freezing.{Quiet, done_quiet}
 use Rattle.ctl_sound.proofs.Sites.{Site, around_site, here, IsHere, Front}
@@ -65,11 +66,45 @@ use Rattle.ctl_sound.proofs.Steps.{Leads, Goes, still_given, still_leads, then_l
 abbrev EachHas : Root → List ℕ → Type 0
 EachHas r ns = All (λ n. HasDiscriminant r n) ns
 
-positional_of : (r : Root) → EachHas r (marks.numbers_on [] (marks.discriminant_count r) 0) × ((length (marks.numbers_on [] (marks.discriminant_count r) 0) ≡ marks.discriminant_count r) × (marks.discriminant_count r ≡ rule.discriminants r))
-positional_of root.BlockPool = ((block_size, (block_count, tt)), (refl, refl))
-positional_of root.MarkPool = ((pool_size, tt), (refl, refl))
-positional_of root.Untagged = (tt, (refl, refl))
-positional_of root.Controlled = (tt, (refl, refl))
+-- none of these is this number
+abbrev Lacks : ℕ → List ℕ → Type 0
+Lacks n [] = Unit {0}
+Lacks n (m ∷ ms) = (m ≡ n → ⊥) × Lacks n ms
+
+-- each number stands there once
+abbrev Once : List ℕ → Type 0
+Once [] = Unit {0}
+Once (n ∷ ns) = Lacks n ns × Once ns
+
+lacks_with : (m : ℕ) (ns : List ℕ) (n : ℕ) → Lacks m ns → (n ≡ m → ⊥) → Lacks m (ns ++ n ∷ [])
+lacks_with m [] n h g = (g, tt)
+lacks_with m (i ∷ ns) n h g = (h.0, lacks_with m ns n h.1 g)
+
+once_with : (ns : List ℕ) (n : ℕ) → Once ns → marks.is_among n ns ≡ false → Once (ns ++ n ∷ [])
+once_with [] n h e = (tt, tt)
+once_with (m ∷ ns) n h e = by_test (nat_eq n m) refl e (once_with ns n h.1)
+  where
+    by_test : (b : Bool) → nat_eq n m ≡ b → (b || marks.is_among n ns) ≡ false → (marks.is_among n ns ≡ false → Once (ns ++ n ∷ [])) → Once (m ∷ (ns ++ n ∷ []))
+    by_test true f g more = absurd (cc)
+    by_test false f g more = (lacks_with m ns n h.0 (λ same. absurd (grind (arith, nat_tests))), more g)
+
+-- values at such positions give no discriminant twice
+none_at : (i : ℕ) (as' : List Checked_association) → Lacks i (map (λ (a : Checked_association). a.position) as') → rule.NoneAt i as'
+none_at i [] h = tt
+none_at i (a ∷ as') h = (h.0, none_at i as' h.1)
+
+each_once : (as' : List Checked_association) → Once (map (λ (a : Checked_association). a.position) as') → rule.EachOnce as'
+each_once [] h = tt
+each_once (a ∷ as') h = (none_at a.position as' h.0, each_once as' h.1)
+
+zero_first : Once (0 ∷ 1 ∷ [])
+zero_first = ((λ e. absurd (omega (arith, e)), tt), (tt, tt))
+
+positional_of : (r : Root) → (EachHas r (marks.numbers_on [] (marks.discriminant_count r) 0) × Once (marks.numbers_on [] (marks.discriminant_count r) 0)) × ((length (marks.numbers_on [] (marks.discriminant_count r) 0) ≡ marks.discriminant_count r) × (marks.discriminant_count r ≡ rule.discriminants r))
+positional_of root.BlockPool = (((block_size, (block_count, tt)), zero_first), (refl, refl))
+positional_of root.MarkPool = (((pool_size, tt), (tt, tt)), (refl, refl))
+positional_of root.Untagged = ((tt, tt), (refl, refl))
+positional_of root.Controlled = ((tt, tt), (refl, refl))
 
 all_with : {A : Type 0} (P : A → Type 0) (xs : List A) (x : A) → All P xs → P x → All P (xs ++ x ∷ [])
 all_with P [] x h i = (i, tt)
@@ -81,26 +116,26 @@ any_value (Some a) = tt
 
 module _ (r : Root) (has : (name : List ℕ) → IfSome (HasDiscriminant r) (discriminant_named r name)) where
   abbrev AsMany : ℕ → List ℕ → Type 0
-  AsMany n ns = EachHas r ns × (length ns ≡ n)
+  AsMany n ns = (EachHas r ns × Once ns) × (length ns ≡ n)
 
   position_has : (i : Option Identifier) → IfSome (HasDiscriminant r) (marks.position_of (Discriminants r) i)
   position_has None = tt
   position_has (Some i) = has i.text
 
-  named_has : (before : List ℕ) (as' : List (Association Use)) → EachHas r before → IfSome (AsMany (length before + length as')) (marks.named_on (Discriminants r) (Some before) as')
+  named_has : (before : List ℕ) (as' : List (Association Use)) → EachHas r before × Once before → IfSome (AsMany (length before + length as')) (marks.named_on (Discriminants r) (Some before) as')
   named_has before [] h = (h, omega arith)
-  named_has before (a ∷ as') h = by_position (marks.position_of (Discriminants r) a.name) (position_has a.name) (λ n g. named_has (before ++ n ∷ []) as' (all_with (λ m. HasDiscriminant r m) before n h g))
+  named_has before (a ∷ as') h = by_position (marks.position_of (Discriminants r) a.name) (position_has a.name) (λ n g e. named_has (before ++ n ∷ []) as' (all_with (λ m. HasDiscriminant r m) before n h.0 g, once_with before n h.1 e))
     where
-      by_position : (p : Option ℕ) → IfSome (HasDiscriminant r) p → ((n : ℕ) → HasDiscriminant r n → IfSome (AsMany (length (before ++ n ∷ []) + length as')) (marks.named_on (Discriminants r) (Some (before ++ n ∷ [])) as')) → IfSome (AsMany (length before + suc (length as'))) (marks.named_on (Discriminants r) (marks.with_position before p) as')
+      by_position : (p : Option ℕ) → IfSome (HasDiscriminant r) p → ((n : ℕ) → HasDiscriminant r n → marks.is_among n before ≡ false → IfSome (AsMany (length (before ++ n ∷ []) + length as')) (marks.named_on (Discriminants r) (Some (before ++ n ∷ [])) as')) → IfSome (AsMany (length before + suc (length as'))) (marks.named_on (Discriminants r) (marks.with_position before p) as')
       by_position None g again = tt
-      by_position (Some n) g again = by_test (marks.is_among n before)
+      by_position (Some n) g again = by_test (marks.is_among n before) refl
         where
           one_longer : length (before ++ n ∷ []) + length as' ≡ length before + suc (length as')
           one_longer = let e = length-append before (n ∷ []) in omega (arith, e)
 
-          by_test : (b : Bool) → IfSome (AsMany (length before + suc (length as'))) (marks.named_on (Discriminants r) (if b then None else Some (before ++ n ∷ [])) as')
-          by_test true = tt
-          by_test false = subst (λ m. IfSome (AsMany m) (marks.named_on (Discriminants r) (Some (before ++ n ∷ [])) as')) one_longer (again n g)
+          by_test : (b : Bool) → marks.is_among n before ≡ b → IfSome (AsMany (length before + suc (length as'))) (marks.named_on (Discriminants r) (if b then None else Some (before ++ n ∷ [])) as')
+          by_test true e = tt
+          by_test false e = subst (λ m. IfSome (AsMany m) (marks.named_on (Discriminants r) (Some (before ++ n ∷ [])) as')) one_longer (again n g e)
 
   abbrev Right : List (Association Use) → List ℕ → Type 0
   Right as' ns = AsMany (length as') ns × (length as' ≡ rule.discriminants r)
@@ -113,8 +148,8 @@ module _ (r : Root) (has : (name : List ℕ) → IfSome (HasDiscriminant r) (dis
       named e (Some ns) h = (h, sym e ∙ (positional_of r).1.1)
 
       by_form : (b : Bool) → marks.discriminant_count r ≡ length as' → IfSome (Right as') (if b then Some (marks.numbers_on [] (length as') 0) else marks.named_on (Discriminants r) (Some []) as')
-      by_form true e = subst (λ n. (EachHas r (marks.numbers_on [] n 0) × (length (marks.numbers_on [] n 0) ≡ n)) × (n ≡ rule.discriminants r)) e (((positional_of r).0, (positional_of r).1.0), (positional_of r).1.1)
-      by_form false e = let none : 0 + length as' ≡ length as' = omega arith in named e (marks.named_on (Discriminants r) (Some []) as') (subst (λ n. IfSome (AsMany n) (marks.named_on (Discriminants r) (Some []) as')) none (named_has [] as' tt))
+      by_form true e = subst (λ n. ((EachHas r (marks.numbers_on [] n 0) × Once (marks.numbers_on [] n 0)) × (length (marks.numbers_on [] n 0) ≡ n)) × (n ≡ rule.discriminants r)) e (((positional_of r).0, (positional_of r).1.0), (positional_of r).1.1)
+      by_form false e = let none : 0 + length as' ≡ length as' = omega arith in named e (marks.named_on (Discriminants r) (Some []) as') (subst (λ n. IfSome (AsMany n) (marks.named_on (Discriminants r) (Some []) as')) none (named_has [] as' (tt, tt)))
 
       by_count : (b : Bool) → nat_eq (marks.discriminant_count r) (length as') ≡ b → IfSome (Right as') (if b then (if marks.all_positional as' then Some (marks.numbers_on [] (length as') 0) else marks.named_on (Discriminants r) (Some []) as') else None)
       by_count true h = let e : marks.discriminant_count r ≡ length as' = grind (arith, nat_tests) in by_form (marks.all_positional as') e
@@ -124,6 +159,11 @@ module _ (r : Root) (has : (name : List ℕ) → IfSome (HasDiscriminant r) (dis
   at_has [] as' h = tt
   at_has (n ∷ ns) [] h = tt
   at_has (n ∷ ns) (a ∷ as') h = (h.0, at_has ns as' h.1)
+
+at_positions : (ns : List ℕ) (as' : List (Association Use)) → length ns ≡ length as' → map (λ (p : ℕ × Association Use). p.0) (decl.discriminants_at ns as') ≡ ns
+at_positions [] as' h = refl
+at_positions (n ∷ ns) [] h = absurd (cc)
+at_positions (n ∷ ns) (a ∷ as') h = let same : length ns ≡ length as' = omega (arith, h) in ap (λ ms. n ∷ ms) (at_positions ns as' same)
 
 at_length : (ns : List ℕ) (as' : List (Association Use)) → length ns ≡ length as' → length (decl.discriminants_at ns as') ≡ length as'
 at_length [] [] h = refl
@@ -135,7 +175,7 @@ at_length (n ∷ ns) (a ∷ as') h = let same : length ns ≡ length as' = omega
 
 module _ (k : Setting) (env : Frames) (tables : Tables) (sound : Sound k env tables) where
   abbrev AllGiven : Root → List Checked_association → Type 0
-  AllGiven r as' = Given k env r as' × (length as' ≡ rule.discriminants r)
+  AllGiven r as' = (Given k env r as' × rule.EachOnce as') × (length as' ≡ rule.discriminants r)
 
   abbrev pub GivenFor : Option Ty → List Checked_association → Type 0
   GivenFor None as' = Unit {0}
@@ -152,13 +192,13 @@ module _ (k : Setting) (env : Frames) (tables : Tables) (sound : Sound k env tab
   discriminants_right : (place : Span) (r : Root) (as' : List (Association Use)) → Gives (AllGiven r) (decl.discriminants_by place (marks.positions (Discriminants r) as') as' tables)
   discriminants_right place r as' = by_positions (marks.positions (Discriminants r) as') (positions_right r (discriminant_is k env tables sound r) as')
     where
-      longer : (ns : List ℕ) (o : Option (List Checked_association)) → length ns ≡ length as' → length as' ≡ rule.discriminants r → IfSome (λ cs. Given k env r cs × (length cs ≡ length (decl.discriminants_at ns as'))) o → IfSome (AllGiven r) o
-      longer ns None e g h = tt
-      longer ns (Some cs) e g h = (h.0, h.1 ∙ at_length ns as' e ∙ g)
+      longer : (ns : List ℕ) (o : Option (List Checked_association)) → length ns ≡ length as' → length as' ≡ rule.discriminants r → Once ns → IfSome (λ cs. Given k env r cs × (length cs ≡ length (decl.discriminants_at ns as'))) o → IfSome (λ cs. map (λ (a : Checked_association). a.position) cs ≡ map (λ (p : ℕ × Association Use). p.0) (decl.discriminants_at ns as')) o → IfSome (AllGiven r) o
+      longer ns None e g once h i = tt
+      longer ns (Some cs) e g once h i = ((h.0, each_once cs (subst Once (sym (i ∙ at_positions ns as' e)) once)), h.1 ∙ at_length ns as' e ∙ g)
 
       by_positions : (p : Option (List ℕ)) → IfSome (Right r (discriminant_is k env tables sound r) as') p → Gives (AllGiven r) (decl.discriminants_by place p as' tables)
       by_positions None h n = wrong_behind (AllGiven r) _ place (each (decl.anything tables) (Some []) as' n)
-      by_positions (Some ns) h n = longer ns (each (decl.discriminant tables) (Some []) (decl.discriminants_at ns as') n).0 h.0.1 h.1 (discriminants_good k env tables sound r (decl.discriminants_at ns as') (at_has r (discriminant_is k env tables sound r) ns as' h.0.0) n)
+      by_positions (Some ns) h n = longer ns (each (decl.discriminant tables) (Some []) (decl.discriminants_at ns as') n).0 h.0.1 h.1 h.0.0.1 (discriminants_good k env tables sound r (decl.discriminants_at ns as') (at_has r (discriminant_is k env tables sound r) ns as' h.0.0.0) n) (discriminants_stand k env tables sound (decl.discriminants_at ns as') n)
 
   pub given_right : (place : Span) (t : Option Ty) (as' : List (Association Use)) → Gives (GivenFor t) (decl.discriminants_given place t as' tables)
   given_right place None as' n = any_value (decl.discriminants_given place None as' tables n).0
@@ -185,7 +225,7 @@ module _ (k : Setting) (env : Frames) (tables : Tables) (sound : Sound k env tab
 
   pool_right : (n t : ℕ) (as' : List Checked_association) (o : Option RecordEntry) → slice_get tables.records t ≡ o → marks.is_pool_root (root_of o) ≡ true → InView k env (ty.Record t) → SlotFor n (Some (ty.Record t)) → AllGiven (root_of o) as' → Elaborated k env (made.Pool n t as')
   pool_right n t as' None e h v names g = absurd (cc)
-  pool_right n t as' (Some r) e h v names g = rule.pool (rule.fills names) v (sound.types.rooted t r e) (same_pools r.root h) g.1 g.0
+  pool_right n t as' (Some r) e h v names g = rule.pool (rule.fills names) v (sound.types.rooted t r e) (same_pools r.root h) g.1 g.0.1 g.0.0
 
   item_right : (n : ℕ) (t : Ty) (as' : List Checked_association) (v : Option Expr) → InView k env t → GivenFor (Some t) as' → Perhaps k env v t → SlotFor n (Some t) → Elaborated k env (decl.object_item tables t n as' v)
   item_right n (ty.Record t) as' v i g p names = by_pool (marks.is_pool tables (ty.Record t)) refl
@@ -214,7 +254,7 @@ told_still false which place d = still_self d
 
 names_still : (ns : List Definition) (d : Draft) → Still d (decl.names_kept ns d)
 names_still [] d = still_self d
-names_still (n ∷ ns) d = still_further d (decl.name_kept n d) (decl.names_kept ns (decl.name_kept n d)) (told_still (is_given (decl.operation_named n.identifier.text)) _ n.identifier.span d) (names_still ns (decl.name_kept n d))
+names_still (n ∷ ns) d = still_further d (decl.name_kept n d) (decl.names_kept ns (decl.name_kept n d)) (told_still (is_given (operation_named n.identifier.text)) _ n.identifier.span d) (names_still ns (decl.name_kept n d))
 
 waits_still : (o : Order) (place : Span) (t : Option Ty) (d : Draft) → Still d (decl.wait_as o place t d)
 waits_still order.BeforeBody place None d = still_noted d d.returning _ d.notes
@@ -226,7 +266,7 @@ value_still : (place : Span) (o : Objects Definition Use) (name : Span) (t : Opt
 value_still place o name t d =
     let b = decl.is_constant o.constancy && not (is_given o.value) in
     let e = fault_when b rule_of.Type place d in
-    still_further d e (decl.value_kept place o name t d) (told_still b rule_of.Type place d) (told_still (decl.limited_as d.tables t && is_given o.value) rule_of.Limited name e)
+    still_further d e (decl.value_kept place o name t d) (told_still b rule_of.Type place d) (told_still ((decl.limited_as d.tables t || marks.is_root_pool o.mark) && is_given o.value) rule_of.Limited name e)
 
 pub elaborated_joined : (k : Setting) (env : Frames) (is' more : List Checked_item) → ElaboratedEach k env is' → ElaboratedEach k env more → ElaboratedEach k env (is' ++ more)
 elaborated_joined k env [] more rule.no_more_items h = h

@@ -1,5 +1,5 @@
 -- Whole programs are well typed: the setting that is found, the library's types, the main procedure.
-use Rattle.std.proofs.Common.{arith, ◌≡◌, ◌≤◌, refl, sym, ap, ◌∙◌, subst, ℕ, zero, suc, false, List, [], ◌∷◌, ◌++◌, map, length, slice_get, Option, Some, None, Ok, inl, inr}
+use Rattle.std.proofs.Common.{arith, ◌≡◌, ◌≤◌, refl, sym, ap, ◌∙◌, subst, ℕ, zero, suc, Bool, true, false, List, [], ◌∷◌, ◌++◌, map, length, slice_get, Option, Some, None, Ok, inl, inr}
 use Rattle.std.proofs.lemmas.List.{append-nil, append_assoc, nil_from_length, length-append}
 use Rattle.ctl_tree.specs.declared.span.Span.{Span}
 use Rattle.ctl_tree.specs.declared.fault.Fault.{Fault}
@@ -8,6 +8,8 @@ use Rattle.ctl_program.specs.declared.types.AccessType.{AccessType}
 use Rattle.ctl_program.specs.declared.types.Component.{Component}
 use Rattle.ctl_program.specs.declared.types.Operations.{Operations}
 use Rattle.ctl_program.specs.declared.types.RecordType.{RecordType}
+use Rattle.ctl_program.specs.declared.types.Root.{Root}
+use Rattle.ctl_program.specs.declared.types.Root.TheVariants as root
 use Rattle.ctl_program.specs.declared.types.Ty.{Ty}
 use Rattle.ctl_program.specs.declared.types.Ty.TheVariants as ty
 use Rattle.ctl_program.specs.declared.types.Var.{Var}
@@ -31,15 +33,16 @@ use Rattle.ctl_draft.specs.declared.draft.Around.{Around}
 use Rattle.ctl_draft.specs.declared.draft.Draft.{Draft}
 use Rattle.ctl_draft.specs.declared.draft.Giving.TheVariants as giving
 use Rattle.ctl_draft.specs.declared.draft.Routine.{Routine}
-use Rattle.ctl_declarations.specs.Declarations.{name_kept, operation_named}
-use Rattle.ctl_draft.specs.Operations.{user_operation, operation_formals}
+use Rattle.ctl_declarations.specs.Declarations.{name_kept}
+use Rattle.ctl_resolve.specs.Library.{operation_named}
+use Rattle.ctl_draft.specs.Operations.{provides, user_operation, operation_formals}
 use Rattle.ctl_declarations.specs.Types.{is_given}
 use Rattle.ctl_types.specs.Elaboration as spec
 use Rattle.ctl_types.specs.Elaboration.{access_types_on, access_type_to, components_on, subprograms_on, subprogram_with, library_records, library_state, library_states, library_components, record_types, record_type_of, checked_of, checked_with, access_types, or_nothing, verdict_by, Elaborates}
-use Rattle.ctl_well_typed.specs.Setting.{InOut, Formal, Collection, Names, Frame, Frames, Encloses, Signature, Setting, InView}
-use Rattle.ctl_well_typed.specs.Types.{underived}
+use Rattle.ctl_well_typed.specs.Setting.{InOut, Formal, Holding, Declared, Collection, Names, slot, Frame, Frames, Encloses, Signature, Setting, InView}
+use Rattle.ctl_well_typed.specs.Types.{HasRoot, HasSubpools, of_mark_pool, underived}
 use Rattle.ctl_well_typed.specs.Programs as program
-use Rattle.ctl_well_typed.specs.Programs.{WellTyped, SettingFits, RecordFine, AccessFine, SubprogramFine, Overrides, Overridden, formal}
+use Rattle.ctl_well_typed.specs.Programs.{WellTyped, SettingFits, RecordFine, AccessFine, SubprogramFine, Overrides, Overridden, OnlyWhere, Provided, is_tagged, may_adjust, is_block_pool, formal}
 use Rattle.ctl_well_typed.specs.Statements as rule
 use Rattle.ctl_sound.specs.Known.{IfSome}
 use Rattle.ctl_sound.specs.Law.{ProgramWellTyped}
@@ -48,7 +51,7 @@ use Rattle.ctl_sound.proofs.Plain.{every_body}
 use Rattle.ctl_sound.specs.Sound.{formal_of}
 use Rattle.ctl_sound.proofs.Beginning.{beginning_sound}
 use Rattle.ctl_sound.proofs.Growing.{operations_in, unfrozen, mapped_length, behind_self, behind_length, behind_read, behind_place, From, from_start, Still, Homes}
-use Rattle.ctl_sound.proofs.Sites.{Site, around_site, here, IsHere, PoolKnown, RecordKnown, OperationKnown, BodyFor, SubprogramKnown, no_operations, operations_at, Known, Front, InTable, Back, Agrees}
+use Rattle.ctl_sound.proofs.Sites.{Site, around_site, here, IsHere, PoolKnown, NoDeeper, RecordKnown, OperationKnown, BodyFor, SubprogramKnown, no_operations, operations_at, Known, Front, InTable, Back, Agrees}
 use Rattle.ctl_sound.proofs.Fronts.{one_home}
 use Rattle.ctl_sound.proofs.Objects.{told_still}
 use Rattle.ctl_sound.proofs.Bodies.{RightMaster, DoesRight}
@@ -150,7 +153,7 @@ type_is x y h = by_designated x.designated refl h
         let same : record { collection = x.collection; designated = t; pool = spec.pool_var x.pool } ≡ y = cc in
         record { collection = sym (ap (λ z. z.collection) same); designated = e ∙ ap (λ z. designated.Known z.designated) same; pool = sym (ap (λ z. z.pool) same) }
     by_designated designated.Unclear e h = absurd (cc)
-    by_designated (designated.Awaited n) e h = absurd (cc)
+    by_designated (designated.Awaited n place) e h = absurd (cc)
 
 -- The table of record types -----------------------------------------------------------------------------
 
@@ -311,6 +314,39 @@ module _ (k : Setting) (home : Frames) (n : ℕ) (at : slice_get k.record_homes 
     deallocate = overrides Deallocate _ (λ root. refl) os.deallocate (h Deallocate);
   }
 
+  -- none but those that types of its root have
+  only : (r : Root) → HasRoot k n r → (o : OperationName) → (b : Bool) → provides r false o ≡ b → (x : Option ℕ) → ((s : ℕ) → x ≡ Some s → OperationKnown k o n s) → OnlyWhere b x
+  only r rooted o true e x h = tt
+  only r rooted o false e None h = refl
+  only r rooted o false e (Some s) h = absurd (let q = (h s refl).provided r rooted in cc)
+
+  provided : (r : Root) → HasRoot k n r → (os : Operations) → ((o : OperationName) (s : ℕ) → user_operation o os ≡ Some s → OperationKnown k o n s) → Provided r os
+  provided r rooted os h = record {
+    initialize = only r rooted Initialize (is_tagged r) (finalized r).0 os.initialize (h Initialize);
+    adjust = only r rooted Adjust (may_adjust r) (adjusted r) os.adjust (h Adjust);
+    finalize = only r rooted Finalize (is_tagged r) (finalized r).1 os.finalize (h Finalize);
+    allocate = only r rooted Allocate (is_block_pool r) (stored r).0 os.allocate (h Allocate);
+    deallocate = only r rooted Deallocate (is_block_pool r) (stored r).1 os.deallocate (h Deallocate);
+  }
+    where
+      finalized : (r : Root) → (provides r false Initialize ≡ is_tagged r) × (provides r false Finalize ≡ is_tagged r)
+      finalized root.Untagged = (refl, refl)
+      finalized root.Controlled = (refl, refl)
+      finalized root.BlockPool = (refl, refl)
+      finalized root.MarkPool = (refl, refl)
+
+      adjusted : (r : Root) → provides r false Adjust ≡ may_adjust r
+      adjusted root.Untagged = refl
+      adjusted root.Controlled = refl
+      adjusted root.BlockPool = refl
+      adjusted root.MarkPool = refl
+
+      stored : (r : Root) → (provides r false Allocate ≡ is_block_pool r) × (provides r false Deallocate ≡ is_block_pool r)
+      stored root.Untagged = (refl, refl)
+      stored root.Controlled = (refl, refl)
+      stored root.BlockPool = (refl, refl)
+      stored root.MarkPool = (refl, refl)
+
 -- The verdict (10.1.1) -----------------------------------------------------------------------------------------------
 
 verdict_known : (place : Span) (f g : Option Fault) (d : Draft) (p : Checked) → Ok p ≡ verdict_by place f g d → checked_of d ≡ Some p
@@ -353,6 +389,13 @@ parts_of d p h = by_accesses (access_types d.tables.states.accesses) refl (spec.
     }
 
 -- Whole programs -----------------------------------------------------------------------------------------------------
+
+-- a slot is for one thing
+one_slot : (env : Frames) (v : Var) (g h : Holding) → Names env v g → Names env v h → g ≡ h
+one_slot env _ g h (slot {level = l} {number = n} {f = f} a b) (slot {f = e} c d) = one_frame f e a b c d
+  where
+    one_frame : (f e : Frame) → slice_get env l ≡ Some f → slice_get f n ≡ Some g → slice_get env l ≡ Some e → slice_get e n ≡ Some h → g ≡ h
+    one_frame f e a b c d = let same : f ≡ e = cc in let there = subst (λ x. slice_get x n ≡ Some g) same b in cc
 
 known_same_type : (t u : Ty) → designated.Known t ≡ designated.Known u → t ≡ u
 known_same_type t u h = cc
@@ -423,7 +466,7 @@ module _ (t : Tree Definition Use) (names uses : Option Fault) (right : DoesRigh
     accesses = λ a x e.
         let c = giving_at with_its_type end.tables.states.accesses accs given_types a x e in
         let q = type_is x c.given c.gives in
-        record { is = c.given; found = c.found; collection = q.collection; designated = λ u h. known_same_type c.given.designated u (sym q.designated ∙ h) };
+        record { is = c.given; found = c.found; collection = q.collection; designated = λ u h. known_same_type c.given.designated u (sym q.designated ∙ h); pool = λ p h. q.pool ∙ ap spec.pool_var h };
   }
 
   library_table : (n : ℕ) (r : RecordEntry) → slice_get library_records n ≡ Some r → InTable k n r (Some [])
@@ -532,6 +575,7 @@ module _ (t : Tree Definition Use) (names uses : Option Fault) (right : DoesRigh
         parent = subst (λ x. program.Parent k home n x.root x.parent) own (subst (λ h. program.Parent k h n q.is.root q.is.parent) here' q.parent);
         own = subst (λ x. program.Added k home n x.own) own (subst (λ h. program.Added k h n q.is.own) here' q.added);
         operations = overridden k home n f r.operations (λ o s x. at_end.operations o n s (ap (user_operation o) (sym row.operations) ∙ x));
+        provided = provided k home n f r.root (record { is = r; found = g; rooted = refl }) r.operations (λ o s x. at_end.operations o n s (ap (user_operation o) (sym row.operations) ∙ x));
       }
     where
       one_record : (x y : RecordType) (o : Option RecordType) → o ≡ Some x → o ≡ Some y → x ≡ y
@@ -567,6 +611,18 @@ module _ (t : Tree Definition Use) (names uses : Option Fault) (right : DoesRigh
   pooled home None h = program.standard
   pooled home (Some p) h = let q = h p refl in program.from_pool q.names q.rooted q.pool
 
+  no_deeper : (home : Frames) (level : ℕ) (o : Option (Var × ℕ)) (v : Var) → spec.pool_var o ≡ Some v → HasSubpools k home (Some v) → ((p : Var × ℕ) → o ≡ Some p → PoolKnown k home p) → ((p : Var × ℕ) → o ≡ Some p → NoDeeper k level p) → level ≤ v.level
+  no_deeper home level None v e h known deep = absurd (cc)
+  no_deeper home level (Some p) v e h known deep =
+      let same : p.0 ≡ v = cc in
+      subst (λ w. level ≤ w.level) same (deep p refl (marked home p (subst (λ w. HasSubpools k home (Some w)) (sym same) h) (known p refl)))
+    where
+      one_holding : (t u : ℕ) → Declared (ty.Record t) ≡ Declared (ty.Record u) → t ≡ u
+      one_holding t u e = cc
+
+      marked : (home : Frames) (p : Var × ℕ) → HasSubpools k home (Some p.0) → PoolKnown k home p → HasRoot k p.1 root.MarkPool
+      marked home p (of_mark_pool {t = t} names rooted) q = subst (λ u. HasRoot k u root.MarkPool) (one_holding t p.1 (one_slot home p.0 (Declared (ty.Record t)) (Declared (ty.Record p.1)) names q.names)) rooted
+
   each_access : (n : ℕ) (x : AccessType) (home : Frames) → slice_get checked.accesses n ≡ Some x → slice_get k.access_homes n ≡ Some home → AccessFine k n x home
   each_access n x home e f =
       let g = given_at with_its_type end.tables.states.accesses accs given_types n x e in
@@ -578,6 +634,7 @@ module _ (t : Tree Definition Use) (names uses : Option Fault) (right : DoesRigh
         collection = subst (λ h. Names h x.collection (Collection n)) here' (subst (λ v. Names q.home v (Collection n)) (sym says.collection) q.names);
         designated = subst (λ h. InView k h x.designated) here' (q.designated x.designated says.designated).1;
         pool = subst (λ o. program.Pooled k home o) (sym says.pool) (pooled home g.from.pool (λ p e. subst (λ h. PoolKnown k h p) here' (q.pool p e)));
+        subpools = λ v e h. subst (λ l. l ≤ v.level) (q.own_level ∙ ap length here') (no_deeper home g.from.level g.from.pool v (sym says.pool ∙ e) h (λ p i. subst (λ z. PoolKnown k z p) here' (q.pool p i)) q.subpools);
       }
 
   pub checked_well_typed : WellTyped checked

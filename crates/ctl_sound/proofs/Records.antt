@@ -32,7 +32,8 @@ use Rattle.ctl_typing.specs.Lookup.{root_of}
 use Rattle.ctl_draft.specs.declared.draft.Around.{Around}
 use Rattle.ctl_draft.specs.declared.draft.Draft.{Draft}
 use Rattle.ctl_draft.specs.declared.draft.Enclosing.{Enclosing}
-use Rattle.ctl_declarations.specs.Declarations.{name_kept, operation_named}
+use Rattle.ctl_declarations.specs.Declarations.{name_kept}
+use Rattle.ctl_resolve.specs.Library.{operation_named}
 use Rattle.ctl_draft.specs.Draft.{asking, asked, declare, enter, is_declared_in, with_entries}
 use Rattle.ctl_declarations.specs.Declarations as spec
 use Rattle.ctl_types.specs.Elaboration.{surely}
@@ -209,12 +210,12 @@ pub record ParentKnown (s : Site) (d : Draft) (root : Root) (parent : Option ℕ
   pub inherited : List Component
   pub count : length inherited ≡ types.inherited_count (types.on_parent d.tables parent)
   pub components : (is : RecordType) → slice_get s.k.records (length d.tables.records) ≡ Some is → is.parent ≡ parent → Components s.k (length d.tables.records) (inherited ++ is.own)
-  pub operations : slice_get s.k.record_homes (length d.tables.records) ≡ Some (around_site s) → (is : RecordType) → slice_get s.k.records (length d.tables.records) ≡ Some is → is.parent ≡ parent →
+  pub operations : slice_get s.k.record_homes (length d.tables.records) ≡ Some (around_site s) → (is : RecordType) → slice_get s.k.records (length d.tables.records) ≡ Some is → is.root ≡ root → is.parent ≡ parent →
       (o : OperationName) (n : ℕ) → user_operation o (operations_of (types.state_on d.tables parent)) ≡ Some n → OperationKnown s.k o (length d.tables.records) n
 
 module _ (a : Around) (within : Enclosing) (root : Root) (limited : Limitation) (cs : List (Components_of Use)) (base : Draft) where
   abbrev judged : Option (List Component) × Draft
-  judged = types.components within cs base
+  judged = types.awaited_kept a within.number root (types.components within cs base)
 
   abbrev own_entry : RecordEntry
   own_entry = types.record_entry a root limited within.parent judged.1
@@ -223,7 +224,7 @@ module _ (a : Around) (within : Enclosing) (root : Root) (limited : Limitation) 
   m = length base.tables.records
 
   judged_only : Only base judged.1
-  judged_only = components_only within cs base
+  judged_only = let e = (types.components within cs base).1 in ap (λ (z : Draft). record z { notes = (accessing.no_pool_awaited a within.number root e).notes }) (components_only within cs base)
 
   same_tables : judged.1.tables ≡ base.tables
   same_tables = ap (λ z. z.tables) judged_only
@@ -257,7 +258,7 @@ module _ (a : Around) (within : Enclosing) (root : Root) (limited : Limitation) 
           count = count' ∙ ap (λ t. types.last_position (types.inherited_count (types.on_parent t within.parent)) judged.1.own) (sym same_tables);
           own = λ name j t e. own_leads s.k env p.inherited x.own c first all name j t (aligned_found s.k env m name c judged.1.own x.own j t beside e);
         };
-        operations = λ o n e. p.operations home own x.found refl o n (ap (λ t. user_operation o (operations_of (types.state_on t within.parent))) (sym same_tables) ∙ e);
+        operations = λ o n e. p.operations home own x.found refl refl o n (ap (λ t. user_operation o (operations_of (types.state_on t within.parent))) (sym same_tables) ∙ e);
       }
     where
       own_leads : (k : Setting) (env : Frames) (inherited ys : List Component) (c : ℕ) → length inherited ≡ c → Components k m (inherited ++ ys) → (name : List ℕ) (j : ℕ) (t : Ty) → FoundOwn k env m c ys j t → Reaches k (ty.Record m) (step.Component m j) t × InView k env t
@@ -283,7 +284,7 @@ underived_known s d root f = record {
   inherited = [];
   count = refl;
   components = λ is' found parent. underived found parent;
-  operations = λ home is' found parent o n e. absurd (let no = no_user o in cc);
+  operations = λ home is' found root parent o n e. absurd (let no = no_user o in cc);
 }
   where
     no_user : (o : OperationName) → user_operation o no_operations ≡ None
@@ -315,9 +316,9 @@ module _ (s : Site) (d : Draft) (f : Front s d) (root : Root) (p : ℕ) (has : H
   abbrev parent_is : RecordKnown s.k p r
   parent_is = f.known.records p r found
 
-  inherited_known : slice_get s.k.record_homes (length d.tables.records) ≡ Some env → (is' : RecordType) → slice_get s.k.records (length d.tables.records) ≡ Some is' → is'.parent ≡ Some p →
+  inherited_known : slice_get s.k.record_homes (length d.tables.records) ≡ Some env → (is' : RecordType) → slice_get s.k.records (length d.tables.records) ≡ Some is' → is'.root ≡ root → is'.parent ≡ Some p →
       (o : OperationName) (n : ℕ) → user_operation o (operations_of (slice_get d.tables.states.records p)) ≡ Some n → OperationKnown s.k o (length d.tables.records) n
-  inherited_known home is' at parent o n e =
+  inherited_known home is' at own_root parent o n e =
       let q = f.known.operations o p n (ap (user_operation o) (sym (read_at d.tables.states.records p)) ∙ e) in
       let same = one_home q.home has.home (slice_get s.k.record_homes p) q.at_home has.at_home in
       record {
@@ -330,7 +331,11 @@ module _ (s : Site) (d : Draft) (f : Front s d) (root : Root) (p : ℕ) (has : H
         descends = from_parent at parent q.descends;
         formals = q.formals;
         result = q.result;
+        provided = λ u h. q.provided u (record { is = parent_is.is; found = parent_is.found; rooted = parent_is.rooted ∙ sym rooted ∙ sym own_root ∙ ap (λ y. y.root) (one_type is' h.is (slice_get s.k.records (length d.tables.records)) at h.found) ∙ h.rooted });
       }
+    where
+      one_type : (x y : RecordType) (o : Option RecordType) → o ≡ Some x → o ≡ Some y → x ≡ y
+      one_type x y o h i = cc
 
   derived_known : ParentKnown s d root (Some p)
   derived_known = record {

@@ -29,7 +29,6 @@ use Rattle.ctl_typing.specs.declared.table.Entry.TheVariants as entry
 use Rattle.ctl_typing.specs.declared.table.Profile.{Profile}
 use Rattle.ctl_typing.specs.declared.table.RecordEntry.{RecordEntry}
 use Rattle.ctl_typing.specs.declared.found.Asked.TheVariants as asking
-use Rattle.ctl_typing.specs.declared.found.Place.{Place}
 use Rattle.ctl_typing.specs.declared.found.Found.{Found}
 use Rattle.ctl_typing.specs.declared.found.Found.TheVariants as is
 use Rattle.ctl_typing.specs.Judgement.{Judgement, known, but, wrong, noting, ◌>>=◌, both, following}
@@ -48,10 +47,10 @@ use Rattle.ctl_well_typed.specs.Expressions.{Typed, Denotes, Fits, FitEach, View
 use Rattle.ctl_well_typed.specs.Statements as does
 use Rattle.ctl_well_typed.specs.Statements.{Around, Puts, Done}
 use Rattle.ctl_sound.specs.Known.{IfSome, Gives, All}
-use Rattle.ctl_sound.specs.Sound.{formal_of, EntryFine, ProfileFine, OperationFine, Sound, PartOf, FoundFine, ScalarUnlessNamed, Fine, Good}
-use Rattle.ctl_sound.proofs.Known.{next, tested, both_give, following_give}
+use Rattle.ctl_sound.specs.Sound.{formal_of, EntryFine, ProfileFine, OperationFine, Sound, FoundFine, ScalarUnlessNamed, Fine, Good}
+use Rattle.ctl_sound.proofs.Known.{next, tested, both_give, following_give, followed_gives}
 use Rattle.ctl_sound.proofs.Tests.{same_is, covers_scalar}
-use Rattle.ctl_sound.proofs.Names.{RightSuffix, name_good, handed_on_good, as_variable_good, settled_good, settled_found, actuals_good}
+use Rattle.ctl_sound.proofs.Names.{RightSuffix, VariableFine, variable_of_good, name_good, handed_on_good, as_variable_good, settled_good, settled_found, actuals_good}
 use Rattle.ctl_sound.proofs.Operators.{value_as_good}
 
 descends_on : {k : Setting} {u t s : ℕ} → Descends k u t → Descends k t s → Descends k u s
@@ -88,22 +87,9 @@ module _ (k : Setting) (env : Frames) (tables : Tables) (sound : Sound k env tab
   abbrev Viewed : Ty → Checked_name → Type 0
   Viewed t x = Views k env x t
 
-  written_part_good : (place : Span) (t s : Ty) (p : Place) → PartOf k env p.head p.steps s → Covers k p.ty s → Gives (Viewed t) (spec.written_part place t p)
-  written_part_good place t s p w c = tested (Viewed t) (same t p.ty) (expr.as_variable place p.mutability (expr.name_of p)) (wrong fault.Type place)
-      (λ h. as_variable_good k env tables sound (Viewed t) place p.mutability (expr.name_of p) (rule.view (subst (λ u. Covers k u s) (sym (same_is t p.ty h)) c) (name_good k env tables sound p.head p.steps s w)))
-      (λ s. tt)
-
-  written_name_good : (place : Span) (t : Ty) (f : Found) → FoundFine k env f → Gives (Viewed t) (spec.written_name place t f)
-  written_name_good place t (is.Part p) h = written_part_good place t p.ty p h.part same_type
-  written_name_good place t (is.View p) h = written_part_good place t h.own p h.part h.covers
-  written_name_good place t _ h = λ s. tt
-
-  writing_by_good : (place : Span) (t : Ty) (o : Option (Tables → Judgement Found)) → Named o → Gives (Viewed t) (spec.writing_by tables place t o)
-  writing_by_good place t None h = λ s. tt
-  writing_by_good place t (Some name) h = next (FoundFine k env) (Viewed t) (name tables) (spec.written_name place t) h (written_name_good place t)
-
   writing_good : (t : Ty) (x : Sense) → Right x → Gives (Viewed t) (spec.writing tables t x)
-  writing_good t x g = writing_by_good x.place t x.bare g.bare
+  writing_good t x g = next (VariableFine k env tables sound t) (Viewed t) (expr.variable_of tables t x) (λ p. known (expr.name_of p)) (variable_of_good k env tables sound t x g)
+      (λ p h s. rule.view (subst (λ u. Covers k u h.own) (sym h.typed) h.covers) (name_good k env tables sound p.head p.steps h.own h.part))
 
   scalar_viewed : (t : Ty) (x : Checked_name) → is_scalar t ≡ true → Views k env x t → Denotes k env x t
   scalar_viewed t x h (rule.view c d) = subst (λ u. Denotes k env x u) (covers_scalar k t _ h c) d
@@ -158,7 +144,7 @@ module _ (k : Setting) (env : Frames) (tables : Tables) (sound : Sound k env tab
   source_of_record_good place t x (Some name) e v g h = record_from_good place t name h
 
   source_good : (t : Ty) (x : Sense) → InView k env t → Right x → Gives (SourceFine t) (spec.source tables (Some t) x)
-  source_good (ty.Record t) x v g = source_of_record_good x.place t x x.named refl v g g.named
+  source_good (ty.Record t) x v g = source_of_record_good x.within t x x.named refl v g g.named
   source_good ty.Integer x v g = value_source_good ty.Integer x refl v g
   source_good ty.Count x v g = value_source_good ty.Count x refl v g
   source_good ty.Boolean x v g = value_source_good ty.Boolean x refl v g
@@ -295,7 +281,7 @@ module _ (k : Setting) (env : Frames) (tables : Tables) (sound : Sound k env tab
   operation_of_good a place o xs (ty.Access t) v g = λ s. tt
 
   operation_with_good : (a : Around) (place : Span) (o : OperationName) (xs : Option (List Sense)) → IfSome (All Right) xs → Gives (Does a) (spec.operation_with tables place o xs)
-  operation_with_good a place o (Some (x ∷ more)) g = next (InView k env) (Does a) (spec.operand_type tables x) (spec.operation_of tables place o (x ∷ more)) (operand_by_good x x.bare g.0 g.0.bare) (λ t v. operation_of_good a place o (x ∷ more) t v g)
+  operation_with_good a place o (Some (x ∷ more)) g = followed_gives (InView k env) (Does a) (spec.operand_type tables x) (spec.operation_for tables place o (x ∷ more)) (operand_by_good x x.bare g.0 g.0.bare) (λ t v. operation_of_good a place o (x ∷ more) t v g) (λ s. tt)
   operation_with_good a place o (Some []) g = λ s. tt
   operation_with_good a place o None g = λ s. tt
 

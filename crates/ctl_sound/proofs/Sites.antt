@@ -7,6 +7,7 @@ use Rattle.ctl_program.specs.declared.types.Component.{Component}
 use Rattle.ctl_program.specs.declared.types.Operations.{Operations}
 use Rattle.ctl_program.specs.declared.types.RecordType.{RecordType}
 use Rattle.ctl_program.specs.declared.types.Root.{Root}
+use Rattle.ctl_program.specs.declared.types.Root.TheVariants as root
 use Rattle.ctl_program.specs.declared.types.Var.{Var}
 use Rattle.ctl_program.specs.declared.statement.Master.{Master}
 use Rattle.ctl_program.specs.declared.expression.Step.TheVariants as step
@@ -21,7 +22,7 @@ use Rattle.ctl_draft.specs.declared.draft.Draft.{Draft}
 use Rattle.ctl_draft.specs.declared.draft.Giving.{Giving}
 use Rattle.ctl_draft.specs.declared.draft.Giving.TheVariants as giving
 use Rattle.ctl_draft.specs.declared.draft.Routine.{Routine}
-use Rattle.ctl_draft.specs.Operations.{user_operation, operations_of, operation_formals}
+use Rattle.ctl_draft.specs.Operations.{provides, user_operation, operations_of, operation_formals}
 use Rattle.ctl_well_typed.specs.Setting.{Declared, OfFormal, Collection, Names, Frame, Frames, Encloses, Signature, Setting, InView}
 use Rattle.ctl_well_typed.specs.Types.{Components, Descends, HasRoot, Leads}
 use Rattle.ctl_well_typed.specs.Programs.{Parent, Added, FormalsInView, Results}
@@ -99,6 +100,8 @@ pub record OperationKnown (k : Setting) (o : OperationName) (t s : ℕ) : Type 0
   pub descends : Descends k root t
   pub formals : is.formals ≡ map formal_of (operation_formals o (ty.Record root))
   pub result : is.result ≡ None
+  -- types of its root have it
+  pub provided : (r : Root) → HasRoot k t r → provides r false o ≡ true
 
 -- a body for this signature
 abbrev pub BodyFor : Setting → Signature → Master → Type 0
@@ -128,6 +131,10 @@ pub record PoolKnown (k : Setting) (home : Frames) (p : Var × ℕ) : Type 0 whe
   pub rooted : HasRoot k p.1 root
   pub pool : is_pool root ≡ true
 
+-- an access type of this level with this pool is no deeper than the pool, where that has subpools (13.11.4)
+abbrev pub NoDeeper : Setting → ℕ → Var × ℕ → Type 0
+NoDeeper k level p = HasRoot k p.1 root.MarkPool → level ≤ p.0.level
+
 -- an access type of the tables is in the program as far as it is known, and has its collection
 pub record AccessKnown (k : Setting) (a : ℕ) (x : AccessEntry) : Type 0 where
   pub is : AccessType
@@ -140,6 +147,8 @@ pub record AccessKnown (k : Setting) (a : ℕ) (x : AccessEntry) : Type 0 where
   pub names : Names home x.collection (Collection a)
   pub designated : (t : Ty) → x.designated ≡ designated.Known t → (is.designated ≡ t) × InView k home t
   pub pool : (p : Var × ℕ) → x.pool ≡ Some p → PoolKnown k home p
+  pub pooled : (p : Var × ℕ) → x.pool ≡ Some p → is.pool ≡ Some p.0
+  pub subpools : (p : Var × ℕ) → x.pool ≡ Some p → NoDeeper k x.level p
 
 -- all that is declared is right, but for types and operations that come behind
 pub record Known (k : Setting) (d : Draft) : Type 0 where
@@ -174,6 +183,7 @@ pub record InAccesses (k : Setting) (a : ℕ) (x : AccessEntry) : Type 0 where
   pub found : slice_get k.accesses a ≡ Some is
   pub collection : is.collection ≡ x.collection
   pub designated : (t : Ty) → x.designated ≡ designated.Known t → is.designated ≡ t
+  pub pool : (p : Var × ℕ) → x.pool ≡ Some p → is.pool ≡ Some p.0
 
 -- the program has what is in the tables
 pub record Back (k : Setting) (d : Draft) : Type 0 where

@@ -1,5 +1,5 @@
 -- No judgement of an expression takes a fault back.
-use Rattle.std.proofs.Common.{◌≡◌, refl, subst, ℕ, nat_eq, nat_lt, Bool, true, false, if◌then◌else◌, List, [], ◌∷◌, length, slice_get, Option, Some, None}
+use Rattle.std.proofs.Common.{◌≡◌, refl, subst, ℕ, nat_eq, nat_lt, Bool, true, false, ◌&&◌, if◌then◌else◌, List, [], ◌∷◌, length, slice_get, Option, Some, None}
 use Rattle.ctl_tree.specs.declared.span.Span.{Span}
 use Rattle.ctl_tree.specs.declared.fault.Fault.{Fault}
 use Rattle.ctl_tree.specs.declared.fault.FaultCode.{FaultCode}
@@ -8,6 +8,7 @@ use Rattle.ctl_tree.specs.Faults.{first_of, fault_at, is_before}
 use Rattle.ctl_program.specs.Library.{mark_release_pool}
 use Rattle.ctl_program.specs.declared.types.Ty.{Ty}
 use Rattle.ctl_program.specs.declared.types.Ty.TheVariants as ty
+use Rattle.ctl_program.specs.declared.types.Var.{Var}
 use Rattle.ctl_program.specs.declared.expression.Actual.{Actual}
 use Rattle.ctl_program.specs.declared.expression.Step.{Step}
 use Rattle.ctl_program.specs.declared.operators.SubpoolFunction.{SubpoolFunction}
@@ -41,9 +42,9 @@ use Rattle.ctl_typing.specs.declared.found.Head.TheVariants as head
 use Rattle.ctl_typing.specs.declared.found.Place.{Place}
 use Rattle.ctl_typing.specs.declared.found.Found.{Found}
 use Rattle.ctl_typing.specs.declared.found.Found.TheVariants as is
-use Rattle.ctl_typing.specs.Judgement.{Judgement, known, but, wrong, doing, noting, with_known, ◌>>=◌, paired, beside, both, then_beside, following, appended, each, each_on}
+use Rattle.ctl_typing.specs.Judgement.{Judgement, known, but, wrong, doing, noting, with_known, ◌>>=◌, paired, beside, both, then_beside, following, then_by, followed_by, appended, each, each_on}
 use Rattle.ctl_program.specs.declared.expression.Expr.TheVariants as e
-use Rattle.ctl_typing.specs.Lookup.{same, is_record, level_of_access, descends, designated_by, root_of, component_of}
+use Rattle.ctl_typing.specs.Lookup.{same, is_record, is_convertible, is_general, level_of, level_of_access, descends, designated_by, root_of, component_of}
 use Rattle.ctl_typing.specs.Typing as spec
 use Rattle.ctl_typing.specs.Typing.{Sense}
 use Rattle.ctl_sound.proofs.Layers.{SuffixOf}
@@ -95,6 +96,12 @@ then_clean f (a, s) k c = k a s (paired_clean a (f a s) c)
 
 pub following_stays : {A B : Type 0} (p : Judgement A) (f : Option A → Judgement B) → Stays p → ((o : Option A) → Stays (f o)) → Stays (following p f)
 following_stays p f h k n c = h n (then_clean f (p n) k c)
+
+followed_clean : {A B : Type 0} (f : Option A → Judgement B) (r : Option A × Notes) → ((o : Option A) → Stays (f o)) → Clean (then_by f r).1 → Clean r.1
+followed_clean f (a, s) k c = k a s c
+
+pub followed_stays : {A B : Type 0} (p : Judgement A) (f : Option A → Judgement B) → Stays p → ((o : Option A) → Stays (f o)) → Stays (followed_by p f)
+followed_stays p f h k n c = h n (followed_clean f (p n) k c)
 
 pub if_stays : {A : Type 0} (b : Bool) (p q : Judgement A) → Stays p → Stays q → Stays (if b then p else q)
 if_stays true p q h k = h
@@ -183,40 +190,92 @@ pub as_variable_stays : {A : Type 0} (place : Span) (m : Mutability) (a : A) →
 as_variable_stays place mutability.Variable a = known_stays a
 as_variable_stays place mutability.Constant a = but_stays fault.Mode place a
 
-written_stays : (place : Span) (m : Mode) (t : Ty) (p : Place) → Stays (spec.written place m t p)
-written_stays place m t p = if_stays (same t p.ty) (spec.as_variable place p.mutability (spec.by_name m p)) (wrong fault.Type place) (as_variable_stays place p.mutability (spec.by_name m p)) (wrong_stays Actual fault.Type place)
+-- What a name is, as a value ------------------------------------------------------------------------------
 
-written_found_stays : (place : Span) (m : Mode) (t : Ty) (f : Found) → Stays (spec.written_found place m t f)
-written_found_stays place m t (is.Part p) = written_stays place m t p
-written_found_stays place m t (is.View p) = written_stays place m t p
-written_found_stays place m t _ = wrong_stays Actual fault.Mode place
-
-written_by_stays : (tables : Tables) (place : Span) (m : Mode) (t : Ty) (o : Option (Tables → Judgement Found)) → FoundStays o → Stays (spec.written_by tables place m t o)
-written_by_stays tables place m t None h = wrong_stays Actual fault.Mode place
-written_by_stays tables place m t (Some name) h = next_stays (name tables) (spec.written_found place m t) (h tables) (written_found_stays place m t)
-
-noting_stays : {A : Type 0} (t : Ty) (a : A) → Stays (noting t a)
+pub noting_stays : {A : Type 0} (t : Ty) (a : A) → Stays (noting t a)
 noting_stays t a n h = record { early = h.early; fault = h.fault }
 
+pub fits_stays : (place : Span) (asked : Asked) (t : Typed_value) → Stays (spec.fits place asked t)
+fits_stays place asked t = if_stays (spec.meets asked t.ty) (noting t.ty t) (wrong fault.Type place) (noting_stays t.ty t) (wrong_stays Typed_value fault.Type place)
+
+pub at_level_stays : {A : Type 0} (place : Span) (m n : ℕ) (a : A) → Stays (spec.at_level place m n a)
+at_level_stays place m n a = if_stays (nat_lt n m) (but fault.Level place a) (known a) (but_stays fault.Level place a) (known_stays a)
+
+access_value_stays : (tables : Tables) (place : Span) (v : Var) (t : Ty) (asked : Asked) → Stays (spec.access_value tables place v t asked)
+access_value_stays tables place v t (asking.Exactly (ty.Access a)) =
+    if_stays (is_general (slice_get tables.states.accesses a) && spec.designates_this t (designated_by tables a)) (spec.at_level place v.level (level_of_access (slice_get tables.states.accesses a)) (record { ty = ty.Access a; value = e.Access v })) (wrong fault.Type place)
+    (at_level_stays place v.level (level_of_access (slice_get tables.states.accesses a)) (record { ty = ty.Access a; value = e.Access v })) (wrong_stays Typed_value fault.Type place)
+access_value_stays tables place v t _ = wrong_stays Typed_value fault.Type place
+
+pub value_found_stays : (tables : Tables) (place : Span) (asked : Asked) (f : Found) → Stays (spec.value_found tables place asked f)
+value_found_stays tables place asked (is.Part p) = fits_stays place asked (record { ty = p.ty; value = spec.value_at p.head p.steps p.ty })
+value_found_stays tables place asked (is.Computed t) = fits_stays place asked t
+value_found_stays tables place asked (is.Discriminant p k) = fits_stays place asked (record { ty = ty.Count; value = e.Discriminant (spec.name_of p) k })
+value_found_stays tables place asked (is.Accessed v t) = access_value_stays tables place v t asked
+value_found_stays tables place asked _ = wrong_stays Typed_value fault.Type place
+
+-- What is written to ----------------------------------------------------------------------------------------
+
+variable_part_stays : (place : Span) (t : Ty) (p : Place) → Stays (spec.variable_part place t p)
+variable_part_stays place t p = if_stays (same t p.ty) (spec.as_variable place p.mutability p) (wrong fault.Type place) (as_variable_stays place p.mutability p) (wrong_stays Place fault.Type place)
+
+value_is_no_variable : (tables : Tables) (place : Span) (t : Ty) (f : Found) → Stays (spec.value_found tables place (asking.Exactly t) f >>= spec.no_variable place)
+value_is_no_variable tables place t f = next_stays (spec.value_found tables place (asking.Exactly t) f) (spec.no_variable place) (value_found_stays tables place (asking.Exactly t) f) (λ r. wrong_stays Place fault.Mode place)
+
+variable_found_stays : (tables : Tables) (place : Span) (t : Ty) (f : Found) → Stays (spec.variable_found tables place t f)
+variable_found_stays tables place t (is.Part p) = variable_part_stays place t p
+variable_found_stays tables place t (is.View p) = variable_part_stays place t p
+variable_found_stays tables place t (is.TypeName u) = value_is_no_variable tables place t (is.TypeName u)
+variable_found_stays tables place t (is.Callable n) = value_is_no_variable tables place t (is.Callable n)
+variable_found_stays tables place t (is.Computed r) = value_is_no_variable tables place t (is.Computed r)
+variable_found_stays tables place t (is.Subpools f) = value_is_no_variable tables place t (is.Subpools f)
+variable_found_stays tables place t (is.Image u) = value_is_no_variable tables place t (is.Image u)
+variable_found_stays tables place t (is.Imaged r) = value_is_no_variable tables place t (is.Imaged r)
+variable_found_stays tables place t (is.Discriminant p i) = value_is_no_variable tables place t (is.Discriminant p i)
+variable_found_stays tables place t (is.Accessed v u) = value_is_no_variable tables place t (is.Accessed v u)
+
+variable_by_stays : (tables : Tables) (t : Ty) (x : Sense) (o : Option (Tables → Judgement Found)) → Keeps x → FoundStays o → Stays (spec.variable_by tables t x o)
+variable_by_stays tables t x None g h = next_stays (x.judged tables (asking.Exactly t)) (spec.no_variable x.place) (g.judged tables (asking.Exactly t)) (λ r. wrong_stays Place fault.Mode x.place)
+variable_by_stays tables t x (Some name) g h = next_stays (name tables >>= spec.settled tables x.place) (spec.variable_found tables x.place t) (next_stays (name tables) (spec.settled tables x.place) (h tables) (settled_stays tables x.place)) (variable_found_stays tables x.place t)
+
+pub variable_of_stays : (tables : Tables) (t : Ty) (x : Sense) → Keeps x → Stays (spec.variable_of tables t x)
+variable_of_stays tables t x g = variable_by_stays tables t x x.bare g g.bare
+
+written_by_stays : (tables : Tables) (m : Mode) (t : Ty) (x : Sense) → Keeps x → Stays (spec.variable_of tables t x >>= (λ p. known (spec.by_name m p)))
+written_by_stays tables m t x g = next_stays (spec.variable_of tables t x) (λ p. known (spec.by_name m p)) (variable_of_stays tables t x g) (λ p. known_stays (spec.by_name m p))
+
+-- What is read ----------------------------------------------------------------------------------------------
+
+record_part_stays : (place : Span) (t : Ty) (p : Place) → Stays (spec.record_part place t p)
+record_part_stays place t p = if_stays (same t p.ty) (noting t (spec.handed_on p.head p.steps p.ty)) (wrong fault.Type place) (noting_stays t (spec.handed_on p.head p.steps p.ty)) (wrong_stays Actual fault.Type place)
+
 record_found_stays : (place : Span) (t : Ty) (f : Found) → Stays (spec.record_found place t f)
-record_found_stays place t (is.Part p) = if_stays (same t p.ty) (noting t (spec.handed_on p.head p.steps p.ty)) (wrong fault.Type place) (noting_stays t (spec.handed_on p.head p.steps p.ty)) (wrong_stays Actual fault.Type place)
-record_found_stays place t (is.View p) = if_stays (same t p.ty) (noting t (spec.handed_on p.head p.steps p.ty)) (wrong fault.Type place) (noting_stays t (spec.handed_on p.head p.steps p.ty)) (wrong_stays Actual fault.Type place)
+record_found_stays place t (is.Part p) = record_part_stays place t p
+record_found_stays place t (is.View p) = record_part_stays place t p
 record_found_stays place t _ = wrong_stays Actual fault.Type place
+
+record_enclosed_stays : (place : Span) (t : Ty) (f : Found) → Stays (spec.record_enclosed place t f)
+record_enclosed_stays place t (is.Part p) = record_part_stays place t p
+record_enclosed_stays place t _ = wrong_stays Actual fault.Type place
+
+settled_name_stays : (tables : Tables) (place : Span) (name : Tables → Judgement Found) → Stays (name tables) → Stays (name tables >>= spec.settled tables place)
+settled_name_stays tables place name h = next_stays (name tables) (spec.settled tables place) h (settled_stays tables place)
 
 value_stays : (tables : Tables) (t : Ty) (x : Sense) → Keeps x → Stays (x.judged tables (asking.Exactly t) >>= spec.by_value)
 value_stays tables t x g = next_stays (x.judged tables (asking.Exactly t)) spec.by_value (g.judged tables (asking.Exactly t)) (λ r n h. h)
 
-record_by_stays : (tables : Tables) (t : Ty) (x : Sense) (o : Option (Tables → Judgement Found)) → Keeps x → FoundStays o → Stays (spec.record_by tables t x o)
-record_by_stays tables t x None g h = value_stays tables t x g
-record_by_stays tables t x (Some name) g h = next_stays (name tables >>= spec.settled tables x.place) (spec.record_found x.place t) (next_stays (name tables) (spec.settled tables x.place) (h tables) (settled_stays tables x.place)) (record_found_stays x.place t)
+record_by_stays : (tables : Tables) (t : Ty) (x : Sense) (alone named : Option (Tables → Judgement Found)) → Keeps x → FoundStays alone → FoundStays named → Stays (spec.record_by tables t x alone named)
+record_by_stays tables t x (Some alone) named g h i = next_stays (alone tables >>= spec.settled tables x.within) (spec.record_found x.within t) (settled_name_stays tables x.within alone (h tables)) (record_found_stays x.within t)
+record_by_stays tables t x None (Some name) g h i = next_stays (name tables >>= spec.settled tables x.within) (spec.record_enclosed x.within t) (settled_name_stays tables x.within name (i tables)) (record_enclosed_stays x.within t)
+record_by_stays tables t x None None g h i = value_stays tables t x g
 
 read_by_stays : (tables : Tables) (t : Ty) (x : Sense) → Keeps x → Stays (spec.read_by tables t x)
-read_by_stays tables t x g = if_stays (is_record t) (spec.record_by tables t x x.named) (x.judged tables (asking.Exactly t) >>= spec.by_value) (record_by_stays tables t x x.named g g.named) (value_stays tables t x g)
+read_by_stays tables t x g = if_stays (is_record t) (spec.record_by tables t x x.bare x.named) (x.judged tables (asking.Exactly t) >>= spec.by_value) (record_by_stays tables t x x.bare x.named g g.bare g.named) (value_stays tables t x g)
 
 actual_by_stays : (tables : Tables) (m : Mode) (t : Ty) (x : Sense) → Keeps x → Stays (spec.actual_by tables m t x)
 actual_by_stays tables mode.In t x g = read_by_stays tables t x g
-actual_by_stays tables mode.Out t x g = written_by_stays tables x.place mode.Out t x.bare g.bare
-actual_by_stays tables mode.InOut t x g = written_by_stays tables x.place mode.InOut t x.bare g.bare
+actual_by_stays tables mode.Out t x g = written_by_stays tables mode.Out t x g
+actual_by_stays tables mode.InOut t x g = written_by_stays tables mode.InOut t x g
 
 matched_stays : (tables : Tables) (fs : List FormalEntry) (xs : List Sense) → All Keeps xs → All (λ p. Stays (spec.actual_of tables p)) (spec.matched fs xs)
 matched_stays tables [] xs g = tt
@@ -232,18 +291,15 @@ called_stays tables place (Some p) xs g = next_stays (spec.actuals_of tables pla
 
 -- Conversions, functions on mark pools ------------------------------------------------------------------------
 
-pub at_level_stays : {A : Type 0} (place : Span) (m n : ℕ) (a : A) → Stays (spec.at_level place m n a)
-at_level_stays place m n a = if_stays (nat_lt n m) (but fault.Level place a) (known a) (but_stays fault.Level place a) (known_stays a)
-
-access_converted_stays : (tables : Tables) (place : Span) (a : ℕ) (r : Typed_value) → Stays (spec.converted_access tables place a r)
-access_converted_stays tables place a r = by_test (spec.is_convertible tables a r.ty)
+access_converted_stays : (tables : Tables) (place inner : Span) (a : ℕ) (r : Typed_value) → Stays (spec.converted_access tables place inner a r)
+access_converted_stays tables place inner a r = by_test (is_convertible tables a r.ty)
   where
-    by_test : (b : Bool) → Stays (if b then spec.at_level place (spec.level_of tables r.ty) (level_of_access (slice_get tables.states.accesses a)) (is.Part (spec.given_place (record { ty = ty.Access a; value = r.value }))) else wrong fault.Type place)
-    by_test true = at_level_stays place (spec.level_of tables r.ty) (level_of_access (slice_get tables.states.accesses a)) (is.Part (spec.given_place (record { ty = ty.Access a; value = r.value })))
-    by_test false = wrong_stays Found fault.Type place
+    by_test : (b : Bool) → Stays (if b then spec.at_level place (level_of tables r.ty) (level_of_access (slice_get tables.states.accesses a)) (is.Part (spec.given_place (record { ty = ty.Access a; value = r.value }))) else wrong fault.Type inner)
+    by_test true = at_level_stays place (level_of tables r.ty) (level_of_access (slice_get tables.states.accesses a)) (is.Part (spec.given_place (record { ty = ty.Access a; value = r.value })))
+    by_test false = wrong_stays Found fault.Type inner
 
 viewed_as_stays : (tables : Tables) (place : Span) (t : ℕ) (p : Place) (s : Ty) → Stays (spec.viewed_as tables place t p s)
-viewed_as_stays tables place t p (ty.Record s) = if_stays (descends tables t s) (known (is.View (spec.as_type (ty.Record t) p))) (wrong fault.Type place) (λ n h. h) (wrong_stays Found fault.Type place)
+viewed_as_stays tables place t p (ty.Record s) = if_stays (descends tables t s) (noting (ty.Record s) (is.View (spec.as_type (ty.Record t) p))) (wrong fault.Type place) (noting_stays (ty.Record s) (is.View (spec.as_type (ty.Record t) p))) (wrong_stays Found fault.Type place)
 viewed_as_stays tables place t p _ = wrong_stays Found fault.Type place
 
 viewed_stays : (tables : Tables) (place inner : Span) (t : ℕ) (f : Found) → Stays (spec.viewed tables place inner t f)
@@ -258,25 +314,12 @@ viewed_by_stays tables place inner t (Some name) h = next_stays (name tables) (s
 converted_stays : (tables : Tables) (place : Span) (t : Ty) (x : Sense) → Keeps x → Stays (spec.converted tables place t x)
 converted_stays tables place ty.Integer x g = next_stays (x.judged tables asking.Number) (spec.converted_number ty.Integer) (g.judged tables asking.Number) (λ r n h. h)
 converted_stays tables place ty.Count x g = next_stays (x.judged tables asking.Number) (spec.converted_number ty.Count) (g.judged tables asking.Number) (λ r n h. h)
-converted_stays tables place (ty.Access a) x g = next_stays (x.judged tables asking.Anything) (spec.converted_access tables place a) (g.judged tables asking.Anything) (access_converted_stays tables place a)
+converted_stays tables place (ty.Access a) x g = next_stays (x.judged tables asking.Anything) (spec.converted_access tables place x.within a) (g.judged tables asking.Anything) (access_converted_stays tables place x.within a)
 converted_stays tables place (ty.Record t) x g = viewed_by_stays tables place x.place t x.bare g.bare
 converted_stays tables place _ x g = wrong_stays Found fault.Type place
 
-subpool_in_stays : (place : Span) (which : SubpoolFunction) (p : Place) (t : Ty) → Stays (spec.subpool_in place which p t)
-subpool_in_stays place which p (ty.Record t) = by_test (nat_eq t mark_release_pool)
-  where
-    by_test : (b : Bool) → Stays (if b then spec.as_variable place p.mutability (is.Computed (record { ty = ty.Handle; value = e.Subpool which (spec.name_of p) })) else wrong fault.Type place)
-    by_test true = as_variable_stays place p.mutability (is.Computed (record { ty = ty.Handle; value = e.Subpool which (spec.name_of p) }))
-    by_test false = wrong_stays Found fault.Type place
-subpool_in_stays place which p _ = wrong_stays Found fault.Type place
-
-subpool_of_stays : (place : Span) (which : SubpoolFunction) (f : Found) → Stays (spec.subpool_of place which f)
-subpool_of_stays place which (is.Part p) = subpool_in_stays place which p p.ty
-subpool_of_stays place which _ = wrong_stays Found fault.Type place
-
-subpool_by_stays : (tables : Tables) (which : SubpoolFunction) (place : Span) (o : Option (Tables → Judgement Found)) → FoundStays o → Stays (spec.subpool_by tables which place o)
-subpool_by_stays tables which place None h = wrong_stays Found fault.Mode place
-subpool_by_stays tables which place (Some name) h = next_stays (name tables) (spec.subpool_of place which) (h tables) (subpool_of_stays place which)
+subpool_by_stays : (tables : Tables) (which : SubpoolFunction) (x : Sense) → Keeps x → Stays (spec.subpool_by tables which x)
+subpool_by_stays tables which x g = next_stays (spec.variable_of tables (ty.Record mark_release_pool) x) (λ p. known (is.Computed (record { ty = ty.Handle; value = e.Subpool which (spec.name_of p) }))) (variable_of_stays tables (ty.Record mark_release_pool) x g) (λ p n h. h)
 
 -- Selectors, attributes, suffixes --------------------------------------------------------------------------------
 
@@ -335,7 +378,7 @@ attributed_stays place a f = wrong_stays Found fault.Type place
 
 with_one_stays : (tables : Tables) (place : Span) (f : Found) (x : Sense) → Keeps x → Stays (spec.with_one tables place f x)
 with_one_stays tables place (is.TypeName t) x g = converted_stays tables place t x g
-with_one_stays tables place (is.Subpools which) x g = subpool_by_stays tables which x.place x.bare g.bare
+with_one_stays tables place (is.Subpools which) x g = subpool_by_stays tables which x g
 with_one_stays tables place (is.Image t) x g = next_stays (x.judged tables (asking.Exactly t)) spec.imaged (g.judged tables (asking.Exactly t)) (λ r n h. h)
 with_one_stays tables place _ x g = wrong_stays Found fault.Type place
 

@@ -6,6 +6,9 @@ use Rattle.std.proofs.lemmas.List.{length-append}
 use Rattle.ctl_tree.specs.declared.span.Span.{Span}
 use Rattle.ctl_tree.specs.declared.fault.FaultCode.TheVariants as fault
 use Rattle.ctl_program.specs.declared.types.Operations.{Operations}
+use Rattle.ctl_program.specs.declared.types.RecordType.{RecordType}
+use Rattle.ctl_program.specs.declared.types.Root.{Root}
+use Rattle.ctl_program.specs.declared.types.Root.TheVariants as root
 use Rattle.ctl_program.specs.declared.types.Ty.{Ty}
 use Rattle.ctl_program.specs.declared.types.Ty.TheVariants as ty
 use Rattle.ctl_draft.specs.declared.draft.Routine.{Routine}
@@ -33,11 +36,12 @@ use Rattle.ctl_draft.specs.declared.draft.Around.{Around}
 use Rattle.ctl_draft.specs.declared.draft.Draft.{Draft}
 use Rattle.ctl_draft.specs.declared.draft.Role.{Role}
 use Rattle.ctl_draft.specs.declared.draft.Role.TheVariants as role
+use Rattle.ctl_resolve.specs.Library.{operation_named}
 use Rattle.ctl_declarations.specs.Declarations as decl
 use Rattle.ctl_types.specs.Subprograms as routines
 use Rattle.ctl_draft.specs.Draft.{declare, fault_when, is_declared_in}
 use Rattle.ctl_draft.specs.Freezing.{changed, changed_from, with_records, is_free_type}
-use Rattle.ctl_draft.specs.Operations.{user_operation, operation_formals}
+use Rattle.ctl_draft.specs.Operations.{provides, user_operation, operation_formals}
 use Rattle.ctl_well_typed.specs.Setting.{Frames, Encloses, Signature, Setting, InView}
 use Rattle.ctl_well_typed.specs.Types.{itself}
 use Rattle.ctl_well_typed.specs.Programs as program
@@ -87,11 +91,31 @@ pub record Overriding (tables : Tables) (level : ℕ) (fs : List FormalEntry) (r
   pub same_level : type.level ≡ level
   pub formals : fs ≡ operation_formals o (ty.Record t)
   pub result : r ≡ None
+  pub provided : provides type.root false o ≡ true
 
 abbrev pub RoleFine : Tables → ℕ → List FormalEntry → Option Ty → Role → Type 0
 RoleFine tables level fs r (role.Overrides o t) = Overriding tables level fs r o t
 RoleFine tables level fs r role.Plain = Unit {0}
 RoleFine tables level fs r role.Misplaced = Unit {0}
+
+-- what a limited type has, others of its root have
+provided_by : (r : Root) (limited : Bool) (o : OperationName) → provides r limited o ≡ true → provides r false o ≡ true
+provided_by root.Untagged limited o h = h
+provided_by root.Controlled limited Initialize h = h
+provided_by root.Controlled limited Finalize h = h
+provided_by root.Controlled limited Adjust h = refl
+provided_by root.Controlled limited Allocate h = h
+provided_by root.Controlled limited Deallocate h = h
+provided_by root.BlockPool limited Initialize h = h
+provided_by root.BlockPool limited Finalize h = h
+provided_by root.BlockPool limited Adjust h = h
+provided_by root.BlockPool limited Allocate h = h
+provided_by root.BlockPool limited Deallocate h = h
+provided_by root.MarkPool limited Initialize h = h
+provided_by root.MarkPool limited Finalize h = h
+provided_by root.MarkPool limited Adjust h = h
+provided_by root.MarkPool limited Allocate h = h
+provided_by root.MarkPool limited Deallocate h = h
 
 module _ (tables : Tables) (level : ℕ) where
   at_level : (t : ℕ) (o : Option RecordEntry) → slice_get tables.records t ≡ o → decl.is_at_level level o ≡ true → (x : RecordEntry) × ((slice_get tables.records t ≡ Some x) × (x.level ≡ level))
@@ -105,7 +129,7 @@ module _ (tables : Tables) (level : ℕ) where
       by_test true e =
           let parts = three_hold (decl.is_at_level level (slice_get tables.records t)) _ (decl.same_formals fs (operation_formals o (ty.Record t))) e in
           let found = at_level t (slice_get tables.records t) refl parts.0 in
-          record { type = found.0; found = found.1.0; same_level = found.1.1; formals = same_formals_are fs (operation_formals o (ty.Record t)) parts.1.1; result = refl }
+          record { type = found.0; found = found.1.0; same_level = found.1.1; formals = same_formals_are fs (operation_formals o (ty.Record t)) parts.1.1; result = refl; provided = provided_by found.0.root (lookup.is_limited tables (ty.Record t)) o (subst (λ x. provides (lookup.root_of x) (lookup.is_limited tables (ty.Record t)) o ≡ true) found.1.0 parts.1.0) }
       by_test false e = tt
 
   first_role : (o : OperationName) (fs : List FormalEntry) (t : Ty) → RoleFine tables level fs None (decl.overriding_first tables level o fs t)
@@ -137,7 +161,7 @@ HeadingRole tables level (Some h) x = RoleFine tables level h.0 h.1 x
 
 pub role_fine : (a : Around) (s : Specification Definition Use) (h : Heading) (tables : Tables) → HeadingRole tables a.level h (decl.role_of a s h tables)
 role_fine a s None tables = tt
-role_fine a s (Some h) tables = role_by_fine tables a.level s.indicator (decl.operation_named s.name.identifier.text) h.0 h.1
+role_fine a s (Some h) tables = role_by_fine tables a.level s.indicator (operation_named s.name.identifier.text) h.0 h.1
 
 -- One operation more -----------------------------------------------------------------------------------
 
@@ -303,7 +327,11 @@ module _ (a : Around) (m : Option (Mark Use)) (h : Heading) (kind : HeadingKind 
         descends = itself;
         formals = ap (λ x. map formal_of (formals_in x)) known ∙ ap (map formal_of) g.formals;
         result = ap (λ x. result_in m x) known ∙ g.result;
+        provided = λ u h. subst (λ x. provides x false o ≡ true) (sym q.rooted ∙ ap (λ y. y.root) (one_type q.is h.is (slice_get s.k.records t) q.found h.found) ∙ h.rooted) g.provided;
       }
+    where
+      one_type : (x y : RecordType) (p : Option RecordType) → p ≡ Some x → p ≡ Some y → x ≡ y
+      one_type x y p h i = cc
 
   entry_right : (names : List (List ℕ)) → EntryFine s.k env (routines.entry_of n names h)
   entry_right names = by_heading h found usable
@@ -423,7 +451,7 @@ module _ (a : Around) (place : Span) (x : Specification Definition Use) (h : Hea
   completed_leads (Some (entry.Subprogram p)) fine =
       let told = fault_when (not (routines.conformed p (routines.formal_names x.formals) h)) fault.Type place d in
       still_given (here a) (Numbered h) d (routines.completed a place x (Some (entry.Subprogram p)) (h, d))
-      (still_further d told (decl.indicator_kept x told) (told_still (not (routines.conformed p (routines.formal_names x.formals) h)) fault.Type place d) (told_still (decl.is_unfounded x.indicator (decl.operation_named x.name.identifier.text)) fault.Override x.name.identifier.span told))
+      (still_further d told (decl.indicator_kept x told) (told_still (not (routines.conformed p (routines.formal_names x.formals) h)) fault.Type place d) (told_still (decl.is_unfounded x.indicator (operation_named x.name.identifier.text)) fault.Override x.name.identifier.span told))
       (λ s i f. completes_right a s i d f p (fine s f) (routines.formal_names x.formals) h)
   completed_leads None fine = nothing_completed
   completed_leads (Some (entry.«Type» t)) fine = nothing_completed

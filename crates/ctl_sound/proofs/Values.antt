@@ -1,5 +1,5 @@
 -- What the check makes of each expression is well typed.
-use Rattle.std.proofs.Common.{◌≡◌, refl, sym, ap, ◌∙◌, subst, ℕ, nat_lt, Bool, true, false, ◌&&◌, if◌then◌else◌, List, [], ◌∷◌, ◌++◌, map, slice_get, Option, Some, None, option_map}
+use Rattle.std.proofs.Common.{◌≡◌, refl, sym, ap, ◌∙◌, subst, ℕ, nat_lt, Bool, true, false, ◌&&◌, if◌then◌else◌, List, [], ◌∷◌, ◌++◌, map, slice_get, Option, Some, None}
 use Rattle.ctl_tree.specs.declared.span.Span.{Span}
 use Rattle.ctl_tree.specs.declared.fault.FaultCode.TheVariants as fault
 use Rattle.ctl_program.specs.declared.types.Ty.{Ty}
@@ -29,16 +29,16 @@ use Rattle.ctl_typing.specs.Lookup.{same, designated_by, is_limited, has_subpool
 use Rattle.ctl_typing.specs.Typing as spec
 use Rattle.ctl_typing.specs.Typing.{Sense, sense, step_of, adopted}
 use Rattle.ctl_well_typed.specs.Setting.{Frames, Setting, InView, HasAccess}
-use Rattle.ctl_well_typed.specs.Types.{is_number, Covers, same_type}
+use Rattle.ctl_well_typed.specs.Types.{is_number}
 use Rattle.ctl_program.specs.Limits.{integer_last}
 use Rattle.ctl_well_typed.specs.Expressions as rule
-use Rattle.ctl_well_typed.specs.Expressions.{Typed, Perhaps}
+use Rattle.ctl_well_typed.specs.Expressions.{Typed, Perhaps, Handled}
 use Rattle.ctl_well_typed.specs.Statements as puts
 use Rattle.ctl_well_typed.specs.Statements.{Puts}
 use Rattle.ctl_sound.specs.Known.{IfSome, Gives, All}
 use Rattle.ctl_sound.specs.Law.{ExpressionWellTyped}
 use Rattle.ctl_sound.specs.Sound.{Sound, AskedFine, FoundFine, Fine, Good, is_imaged}
-use Rattle.ctl_sound.proofs.Known.{next, tested, both_give, following_give, each_gives}
+use Rattle.ctl_sound.proofs.Known.{next, tested, both_give, following_give, each_gives, any_gives}
 use Rattle.ctl_typing.specs.Senses.{suffix_sense}
 use Rattle.ctl_sound.proofs.Layers.{LayerOf, of_each, suffixes_of}
 use Rattle.ctl_sound.proofs.Tests.{same_is, same_self, number_scalar, number_has_cell, number_in_view, adopted_number}
@@ -97,23 +97,37 @@ module _ (k : Setting) (env : Frames) (tables : Tables) (sound : Sound k env tab
   abbrev RightHandle : Option (Name Use Sense) → Type 0
   RightHandle o = IfSome (λ (u : Name Use Sense). All (RightSuffix k env tables sound) u.suffixes) o
 
-  in_subpools_good : (place : Span) (asked : Asked) (x : Expr) → Value ty.Handle x → Gives (Value ty.Handle) (spec.in_subpools tables place asked x)
-  in_subpools_good place (asking.Exactly (ty.Access a)) x h = tested (Value ty.Handle) (has_subpools tables (slice_get tables.states.accesses a)) (known x) (but fault.Pool place x) (λ q s. h) (λ s. h)
-  in_subpools_good place _ x h = λ s. h
+  -- a handle that counts: the objects of the access type that is asked stand in subpools
+  pub record InSubpools (asked : Asked) (x : Expr) : Type 0 where
+    pub handle : Value ty.Handle x
+    pub subpools : (a : ℕ) → asked ≡ asking.Exactly (ty.Access a) → has_subpools tables (slice_get tables.states.accesses a) ≡ true
 
-  handle_good : (asked : Asked) (h : Name Use Sense) → All (RightSuffix k env tables sound) h.suffixes → Gives (Value ty.Handle) (spec.handle_judged tables asked h)
+  abbrev HandleFor : Asked → Option Expr → Type 0
+  HandleFor asked o = IfSome (InSubpools asked) o
+
+  one_asked : (a b : ℕ) → asking.Exactly (ty.Access a) ≡ asking.Exactly (ty.Access b) → a ≡ b
+  one_asked a b e = cc
+
+  in_subpools_good : (place : Span) (asked : Asked) (x : Expr) → Value ty.Handle x → Gives (HandleFor asked) (spec.in_subpools tables place asked x)
+  in_subpools_good place (asking.Exactly (ty.Access a)) x h =
+      tested (HandleFor (asking.Exactly (ty.Access a))) (has_subpools tables (slice_get tables.states.accesses a)) (known (Some x)) (but fault.Pool place None)
+      (λ q s. record { handle = h; subpools = λ b e. subst (λ c. has_subpools tables (slice_get tables.states.accesses c) ≡ true) (one_asked a b e) q })
+      (λ s. tt)
+  in_subpools_good place _ x h = λ s. record { handle = h; subpools = λ b e. absurd (cc) }
+
+  handle_good : (asked : Asked) (h : Name Use Sense) → All (RightSuffix k env tables sound) h.suffixes → Gives (HandleFor asked) (spec.handle_judged tables asked h)
   handle_good asked h g =
       let place = h.first.span in
-      next (Value ty.Handle) (Value ty.Handle) (spec.found h.first h.suffixes tables >>= spec.settled tables place >>= spec.handle_found place) (spec.in_subpools tables place asked)
+      next (Value ty.Handle) (HandleFor asked) (spec.found h.first h.suffixes tables >>= spec.settled tables place >>= spec.handle_found place) (spec.in_subpools tables place asked)
       (next (FoundFine k env) (Value ty.Handle) (spec.found h.first h.suffixes tables >>= spec.settled tables place) (spec.handle_found place) (settled_found k env tables sound h.first h.suffixes place g) (handle_found_good place))
       (in_subpools_good place asked)
 
   abbrev Maybe : Ty → Option Expr → Type 0
   Maybe t o = Perhaps k env o t
 
-  held_good : (asked : Asked) (o : Option (Name Use Sense)) → RightHandle o → Gives (Maybe ty.Handle) (spec.held (option_map (spec.handle_judged tables asked) o))
-  held_good asked None h = λ s. rule.left_out
-  held_good asked (Some u) h = next (Value ty.Handle) (Maybe ty.Handle) (spec.handle_judged tables asked u) (λ a. known (Some a)) (handle_good asked u h) (λ a i s. rule.given i)
+  given_good : (asked : Asked) (o : Option (Name Use Sense)) → RightHandle o → Gives (HandleFor asked) (spec.handle_given tables asked o)
+  given_good asked None h = λ s. tt
+  given_good asked (Some u) h = handle_good asked u h
 
   value_asked_is : (place : Span) (t : Ty) → Gives (λ (a : Asked). a ≡ asking.Exactly t) (spec.value_asked tables place (Some t))
   value_asked_is place t = tested (λ (a : Asked). a ≡ asking.Exactly t) (is_limited tables t) (but fault.Limited place (asking.Exactly t)) (known (asking.Exactly t)) (λ q s. refl) (λ s. refl)
@@ -142,37 +156,43 @@ module _ (k : Setting) (env : Frames) (tables : Tables) (sound : Sound k env tab
   designated_is a t w (Some u) q h = sound.types.designated a u w.is q w.found ∙ same_is u t h
   designated_is a t w None q h = absurd (cc)
 
-  allocated_good : (asked : Asked) (t : Ty) (a : ℕ) (handle value : Option Expr) → Allocates asked t a → AskedFine k env asked → InView k env t → Maybe ty.Handle handle → Maybe t value → Gives (Fine k env asked Unnamed) (doing (spec.making a t value) (record { ty = ty.Access a; value = e.New a t handle value }))
-  allocated_good asked t a handle value h q v i j s =
+  -- what is designated can be used where the access type is declared
+  at_home : (a : ℕ) (t : Ty) (w : HasAccess k env a) (o : Option Ty) → designated_by tables a ≡ o → spec.designates_this t o ≡ true → InView k w.home t
+  at_home a t w (Some u) q h = subst (λ x. InView k w.home x) (same_is u t h) (sound.types.designated_at_home a u q w)
+  at_home a t w None q h = absurd (cc)
+
+  handled : (asked : Asked) (a : ℕ) (w : HasAccess k env a) → asked ≡ asking.Exactly (ty.Access a) → (o : Option Expr) → HandleFor asked o → Handled k env w.home w.is o
+  handled asked a w e None h = rule.by_pool
+  handled asked a w e (Some x) h = rule.in_subpool (sound.types.subpools a (h.subpools a e) w) h.handle
+
+  allocated_good : (asked : Asked) (t : Ty) (a : ℕ) (handle value : Option Expr) → Allocates asked t a → AskedFine k env asked → HandleFor asked handle → Maybe t value → Gives (Fine k env asked Unnamed) (doing (spec.making a t value) (record { ty = ty.Access a; value = e.New a t handle value }))
+  allocated_good asked t a handle value h q i j s =
       let w : HasAccess k env a = subst (λ x. AskedFine k env x) h.asks q in
       let same_one : w.is.designated ≡ t = designated_is a t w (designated_by tables a) refl h.designates in
       record {
-        typed = rule.allocate w same_one v i j;
+        typed = rule.allocate w same_one (at_home a t w (designated_by tables a) refl h.designates) (handled asked a w h.asks handle i) j;
         in_view = w;
         met = subst (λ x. spec.meets x (ty.Access a) ≡ true) (sym h.asks) (same_self (ty.Access a));
         scalar = refl;
       }
 
+  object_good : (place : Span) (asked : Asked) (value : Option Sense) (t : Ty) → InView k env t → IfSome Right value → Gives (λ (r : ℕ × Option Expr). Allocates asked t r.0 × Maybe t r.1) (spec.object_judged tables place asked value (Some t))
+  object_good place asked value t v i = both_give (Allocates asked t) (Maybe t) (spec.allocates tables place asked t) (spec.value_judged tables place (Some t) value) (allocates_good place asked t) (value_given place t value v i)
+
   new_good : (place : Span) (handle : Option (Name Use Sense)) (m : Mark Use) (value : Option Sense) (asked : Asked) → RightHandle handle → IfSome Right value → AskedFine k env asked → Gives (Fine k env asked Unnamed) (spec.new_judged place handle m value tables asked)
   new_good place handle m value asked h i q =
-      let p = spec.held (option_map (spec.handle_judged tables asked) handle) in
-      let mark = spec.mark_judged tables m.first m.rest in
-      let rest = following mark (λ t. spec.value_judged tables place t value) in
-      next (λ (r : Option Expr × (Ty × Option Expr)). Maybe ty.Handle r.0 × (InView k env r.1.0 × Maybe r.1.0 r.1.1)) (Fine k env asked Unnamed) (both p rest) (λ r. spec.allocates tables place asked r.1.0 >>= (λ a. doing (spec.making a r.1.0 r.1.1) (record { ty = ty.Access a; value = e.New a r.1.0 r.0 r.1.1 })))
-      (both_give (Maybe ty.Handle) (λ (r : Ty × Option Expr). InView k env r.0 × Maybe r.0 r.1) p rest (held_good asked handle h) (following_give (InView k env) Maybe mark (λ t. spec.value_judged tables place t value) (mark_good m.first m.rest) (λ t v. value_given place t value v i)))
-      (λ r g. next (Allocates asked r.1.0) (Fine k env asked Unnamed) (spec.allocates tables place asked r.1.0) (λ a. doing (spec.making a r.1.0 r.1.1) (record { ty = ty.Access a; value = e.New a r.1.0 r.0 r.1.1 })) (allocates_good place asked r.1.0) (λ a l. allocated_good asked r.1.0 a r.0 r.1.1 l q g.1.0 g.0 g.1.1))
+      let p = spec.handle_given tables asked handle in
+      let mark = spec.mark_judged tables (spec.told_at place m.first) m.rest in
+      let object = spec.object_judged tables place asked value in
+      next (λ (r : Option Expr × (Ty × (ℕ × Option Expr))). HandleFor asked r.0 × (InView k env r.1.0 × (Allocates asked r.1.0 r.1.1.0 × Maybe r.1.0 r.1.1.1))) (Fine k env asked Unnamed) (both p (following mark object)) (λ r. doing (spec.making r.1.1.0 r.1.0 r.1.1.1) (record { ty = ty.Access r.1.1.0; value = e.New r.1.1.0 r.1.0 r.0 r.1.1.1 }))
+      (both_give (HandleFor asked) (λ (r : Ty × (ℕ × Option Expr)). InView k env r.0 × (Allocates asked r.0 r.1.0 × Maybe r.0 r.1.1)) p (following mark object) (given_good asked handle h)
+      (following_give (InView k env) (λ (t : Ty) (r : ℕ × Option Expr). Allocates asked t r.0 × Maybe t r.1) mark object (mark_good (spec.told_at place m.first) m.rest) (λ t v. object_good place asked value t v i)))
+      (λ r g. allocated_good asked r.1.0 r.1.1.0 r.0 r.1.1.1 g.1.1.0 q g.0 g.1.1.1)
 
   -- What is put (A.10.7) --------------------------------------------------------------------------------------
 
   no_text_good : (place : Span) (judged : Tables → Asked → Judgement Typed_value) → Gives (Puts k env) (spec.no_text place judged tables)
-  no_text_good place judged = next (λ t. Unit {0}) (Puts k env) (judged tables asking.Anything) (λ t. wrong fault.Type place) (any (judged tables asking.Anything)) (λ t h s. tt)
-    where
-      any : (p : Judgement Typed_value) → Gives (λ t. Unit {0}) p
-      any p s = by_known (p s).0
-        where
-          by_known : (o : Option Typed_value) → IfSome (λ t. Unit {0}) o
-          by_known None = tt
-          by_known (Some t) = tt
+  no_text_good place judged = next (λ t. Unit {0}) (Puts k env) (judged tables asking.Anything) (λ t. wrong fault.Type place) (any_gives (judged tables asking.Anything)) (λ t h s. tt)
 
   image_good : (t : Ty) (x : Expr) → is_imaged t ≡ true → Value t x → Puts k env (spec.image_piece t x ∷ [])
   image_good ty.Integer x h i = puts.integer i puts.no_more_pieces

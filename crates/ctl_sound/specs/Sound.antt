@@ -30,14 +30,14 @@ use Rattle.ctl_typing.specs.declared.found.Place.{Place}
 use Rattle.ctl_typing.specs.declared.found.Found.{Found}
 use Rattle.ctl_typing.specs.declared.found.Found.TheVariants as found
 use Rattle.ctl_typing.specs.Judgement.{Judgement}
-use Rattle.ctl_typing.specs.Lookup.{component_of, descends, designated_by}
+use Rattle.ctl_typing.specs.Lookup.{component_of, descends, designated_by, has_subpools}
 use Rattle.ctl_syntax.specs.declared.denoted.OperationName.{OperationName}
 use Rattle.ctl_draft.specs.Operations.{operation_formals, user_operation, operations_of}
 use Rattle.ctl_program.specs.Library.{mark_release_pool}
 use Rattle.ctl_typing.specs.Typing.{Sense, meets}
-use Rattle.ctl_well_typed.specs.Setting.{Passing, In, Out, InOut, Formal, Holding, Declared, Stands, Frames, Names, Signature, Setting, InView, Callable}
-use Rattle.ctl_well_typed.specs.Types.{is_scalar, Descends, Covers, HasRoot, HasDiscriminant, Leads, Walks}
-use Rattle.ctl_well_typed.specs.Expressions.{Typed}
+use Rattle.ctl_well_typed.specs.Setting.{Passing, In, Out, InOut, Formal, Holding, Declared, Stands, Frames, Names, Signature, Setting, HasAccess, InView, Callable}
+use Rattle.ctl_well_typed.specs.Types.{is_scalar, Descends, Covers, HasRoot, HasDiscriminant, HasSubpools, Leads, Walks}
+use Rattle.ctl_well_typed.specs.Expressions.{Typed, IsValue}
 use Rattle.ctl_well_typed.specs.Statements.{Puts}
 use Rattle.ctl_sound.specs.Known.{IfSome, Gives, All}
 
@@ -97,6 +97,8 @@ pub record TypesFine (k : Setting) (env : Frames) (tables : Tables) : Type 0 whe
   pub mark_pool : HasRoot k mark_release_pool root.MarkPool
   pub designated : (a : ℕ) (t : Ty) (x : AccessType) → designated_by tables a ≡ Some t → slice_get k.accesses a ≡ Some x → x.designated ≡ t
   pub designated_in_view : (a : ℕ) (t : Ty) → designated_by tables a ≡ Some t → InView k env (ty.Access a) → InView k env t
+  pub designated_at_home : (a : ℕ) (t : Ty) → designated_by tables a ≡ Some t → (to : HasAccess k env a) → InView k to.home t
+  pub subpools : (a : ℕ) → has_subpools tables (slice_get tables.states.accesses a) ≡ true → (to : HasAccess k env a) → HasSubpools k to.home to.is.pool
 
 -- an operation that the user wrote for a record type, or for one that it descends from (7.6, 13.11)
 pub record OperationFine (k : Setting) (env : Frames) (o : OperationName) (t s : ℕ) : Type 0 where
@@ -119,7 +121,7 @@ pub record Sound (k : Setting) (env : Frames) (tables : Tables) : Type 0 where
 -- what a name begins with
 abbrev pub Heads : Setting → Frames → Head → Ty → Type 0
 Heads k env (head.At v) t = (h : Holding) × (Names env v h × Stands h t)
-Heads k env (head.Given x) t = Typed k env x t
+Heads k env (head.Given x) t = Typed k env x t × IsValue x t
 
 pub record PartOf (k : Setting) (env : Frames) (h : Head) (steps : List Step) (t : Ty) : Type 0 where
   pub start : Ty

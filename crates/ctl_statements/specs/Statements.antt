@@ -41,9 +41,9 @@ use Rattle.ctl_draft.specs.declared.draft.Looping.TheVariants as looping
 use Rattle.ctl_draft.specs.declared.draft.Handling.{Handling}
 use Rattle.ctl_draft.specs.declared.draft.Handling.TheVariants as handling
 use Rattle.ctl_draft.specs.declared.draft.Returning.TheVariants.{Somewhere}
-use Rattle.ctl_typing.specs.Judgement.{Judgement, known, but, wrong, unresolved, noting, ◌>>=◌, both, following, each}
+use Rattle.ctl_typing.specs.Judgement.{Judgement, known, but, wrong, unresolved, noting, ◌>>=◌, both, following, followed_by, each}
 use Rattle.ctl_typing.specs.Lookup.{same, root_of, is_limited}
-use Rattle.ctl_typing.specs.Typing.{Sense, found, settled, name_of, as_variable, actuals_of, handed_on, truth_of}
+use Rattle.ctl_typing.specs.Typing.{Sense, found, settled, name_of, as_variable, variable_of, actuals_of, handed_on, truth_of}
 use Rattle.ctl_draft.specs.Draft.{Doing, by_tables, broken}
 use Rattle.ctl_draft.specs.Operations.{provides, user_operation, operation_formals, operations_of}
 use Rattle.ctl_program.specs.declared.statement.Choices.{Choices as Checked_choices}
@@ -53,25 +53,9 @@ use Rattle.ctl_syntax.specs.declared.item.Choices.TheVariants as choices
 
 -- Variables that are written to ---------------------------------------------------------------
 
--- the name of a variable of this type, told at its beginning where it is none
-abbrev pub written_part : Span → Ty → Place → Judgement Checked_name
-written_part place t p = if same t p.ty then as_variable place p.mutability (name_of p) else wrong rule.Type place
-
-abbrev pub written_name : Span → Ty → Found → Judgement Checked_name
-written_name place t (Part p) = written_part place t p
-written_name place t (View p) = written_part place t p
-written_name place t f = wrong rule.Mode place
-
--- an actual that the call writes to is a name (6.4.1)
-abbrev pub writing_by : Tables → Span → Ty → Option (Tables → Judgement Found) → Judgement Checked_name
-writing_by tables place t None = wrong rule.Mode place
-writing_by tables place t (Some name) = name tables >>= written_name place t
-
-abbrev pub written_as : Tables → Span → Ty → Use → List (Suffix Sense) → Judgement Checked_name
-written_as tables place t u xs = writing_by tables place t (Some (found u xs))
-
+-- the name of a variable of this type (6.4.1)
 abbrev pub writing : Tables → Ty → Sense → Judgement Checked_name
-writing tables t x = writing_by tables x.place t x.bare
+writing tables t x = variable_of tables t x >>= (λ p. known (name_of p))
 
 -- Assignments (5.2) -----------------------------------------------------------------------------
 
@@ -113,7 +97,7 @@ source_of_record tables place t x None = value_source tables x (Exactly (ty.Reco
 source_of_record tables place t x (Some name) = record_from tables place t name
 
 abbrev pub source_of_type : Tables → Ty → Sense → Judgement Source
-source_of_type tables (ty.Record t) x = source_of_record tables x.place t x x.named
+source_of_type tables (ty.Record t) x = source_of_record tables x.within t x x.named
 source_of_type tables t x = value_source tables x (Exactly t)
 
 -- what is assigned; where the target is wrong itself, the value is judged alone
@@ -204,9 +188,14 @@ operation_of tables place o xs (ty.Record t) =
     else wrong rule.Type place
 operation_of tables place o xs t = wrong rule.Type place
 
+-- where it is not known what type the first actual has, there is no operation of it
+abbrev pub operation_for : Tables → Span → OperationName → List Sense → Option Ty → Judgement Stmt
+operation_for tables place o xs None = wrong rule.Type place
+operation_for tables place o xs (Some t) = operation_of tables place o xs t
+
 -- an explicit call of an operation is one of the operation of the first actual's type
 abbrev pub operation_called : Tables → Span → OperationName → Sense → List Sense → Judgement Stmt
-operation_called tables place o x more = operand_type tables x >>= operation_of tables place o (x ∷ more)
+operation_called tables place o x more = followed_by (operand_type tables x) (operation_for tables place o (x ∷ more))
 
 -- Calls (6.4) ----------------------------------------------------------------------------------------------
 

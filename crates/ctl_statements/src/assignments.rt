@@ -14,8 +14,7 @@ use ctl_syntax::expression::Expression;
 use ctl_syntax::name::Name as SourceName;
 use ctl_tree::fault::FaultCode;
 use ctl_tree::span::Span;
-use ctl_typing::actuals::{as_variable, handed_on};
-use ctl_typing::adopting::place_of;
+use ctl_typing::actuals::handed_on;
 use ctl_typing::expressions::{expression, found};
 use ctl_typing::found::{Asked, Found, Place};
 use ctl_typing::judging::{doing, is_same, note, refused, wrong};
@@ -23,6 +22,7 @@ use ctl_typing::lookup::is_limited;
 use ctl_typing::names::{name_at, settled};
 use ctl_typing::notes::{Deed, Notes};
 use ctl_typing::table::Tables;
+use ctl_typing::variables::as_variable;
 use std::alloc::{AllocError, Global};
 
 /// What an assignment writes.
@@ -185,17 +185,16 @@ fn value_source(
 fn source_of_record(
     alloc: Global,
     tables: &Tables,
-    place: Span,
     number: usize,
     x: &Expression<Use>,
     notes: &mut Notes,
 ) -> Result<Option<Source>, AllocError>
-    ensures { Judges (spec.source_of_record tables.now place number (sense x.now) (sense x.now).named) notes.old result notes.new }
+    ensures { Judges (spec.source_of_record tables.now (sense x.now).within number (sense x.now) (sense x.now).named) notes.old result notes.new }
 {
     match x {
-        Expression::Name(_, name) => record_named(alloc, tables, place, number, name, notes),
+        Expression::Name(place, name) => record_named(alloc, tables, *place, number, name, notes),
         Expression::Parentheses(_, inner) => {
-            source_of_record(alloc, tables, place, number, inner.get(), notes)
+            source_of_record(alloc, tables, number, inner.get(), notes)
         }
         _ => value_source(alloc, tables, x, Asked::Exactly(Ty::Record(number)), notes),
     }
@@ -212,7 +211,7 @@ fn written(
     ensures { Judges (spec.source_of_type tables.now ty (sense x.now)) notes.old result notes.new }
 {
     match ty {
-        Ty::Record(number) => source_of_record(alloc, tables, place_of(x), number, x, notes),
+        Ty::Record(number) => source_of_record(alloc, tables, number, x, notes),
         _ => value_source(alloc, tables, x, Asked::Exactly(ty), notes),
     }
 }

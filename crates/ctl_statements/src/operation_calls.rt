@@ -321,7 +321,7 @@ fn operation_of(
     }
 }
 
-/// Judges an explicit call of an operation: it is one of the operation of the first actual's type (RM 7.6, 13.11).
+/// Judges an explicit call of an operation: it is one of the operation of the first actual's type, which must be known (RM 7.6, 13.11).
 pub fn operation_called(
     alloc: Global,
     tables: &Tables,
@@ -335,6 +335,6 @@ pub fn operation_called(
 {
     match operand_type(alloc, tables, first, notes)? {
         Some(ty) => operation_of(alloc, tables, place, operation, ty, first, more, notes),
-        None => Ok(None),
+        None => Ok(wrong(FaultCode::Type, place, notes)),
     }
 }

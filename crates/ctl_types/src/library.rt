@@ -4,6 +4,7 @@ ghost use Rattle.std.specs.Prelude.{◌≡◌, IfOk};
 ghost use Rattle.ctl_types.specs.Elaboration as spec;
 
 use ctl_draft::draft::{Draft, Returning};
+use ctl_draft::names::Names;
 use ctl_draft::operations::no_operations;
 use ctl_program::types::{Component, Root};
 use ctl_syntax::item::Limitation;
@@ -147,7 +148,7 @@ pub fn library(alloc: Global) -> Result<Draft, AllocError>
         returning: Returning::Nowhere,
         waiting: Items::new(alloc),
         own: Items::new(alloc),
-        own_names: Items::new(alloc),
+        own_names: Names::new(alloc),
         notes: Notes {
             early: None,
             fault: None,

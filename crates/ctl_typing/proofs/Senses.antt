@@ -15,7 +15,11 @@ use Rattle.ctl_syntax.specs.declared.expression.Expression.TheOpen.{Expression-F
 use Rattle.ctl_syntax.specs.declared.expression.Expression.TheVariants as x
 use Rattle.ctl_syntax.specs.declared.expression.Expression.TheVariants.{rolls-Number, rolls-Null, rolls-String, rolls-Logical, rolls-Relation, rolls-Unary, rolls-Parentheses, rolls-Name, rolls-Chain, rolls-New}
 use Rattle.ctl_typing.specs.Senses.{suffix_sense, name_sense, operand_sense}
-use Rattle.ctl_typing.specs.Typing.{Sense, sense, step_of}
+use Rattle.ctl_program.specs.declared.types.Ty.{Ty}
+use Rattle.ctl_typing.specs.declared.table.Tables.{Tables}
+use Rattle.ctl_typing.specs.declared.found.Found.{Found}
+use Rattle.ctl_typing.specs.Judgement.{Judgement}
+use Rattle.ctl_typing.specs.Typing.{Sense, sense, step_of, record_by, enclosed_sense}
 
 -- a suffix before those of a name
 abbrev with_suffix : Suffix Sense → Expression-F Use Sense → Expression-F Use Sense
@@ -76,3 +80,8 @@ sense_unary p o a = rw (← rolls-Unary, fold-roll-Expression) refl
 
 pub sense_parentheses : (p : Span) (a : Expression Use) → sense (x.Parentheses p a) ≡ step_of (Expression-F.Parentheses p (sense a))
 sense_parentheses p a = rw (← rolls-Parentheses, fold-roll-Expression) refl
+
+-- what stands in parentheses is handed on as in further ones around it
+pub record_enclosed_is : (tables : Tables) (t : Ty) (p : Span) (x : Sense) (named : Option (Tables → Judgement Found)) → record_by tables t (enclosed_sense p x) None named ≡ record_by tables t x None named
+record_enclosed_is tables t p x None = refl
+record_enclosed_is tables t p x (Some name) = refl

@@ -1,5 +1,5 @@
 -- What an allocator is and freezes, once its parts are known.
-use Rattle.std.specs.Prelude.{ℕ, Option, Some}
+use Rattle.std.specs.Prelude.{ℕ, Option}
 use Rattle.ctl_tree.specs.declared.span.Span.{Span}
 use Rattle.ctl_typing.specs.declared.table.Tables.{Tables}
 use Rattle.ctl_typing.specs.declared.found.Asked.{Asked}
@@ -9,20 +9,16 @@ use Rattle.ctl_program.specs.declared.expression.Expr.{Expr}
 use Rattle.ctl_program.specs.declared.expression.Expr.TheVariants as e
 use Rattle.ctl_typing.specs.declared.found.Found.{Found}
 use Rattle.ctl_typing.specs.declared.found.Typed.{Typed}
-use Rattle.ctl_typing.specs.Judgement.{Judgement, known, onward, ◌>>=◌, doing}
-use Rattle.ctl_typing.specs.Typing.{making, allocates, settled, handle_found, in_subpools}
+use Rattle.ctl_typing.specs.Judgement.{Judgement, onward, ◌>>=◌, doing}
+use Rattle.ctl_typing.specs.Typing.{making, settled, handle_found, in_subpools}
 
 abbrev pub allocated : ℕ → Ty → Option Expr → Option Expr → Judgement Typed
 allocated a t handle value = doing (making a t value) (record { ty = ty.Access a; value = e.New a t handle value })
 
--- what may be there is
-abbrev pub given : {A : Type 0} → A → Judgement (Option A)
-given a = known (Some a)
-
--- an allocator of which the handle, the type and the value are known
-abbrev pub by_parts : Tables → Span → Asked → Option Expr × (Ty × Option Expr) → Judgement Typed
-by_parts tables place asked r = allocates tables place asked r.1.0 >>= (λ a. allocated a r.1.0 r.0 r.1.1)
+-- an allocator of which the handle, the type, the access type and the value are known
+abbrev pub by_parts : Option Expr × (Ty × (ℕ × Option Expr)) → Judgement Typed
+by_parts r = allocated r.1.1.0 r.1.0 r.0 r.1.1.1
 
 -- the handle of an allocator, once it may be known what its name is
 abbrev pub handle_of : Tables → Span → Asked → Option Found → Judgement (Option Expr)
-handle_of tables place asked f = onward f (settled tables place) >>= handle_found place >>= in_subpools tables place asked >>= given
+handle_of tables place asked f = onward f (settled tables place) >>= handle_found place >>= in_subpools tables place asked

@@ -97,6 +97,13 @@ then_beside f (a, s) = paired a (f a s)
 abbrev pub following : {S A B : Type 0} → Judging S A → (Option A → Judging S B) → Judging S (A × B)
 following p f s = then_beside f (p s)
 
+abbrev pub then_by : {S A B : Type 0} → (Option A → Judging S B) → Option A × S → Option B × S
+then_by f (a, s) = f a s
+
+-- the second alone counts; it is judged by what is known of the first, if anything is
+abbrev pub followed_by : {S A B : Type 0} → Judging S A → (Option A → Judging S B) → Judging S B
+followed_by p f s = then_by f (p s)
+
 -- what a function returns and leaves: the judgement, unless memory was refused
 abbrev pub Judges : {S A E : Type 0} → Judging S A → S → Result (Option A) E → S → Type 0
 Judges j old (Ok a) new = j old ≡ (a, new)

@@ -1,5 +1,5 @@
 -- What the tables say of types.
-use Rattle.std.specs.Prelude.{ℕ, zero, suc, Bool, true, false, ◌||◌, if◌then◌else◌, nat_eq, List, [], ◌∷◌, length, slice_get, Option, Some, None}
+use Rattle.std.specs.Prelude.{ℕ, zero, suc, Bool, true, false, ◌&&◌, ◌||◌, if◌then◌else◌, nat_eq, List, [], ◌∷◌, length, slice_get, Option, Some, None}
 use Rattle.ctl_grammar.specs.Spelling.{same_name}
 use Rattle.ctl_program.specs.declared.types.Ty.{Ty}
 use Rattle.ctl_program.specs.declared.types.Ty.TheVariants as ty
@@ -117,7 +117,7 @@ designated_in a = known_type a.designated
     known_type : Designated → Option Ty
     known_type (designated.Known t) = Some t
     known_type designated.Unclear = None
-    known_type (designated.Awaited n) = None
+    known_type (designated.Awaited n place) = None
 
 -- the type that the values of an access type designate (3.10)
 abbrev pub designated_by : Tables → ℕ → Option Ty
@@ -145,6 +145,20 @@ abbrev pub has_subpools : Tables → Option AccessEntry → Bool
 has_subpools tables None = false
 has_subpools tables (Some a) = is_mark_pool tables a.pool
 
+-- the number of masters around the declaration of an access type (3.10.2)
 abbrev pub level_of_access : Option AccessEntry → ℕ
 level_of_access None = 0
 level_of_access (Some a) = a.level
+
+abbrev pub level_of : Tables → Ty → ℕ
+level_of tables (ty.Access b) = level_of_access (slice_get tables.states.accesses b)
+level_of tables t = 0
+
+abbrev pub designate_same : Option Ty → Option Ty → Bool
+designate_same (Some s) (Some t) = same s t
+designate_same _ _ = false
+
+-- whether a type converts to an access type: it is that type, or one to the same designated type where that one is general (4.6)
+abbrev pub is_convertible : Tables → ℕ → Ty → Bool
+is_convertible tables a (ty.Access b) = nat_eq a b || (is_general (slice_get tables.states.accesses a) && designate_same (designated_by tables a) (designated_by tables b))
+is_convertible tables a t = false

@@ -1,5 +1,5 @@
 -- The parts of the tree, with what is known of each expression in them.
-use Rattle.std.specs.Prelude.{◌≡◌, ℕ, ◌<◌, Option, Some, None, option_map, ◌+◌, if◌then◌else◌, List, [], ◌∷◌, map, length, take, drop, slice_get}
+use Rattle.std.specs.Prelude.{◌≡◌, ℕ, ◌<◌, Option, Some, None, option_map, ◌+◌, List, [], map, length, take, drop, slice_get}
 use Rattle.ctl_syntax.specs.declared.denoted.Use.{Use}
 use Rattle.ctl_syntax.specs.declared.name.Name.{Name}
 use Rattle.ctl_syntax.specs.declared.name.Suffix.{Suffix}
@@ -17,19 +17,23 @@ use Rattle.ctl_typing.specs.declared.found.Asked.{Asked}
 use Rattle.ctl_typing.specs.declared.found.Asked.TheVariants as asking
 use Rattle.ctl_typing.specs.declared.found.Typed.{Typed}
 use Rattle.ctl_typing.specs.declared.found.Found.{Found}
+use Rattle.ctl_typing.specs.declared.found.Found.TheVariants.{Computed}
+use Rattle.ctl_program.specs.declared.operators.SubpoolFunction.{SubpoolFunction}
+use Rattle.ctl_syntax.specs.declared.item.Mode.{Mode}
+use Rattle.ctl_typing.specs.declared.found.Place.{Place}
 use Rattle.ctl_program.specs.declared.types.Ty.{Ty}
 use Rattle.ctl_program.specs.declared.types.Ty.TheVariants as ty
 use Rattle.ctl_program.specs.declared.operators.BinaryOp.TheVariants as op
 use Rattle.ctl_program.specs.declared.operators.Shortcut.TheVariants as shortcut
-use Rattle.ctl_tree.specs.declared.fault.FaultCode.{FaultCode}
+use Rattle.ctl_tree.specs.declared.fault.FaultCode.TheVariants as rule
 use Rattle.ctl_syntax.specs.declared.operators.ArithmeticOperator.{ArithmeticOperator}
 use Rattle.ctl_syntax.specs.declared.operators.RelationalOperator.{RelationalOperator}
 use Rattle.ctl_syntax.specs.declared.operators.UnaryOperator.{UnaryOperator}
 use Rattle.ctl_syntax.specs.declared.operators.LogicalOperator.{LogicalOperator}
 use Rattle.ctl_syntax.specs.declared.operators.LogicalOperator.TheVariants as logical
 use Rattle.ctl_program.specs.declared.expression.Actual.{Actual}
-use Rattle.ctl_typing.specs.Judgement.{Judgement, known, wrong, onward, with_known, paired, ◌>>=◌, both, following, each}
-use Rattle.ctl_typing.specs.Typing.{Sense, sense, adopts, fits, asked_like, found, settled, imaged as image_of_value, selected, all_of, value_found, record_found, by_value, record_by, converted_number, truth_of, truths_of, logical_operand, relation_of, operand_of, unary_of, chain_of, joined, operator_of, arithmetic_of, Split, split}
+use Rattle.ctl_typing.specs.Judgement.{Judgement, known, wrong, onward, with_known, paired, ◌>>=◌, both, each}
+use Rattle.ctl_typing.specs.Typing.{Sense, sense, fits, settled, imaged as image_of_value, selected, all_of, value_found, variable_of, variable_found, by_name, name_of, record_found, record_enclosed, by_value, record_by, converted_number, truth_of, truths_of, logical_operand, relation_of, operand_of, unary_of, chain_of, joined, operator_of, arithmetic_of, split}
 
 abbrev pub suffix_sense : Suffix (Expression Use) → Suffix Sense
 suffix_sense (suffix.Selector i) = suffix.Selector i
@@ -57,9 +61,13 @@ short form a b more tables = both (both (truth_of tables a) (truth_of tables b))
 abbrev pub actual_value : Tables → Ty → Sense → Judgement Actual
 actual_value tables t x = x.judged tables (asking.Exactly t) >>= by_value
 
--- a record that is handed on, told at a place
-abbrev pub record_at : Tables → Span → Ty → Sense → Judgement Actual
-record_at tables place t x = record_by tables t (record { place = place; adopts = x.adopts; judged = x.judged; bare = x.bare; named = x.named; texts = x.texts }) x.named
+-- a record that is handed on
+abbrev pub record_handed : Tables → Ty → Sense → Judgement Actual
+record_handed tables t x = record_by tables t x x.bare x.named
+
+-- the same in parentheses
+abbrev pub record_inside : Tables → Ty → Sense → Judgement Actual
+record_inside tables t x = record_by tables t x None x.named
 
 abbrev pub number_of : Tables → Ty → Sense → Judgement Found
 number_of tables t x = x.judged tables asking.Number >>= converted_number t
@@ -148,9 +156,9 @@ Parted os (Some at) = Leading os at
 Parted os None = split (map operand_sense os) ≡ record { before = map operand_sense os; typed = None; behind = [] }
 
 -- an expression that is to be a name alone
-abbrev pub bare_found : FaultCode → Span → Option (Tables → Judgement Found) → Tables → Judgement Found
-bare_found number place None tables = wrong number place
-bare_found number place (Some name) tables = name tables
+abbrev pub bare_found : Span → Option (Tables → Judgement Found) → Tables → Judgement Found
+bare_found place None tables = wrong rule.Type place
+bare_found place (Some name) tables = name tables
 
 -- Names, once it may be known what they are -----------------------------------------------------------------------------------------
 
@@ -163,8 +171,22 @@ all_behind tables place f = settled tables place f >>= all_of tables place
 abbrev pub name_value : Tables → Span → Asked → Option Found → Judgement Typed
 name_value tables place asked f = onward f (settled tables place) >>= value_found tables place asked
 
+-- the actual of a formal of mode `out` or `in out`
+abbrev pub written_by : Tables → Mode → Ty → Sense → Judgement Actual
+written_by tables m t x = variable_of tables t x >>= (λ p. known (by_name m p))
+
+abbrev pub subpool_of : SubpoolFunction → Place → Found
+subpool_of which p = Computed (record { ty = ty.Handle; value = e.Subpool which (name_of p) })
+
+-- what is written to
+abbrev pub variable_named : Tables → Span → Ty → Option Found → Judgement Place
+variable_named tables place t f = onward f (settled tables place) >>= variable_found tables place t
+
 abbrev pub record_handed_on : Tables → Span → Ty → Option Found → Judgement Actual
 record_handed_on tables place t f = onward f (settled tables place) >>= record_found place t
+
+abbrev pub record_in_parentheses : Tables → Span → Ty → Option Found → Judgement Actual
+record_in_parentheses tables place t f = onward f (settled tables place) >>= record_enclosed place t
 
 abbrev pub imaged : Option Typed → Judgement Found
 imaged t = onward t image_of_value

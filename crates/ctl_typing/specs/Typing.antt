@@ -1,5 +1,5 @@
 -- The type and the checked form of an expression, of which its place may ask something (4.4 to 4.8).
-use Rattle.std.specs.Prelude.{ℕ, Bool, true, false, ◌&&◌, ◌||◌, not, if◌then◌else◌, nat_eq, nat_lt, List, [], ◌∷◌, ◌++◌, length, map, slice_get, Option, Some, None, option_map, codes}
+use Rattle.std.specs.Prelude.{ℕ, Bool, true, false, ◌&&◌, ◌||◌, not, if◌then◌else◌, nat_eq, nat_lt, List, [], ◌∷◌, ◌++◌, length, map, slice_get, Option, Some, None, codes}
 use Rattle.ctl_grammar.specs.Spelling.{same_name}
 use Rattle.ctl_tree.specs.declared.span.Span.{Span}
 use Rattle.ctl_tree.specs.declared.fault.FaultCode.TheVariants as rule
@@ -80,8 +80,8 @@ use Rattle.ctl_typing.specs.declared.found.Head.TheVariants.{At, Given}
 use Rattle.ctl_typing.specs.declared.found.Place.{Place}
 use Rattle.ctl_typing.specs.declared.found.Found.{Found}
 use Rattle.ctl_typing.specs.declared.found.Found.TheVariants.{Part, TypeName, Callable, Computed, Subpools, Image, Imaged, Discriminant, View, Accessed}
-use Rattle.ctl_typing.specs.Judgement.{Judgement, known, but, wrong, unresolved, doing, noting, ◌>>=◌, both, following, each}
-use Rattle.ctl_typing.specs.Lookup.{same, is_numeric, is_ordered, is_comparable, is_record, component_of, descends, root_of, designated_by, is_general, is_limited, has_subpools, level_of_access}
+use Rattle.ctl_typing.specs.Judgement.{Judgement, known, but, wrong, unresolved, doing, noting, onward, ◌>>=◌, both, following, each}
+use Rattle.ctl_typing.specs.Lookup.{same, is_numeric, is_ordered, is_comparable, is_record, component_of, descends, root_of, designated_by, is_general, is_convertible, is_limited, has_subpools, level_of, level_of_access}
 
 -- What a place asks -------------------------------------------------------------
 
@@ -111,6 +111,8 @@ adopted _ = ty.Integer
 -- what is known of an expression without its place
 pub record Sense : Type 0 where
   pub place : Span
+  -- where it begins inside of the parentheses around it
+  pub within : Span
   pub adopts : Adopts
   pub judged : Tables → Asked → Judgement Typed
   -- where it is a name alone
@@ -208,6 +210,55 @@ abbrev pub value_at : Head → List Step → Ty → Expr
 value_at (Given x) [] t = x
 value_at h steps t = e.Read (name_at h steps) t
 
+-- What a name is, as a value ---------------------------------------------------------------------
+
+-- what is designated lives as long as the type (3.10.2)
+abbrev pub at_level : {A : Type 0} → Span → ℕ → ℕ → A → Judgement A
+at_level place operand target a = if nat_lt target operand then but rule.Level place a else known a
+
+abbrev pub designates_this : Ty → Option Ty → Bool
+designates_this t None = false
+designates_this t (Some s) = same s t
+
+-- `X'Access` has the general access type that its place asks, with the type of X designated; X lives as long as that (3.10.2)
+abbrev pub access_value : Tables → Span → Var → Ty → Asked → Judgement Typed
+access_value tables place v t (Exactly (ty.Access a)) = if is_general (slice_get tables.states.accesses a) && designates_this t (designated_by tables a) then at_level place v.level (level_of_access (slice_get tables.states.accesses a)) (record { ty = ty.Access a; value = e.Access v }) else wrong rule.Type place
+access_value tables place v t asked = wrong rule.Type place
+
+abbrev pub value_found : Tables → Span → Asked → Found → Judgement Typed
+value_found tables place asked (Part p) = fits place asked (record { ty = p.ty; value = value_at p.head p.steps p.ty })
+value_found tables place asked (Computed t) = fits place asked t
+value_found tables place asked (Discriminant p k) = fits place asked (record { ty = ty.Count; value = e.Discriminant (name_of p) k })
+value_found tables place asked (Accessed v t) = access_value tables place v t asked
+value_found tables place asked f = wrong rule.Type place
+
+-- What is written to (6.4.1) ----------------------------------------------------------------------
+
+-- a name that is written to denotes a variable (6.4.1)
+abbrev pub as_variable : {A : Type 0} → Span → Mutability → A → Judgement A
+as_variable place mutability.Variable a = known a
+as_variable place mutability.Constant a = but rule.Mode place a
+
+abbrev pub variable_part : Span → Ty → Place → Judgement Place
+variable_part place t p = if same t p.ty then as_variable place p.mutability p else wrong rule.Type place
+
+-- a value of the type that is asked, where no variable is named
+abbrev pub no_variable : Span → Typed → Judgement Place
+no_variable place x = wrong rule.Mode place
+
+abbrev pub variable_found : Tables → Span → Ty → Found → Judgement Place
+variable_found tables place t (Part p) = variable_part place t p
+variable_found tables place t (View p) = variable_part place t p
+variable_found tables place t f = value_found tables place (Exactly t) f >>= no_variable place
+
+abbrev pub variable_by : Tables → Ty → Sense → Option (Tables → Judgement Found) → Judgement Place
+variable_by tables t x None = x.judged tables (Exactly t) >>= no_variable x.place
+variable_by tables t x (Some name) = name tables >>= settled tables x.place >>= variable_found tables x.place t
+
+-- what is written to is a variable that a name denotes; first of all it has the type that is asked
+abbrev pub variable_of : Tables → Ty → Sense → Judgement Place
+variable_of tables t x = variable_by tables t x x.bare
+
 -- Actual parameters (6.2, 6.4.1) -------------------------------------------------------------
 
 -- an `out` copy of an access type or a handle begins with the actual's value (6.4.1)
@@ -220,24 +271,6 @@ start_of m t = copy.Beginning
 abbrev pub by_name : Mode → Place → Actual
 by_name m p = if is_record p.ty then actual.Part (name_of p) p.ty else actual.Copied (name_of p) p.ty (start_of m p.ty)
 
--- a name that is written to denotes a variable (6.4.1)
-abbrev pub as_variable : {A : Type 0} → Span → Mutability → A → Judgement A
-as_variable place mutability.Variable a = known a
-as_variable place mutability.Constant a = but rule.Mode place a
-
-abbrev pub written : Span → Mode → Ty → Place → Judgement Actual
-written place m t p = if same t p.ty then as_variable place p.mutability (by_name m p) else wrong rule.Type place
-
-abbrev pub written_found : Span → Mode → Ty → Found → Judgement Actual
-written_found place m t (Part p) = written place m t p
-written_found place m t (View p) = written place m t p
-written_found place m t _ = wrong rule.Mode place
-
--- the actual of a formal of mode `out` or `in out` is a name (6.4.1)
-abbrev pub written_by : Tables → Span → Mode → Ty → Option (Tables → Judgement Found) → Judgement Actual
-written_by tables place m t None = wrong rule.Mode place
-written_by tables place m t (Some name) = name tables >>= written_found place m t
-
 abbrev pub by_value : Typed → Judgement Actual
 by_value t = known (actual.ByValue t.value t.ty)
 
@@ -246,21 +279,31 @@ abbrev pub handed_on : Head → List Step → Ty → Actual
 handed_on (Given x) [] t = actual.ByValue x t
 handed_on h steps t = actual.Part (name_at h steps) t
 
+abbrev pub record_part : Span → Ty → Place → Judgement Actual
+record_part place t p = if same t p.ty then noting t (handed_on p.head p.steps p.ty) else wrong rule.Type place
+
 abbrev pub record_found : Span → Ty → Found → Judgement Actual
-record_found place t (Part p) = if same t p.ty then noting t (handed_on p.head p.steps p.ty) else wrong rule.Type place
-record_found place t (View p) = if same t p.ty then noting t (handed_on p.head p.steps p.ty) else wrong rule.Type place
+record_found place t (Part p) = record_part place t p
+record_found place t (View p) = record_part place t p
 record_found place t _ = wrong rule.Type place
 
-abbrev pub record_by : Tables → Ty → Sense → Option (Tables → Judgement Found) → Judgement Actual
-record_by tables t x None = x.judged tables (Exactly t) >>= by_value
-record_by tables t x (Some name) = name tables >>= settled tables x.place >>= record_found x.place t
+-- in parentheses stands a value, and a view is none (profile)
+abbrev pub record_enclosed : Span → Ty → Found → Judgement Actual
+record_enclosed place t (Part p) = record_part place t p
+record_enclosed place t _ = wrong rule.Type place
+
+-- by what it is where it is a name alone, or a name in parentheses
+abbrev pub record_by : Tables → Ty → Sense → Option (Tables → Judgement Found) → Option (Tables → Judgement Found) → Judgement Actual
+record_by tables t x (Some alone) named = alone tables >>= settled tables x.within >>= record_found x.within t
+record_by tables t x None (Some name) = name tables >>= settled tables x.within >>= record_enclosed x.within t
+record_by tables t x None None = x.judged tables (Exactly t) >>= by_value
 
 abbrev pub read_by : Tables → Ty → Sense → Judgement Actual
-read_by tables t x = if is_record t then record_by tables t x x.named else (x.judged tables (Exactly t) >>= by_value)
+read_by tables t x = if is_record t then record_by tables t x x.bare x.named else (x.judged tables (Exactly t) >>= by_value)
 
 abbrev pub actual_by : Tables → Mode → Ty → Sense → Judgement Actual
 actual_by tables mode.In t x = read_by tables t x
-actual_by tables m t x = written_by tables x.place m t x.bare
+actual_by tables m t x = variable_of tables t x >>= (λ p. known (by_name m p))
 
 abbrev pub actual_of : Tables → FormalEntry × Sense → Judgement Actual
 actual_of tables p = actual_by tables p.0.mode p.0.ty p.1
@@ -283,35 +326,19 @@ called tables place (Some p) xs = actuals_of tables place p.formals xs >>= resul
 abbrev pub converted_number : Ty → Typed → Judgement Found
 converted_number t x = known (Computed (record { ty = t; value = e.Convert t x.value }))
 
-abbrev pub designate_same : Option Ty → Option Ty → Bool
-designate_same (Some s) (Some t) = same s t
-designate_same _ _ = false
-
--- between access types of one designated type, to a general one (4.6)
-abbrev pub is_convertible : Tables → ℕ → Ty → Bool
-is_convertible tables a (ty.Access b) = nat_eq a b || (is_general (slice_get tables.states.accesses a) && designate_same (designated_by tables a) (designated_by tables b))
-is_convertible tables a t = false
-
-abbrev pub level_of : Tables → Ty → ℕ
-level_of tables (ty.Access b) = level_of_access (slice_get tables.states.accesses b)
-level_of tables t = 0
-
--- what is designated lives as long as the type (3.10.2)
-abbrev pub at_level : {A : Type 0} → Span → ℕ → ℕ → A → Judgement A
-at_level place operand target a = if nat_lt target operand then but rule.Level place a else known a
-
-abbrev pub converted_access : Tables → Span → ℕ → Typed → Judgement Found
-converted_access tables place a x =
+-- the operand, which begins at `inner`, is wrong itself where its type does not convert
+abbrev pub converted_access : Tables → Span → Span → ℕ → Typed → Judgement Found
+converted_access tables place inner a x =
     if is_convertible tables a x.ty
     then at_level place (level_of tables x.ty) (level_of_access (slice_get tables.states.accesses a)) (Part (given_place (record { ty = ty.Access a; value = x.value })))
-    else wrong rule.Type place
+    else wrong rule.Type inner
 
 abbrev pub as_type : Ty → Place → Place
 as_type t p = record { head = p.head; steps = p.steps; ty = t; mutability = p.mutability; aliasing = p.aliasing }
 
--- the view of a record object as its ancestor (4.6)
+-- the view of a record object as its ancestor; the object is an expression, and freezes its type (4.6, 13.14)
 abbrev pub viewed_as : Tables → Span → ℕ → Place → Ty → Judgement Found
-viewed_as tables place t p (ty.Record s) = if descends tables t s then known (View (as_type (ty.Record t) p)) else wrong rule.Type place
+viewed_as tables place t p (ty.Record s) = if descends tables t s then noting (ty.Record s) (View (as_type (ty.Record t) p)) else wrong rule.Type place
 viewed_as tables place t p s = wrong rule.Type place
 
 -- what stands in the conversion begins at `inner`: another view is no value, and wrong itself
@@ -327,23 +354,15 @@ viewed_by tables place inner t (Some name) = name tables >>= viewed tables place
 abbrev pub converted : Tables → Span → Ty → Sense → Judgement Found
 converted tables place ty.Integer x = x.judged tables Number >>= converted_number ty.Integer
 converted tables place ty.Count x = x.judged tables Number >>= converted_number ty.Count
-converted tables place (ty.Access a) x = x.judged tables Anything >>= converted_access tables place a
+converted tables place (ty.Access a) x = x.judged tables Anything >>= converted_access tables place x.within a
 converted tables place (ty.Record t) x = viewed_by tables place x.place t x.bare
 converted tables place t x = wrong rule.Type place
 
 -- Functions on mark pools (13.11.4) -------------------------------------------------------------
 
-abbrev pub subpool_in : Span → SubpoolFunction → Place → Ty → Judgement Found
-subpool_in place which p (ty.Record t) = if nat_eq t mark_release_pool then as_variable place p.mutability (Computed (record { ty = ty.Handle; value = e.Subpool which (name_of p) })) else wrong rule.Type place
-subpool_in place which p t = wrong rule.Type place
-
-abbrev pub subpool_of : Span → SubpoolFunction → Found → Judgement Found
-subpool_of place which (Part p) = subpool_in place which p p.ty
-subpool_of place which f = wrong rule.Type place
-
-abbrev pub subpool_by : Tables → SubpoolFunction → Span → Option (Tables → Judgement Found) → Judgement Found
-subpool_by tables which place None = wrong rule.Mode place
-subpool_by tables which place (Some name) = name tables >>= subpool_of place which
+-- they take a variable of the one type of pools with marks
+abbrev pub subpool_by : Tables → SubpoolFunction → Sense → Judgement Found
+subpool_by tables which x = variable_of tables (ty.Record mark_release_pool) x >>= (λ p. known (Computed (record { ty = ty.Handle; value = e.Subpool which (name_of p) })))
 
 -- Arguments behind a name ------------------------------------------------------------------------
 
@@ -352,7 +371,7 @@ imaged x = known (Imaged x)
 
 abbrev pub with_one : Tables → Span → Found → Sense → Judgement Found
 with_one tables place (TypeName t) x = converted tables place t x
-with_one tables place (Subpools which) x = subpool_by tables which x.place x.bare
+with_one tables place (Subpools which) x = subpool_by tables which x
 with_one tables place (Image t) x = x.judged tables (Exactly t) >>= imaged
 with_one tables place f x = wrong rule.Type place
 
@@ -444,22 +463,6 @@ abbrev pub found : Use → List (Suffix Sense) → Tables → Judgement Found
 found u xs tables = first_found tables u >>= suffixes tables u.span xs
 
 -- The value of a name -----------------------------------------------------------------------------
-
-abbrev pub designates_this : Ty → Option Ty → Bool
-designates_this t None = false
-designates_this t (Some s) = same s t
-
--- `X'Access` has the general access type that its place asks, with the type of X designated; X lives as long as that (3.10.2)
-abbrev pub access_value : Tables → Span → Var → Ty → Asked → Judgement Typed
-access_value tables place v t (Exactly (ty.Access a)) = if is_general (slice_get tables.states.accesses a) && designates_this t (designated_by tables a) then at_level place v.level (level_of_access (slice_get tables.states.accesses a)) (record { ty = ty.Access a; value = e.Access v }) else wrong rule.Type place
-access_value tables place v t asked = wrong rule.Type place
-
-abbrev pub value_found : Tables → Span → Asked → Found → Judgement Typed
-value_found tables place asked (Part p) = fits place asked (record { ty = p.ty; value = value_at p.head p.steps p.ty })
-value_found tables place asked (Computed t) = fits place asked t
-value_found tables place asked (Discriminant p k) = fits place asked (record { ty = ty.Count; value = e.Discriminant (name_of p) k })
-value_found tables place asked (Accessed v t) = access_value tables place v t asked
-value_found tables place asked f = wrong rule.Type place
 
 abbrev pub name_judged : Use → List (Suffix Sense) → Tables → Asked → Judgement Typed
 name_judged u xs tables asked = found u xs tables >>= settled tables u.span >>= value_found tables u.span asked
@@ -634,29 +637,33 @@ abbrev pub marked : Span → Found → Judgement Ty
 marked place (TypeName t) = known t
 marked place f = wrong rule.Type place
 
+-- a use that is told of at another place than its own
+abbrev pub told_at : Span → Use → Use
+told_at place u = record { span = place; denoted = u.denoted }
+
 -- the type that a mark denotes; an expanded name denotes nothing of a text (profile)
 abbrev pub mark_judged : Tables → Use → List Identifier → Judgement Ty
 mark_judged tables u [] = first_found tables u >>= marked u.span
 mark_judged tables u (i ∷ is) = wrong rule.Type u.span
-
--- where a value is asked of a handle, or of the new object, there may be none
-abbrev pub held : {A : Type 0} → Option (Judgement A) → Judgement (Option A)
-held None = known None
-held (Some p) = p >>= (λ a. known (Some a))
 
 abbrev pub handle_found : Span → Found → Judgement Expr
 handle_found place (Part p) = if same p.ty ty.Handle then known (value_at p.head p.steps p.ty) else wrong rule.Type place
 handle_found place (Computed t) = if same t.ty ty.Handle then known t.value else wrong rule.Type place
 handle_found place f = wrong rule.Type place
 
--- a handle goes with an access type whose objects stand in subpools (4.8, 13.11.4)
-abbrev pub in_subpools : {A : Type 0} → Tables → Span → Asked → A → Judgement A
-in_subpools tables place (Exactly (ty.Access a)) x = if has_subpools tables (slice_get tables.states.accesses a) then known x else but rule.Pool place x
-in_subpools tables place asked x = known x
+-- a handle goes with an access type whose objects stand in subpools; with another it counts for none, once that is told (4.8, 13.11.4)
+abbrev pub in_subpools : {A : Type 0} → Tables → Span → Asked → A → Judgement (Option A)
+in_subpools tables place (Exactly (ty.Access a)) x = if has_subpools tables (slice_get tables.states.accesses a) then known (Some x) else but rule.Pool place None
+in_subpools tables place asked x = known (Some x)
 
 -- the handle of an allocator of which its place may ask something
-abbrev pub handle_judged : Tables → Asked → Name Use Sense → Judgement Expr
+abbrev pub handle_judged : Tables → Asked → Name Use Sense → Judgement (Option Expr)
 handle_judged tables asked h = found h.first h.suffixes tables >>= settled tables h.first.span >>= handle_found h.first.span >>= in_subpools tables h.first.span asked
+
+-- there may be none
+abbrev pub handle_given : Tables → Asked → Option (Name Use Sense) → Judgement (Option Expr)
+handle_given tables asked None = known None
+handle_given tables asked (Some h) = handle_judged tables asked h
 
 abbrev pub is_abstract : Concreteness → Bool
 is_abstract concreteness.Abstract = true
@@ -694,10 +701,15 @@ abbrev pub making : ℕ → Ty → Option Expr → List Deed
 making a t None = creating a t ++ Initializes t ∷ []
 making a t (Some v) = creating a t
 
+-- where the type of the new object is known, the access type that the place asks, and the value: each is judged whatever the other is
+abbrev pub object_judged : Tables → Span → Asked → Option Sense → Option Ty → Judgement (ℕ × Option Expr)
+object_judged tables place asked value t = both (onward t (allocates tables place asked)) (value_judged tables place t value)
+
+-- an allocator of another type than its place asks is wrong itself, and so is one of what is no type; whatever its handle and its value are
 abbrev pub new_judged : Span → Option (Name Use Sense) → Mark Use → Option Sense → Tables → Asked → Judgement Typed
 new_judged place handle mark value tables asked =
-    both (held (option_map (handle_judged tables asked) handle)) (following (mark_judged tables mark.first mark.rest) (λ t. value_judged tables place t value)) >>= (λ r.
-    allocates tables place asked r.1.0 >>= (λ a. doing (making a r.1.0 r.1.1) (record { ty = ty.Access a; value = e.New a r.1.0 r.0 r.1.1 })))
+    both (handle_given tables asked handle) (following (mark_judged tables (told_at place mark.first) mark.rest) (object_judged tables place asked value)) >>= (λ r.
+    doing (making r.1.1.0 r.1.0 r.1.1.1) (record { ty = ty.Access r.1.1.0; value = e.New r.1.1.0 r.1.0 r.0 r.1.1.1 }))
 
 -- What is put (A.10.7; profile) --------------------------------------------------------------------------
 
@@ -749,22 +761,22 @@ of_unary o a = joint a a
 
 -- an expression that is no name and no string
 abbrev pub plain : Span → Adopts → (Tables → Asked → Judgement Typed) → Sense
-plain place a judged = record { place = place; adopts = a; judged = judged; bare = None; named = None; texts = no_text place judged }
+plain place a judged = record { place = place; within = place; adopts = a; judged = judged; bare = None; named = None; texts = no_text place judged }
 
 abbrev pub string_sense : Span → List ℕ → Sense
 string_sense place s =
-    record { place = place; adopts = Nothing; judged = λ tables asked. wrong rule.Type place; bare = None; named = None; texts = λ tables. known (piece.Text s ∷ []) }
+    record { place = place; within = place; adopts = Nothing; judged = λ tables asked. wrong rule.Type place; bare = None; named = None; texts = λ tables. known (piece.Text s ∷ []) }
 
 abbrev pub chain_sense : Span → Sense → List (Operand Sense) → Sense
 chain_sense place x os =
-    record { place = place; adopts = all_adopt x.adopts os; judged = chain_judged place x os; bare = None; named = None; texts = chain_texts place x os }
+    record { place = place; within = place; adopts = all_adopt x.adopts os; judged = chain_judged place x os; bare = None; named = None; texts = chain_texts place x os }
 
 abbrev pub name_sense : Span → Use → List (Suffix Sense) → Sense
 name_sense place u xs =
-    record { place = place; adopts = Nothing; judged = name_judged u xs; bare = Some (found u xs); named = Some (found u xs); texts = name_texts u xs }
+    record { place = place; within = place; adopts = Nothing; judged = name_judged u xs; bare = Some (found u xs); named = Some (found u xs); texts = name_texts u xs }
 
 abbrev pub enclosed_sense : Span → Sense → Sense
-enclosed_sense place x = record { place = place; adopts = x.adopts; judged = x.judged; bare = None; named = x.named; texts = x.texts }
+enclosed_sense place x = record { place = place; within = x.within; adopts = x.adopts; judged = x.judged; bare = None; named = x.named; texts = x.texts }
 
 abbrev pub step_of : Expression-F Use Sense → Sense
 step_of (Expression-F.Logical place o a b more) = plain place Nothing (logical_judged place o a b more)

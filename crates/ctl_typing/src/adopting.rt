@@ -28,6 +28,16 @@ pub fn place_of(x: &Expression<Use>) -> Span
     }
 }
 
+/// Answers where an expression begins inside of the parentheses around it.
+pub fn place_within(x: &Expression<Use>) -> Span
+    ensures { result ≡ (spec.sense x.now).within }
+{
+    match x {
+        Expression::Parentheses(_, inner) => place_within(inner.get()),
+        _ => place_of(x),
+    }
+}
+
 /// Tells whether an operator joins strings.
 fn is_joining(operator: ArithmeticOperator) -> bool
     ensures { result ≡ spec.is_joining operator }

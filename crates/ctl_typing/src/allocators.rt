@@ -65,13 +65,7 @@ pub fn has_objects(tables: &Tables, ty: Ty) -> bool
 }
 
 /// Answers the access type that the place of an allocator asks, where it designates the type of the new object (RM 4.8).
-pub fn allocates(
-    tables: &Tables,
-    place: Span,
-    asked: Asked,
-    ty: Ty,
-    notes: &mut Notes,
-) -> Option<usize>
+fn allocates(tables: &Tables, place: Span, asked: Asked, ty: Ty, notes: &mut Notes) -> Option<usize>
     ensures { Answers (spec.allocates tables.now place asked ty) notes.old result notes.new }
 {
     match asked {
@@ -135,6 +129,16 @@ pub fn allocated(
     }))
 }
 
+/// Answers a use that is told of at another place than its own.
+pub fn told_at(place: Span, used: Use) -> Use
+    ensures { result ≡ spec.told_at place used }
+{
+    Use {
+        span: place,
+        denoted: used.denoted,
+    }
+}
+
 /// Answers the type that a mark denotes; an expanded name denotes nothing of a text (RM 3.2, profile).
 pub fn mark_judged(
     alloc: Global,
@@ -154,17 +158,25 @@ pub fn mark_judged(
     }
 }
 
-/// Notes a handle where the objects of the access type that is asked stand in no subpools (RM 4.8, 13.11.4).
-fn in_subpools(tables: &Tables, place: Span, asked: Asked, handle: Expr, notes: &mut Notes) -> Expr
+/// Answers a handle where the objects of the access type that is asked stand in subpools, and none where they do not, which is noted (RM 4.8,
+/// 13.11.4).
+fn in_subpools(
+    tables: &Tables,
+    place: Span,
+    asked: Asked,
+    handle: Expr,
+    notes: &mut Notes,
+) -> Option<Expr>
     ensures { spec.in_subpools tables.now place asked handle notes.old ≡ (Some result, notes.new) }
 {
     match asked {
         Asked::Exactly(Ty::Access(access)) if !has_subpools(tables, access) => {
-            note(notes, FaultCode::Pool, place)
+            drop(handle);
+            note(notes, FaultCode::Pool, place);
+            None
         }
-        _ => {}
+        _ => Some(handle),
     }
-    handle
 }
 
 /// Judges a name as a handle, where it is known what it is (RM 13.11.4).
@@ -182,7 +194,7 @@ pub fn handle_of(
         return Ok(None);
     };
     match handle_found(alloc, place, found, notes)? {
-        Some(handle) => Ok(Some(Some(in_subpools(tables, place, asked, handle, notes)))),
+        Some(handle) => Ok(Some(in_subpools(tables, place, asked, handle, notes))),
         None => Ok(None),
     }
 }
@@ -200,25 +212,31 @@ pub fn value_asked(tables: &Tables, place: Span, ty: Option<Ty>, notes: &mut Not
     Asked::Exactly(ty)
 }
 
-/// Judges an allocator by its parts, where they are known: the handle, the type and the value (RM 4.8).
-pub fn allocator(
-    alloc: Global,
+/// Answers the access type that the place of an allocator asks, where the type of the new object is known (RM 4.8).
+pub fn allocates_known(
     tables: &Tables,
     place: Span,
     asked: Asked,
-    parts: Option<(Option<Expr>, (Ty, Option<Expr>))>,
+    ty: Option<Ty>,
+    notes: &mut Notes,
+) -> Option<usize>
+    ensures { Answers (onward ty (spec.allocates tables.now place asked)) notes.old result notes.new }
+{
+    allocates(tables, place, asked, ty?, notes)
+}
+
+/// Makes an allocator of its parts, where they are known: the handle, the type, the access type and the value (RM 4.8).
+pub fn allocator(
+    alloc: Global,
+    parts: Option<(Option<Expr>, (Ty, (usize, Option<Expr>)))>,
     notes: &mut Notes,
 ) -> Result<Option<Typed>, AllocError>
-    ensures { Judges (onward parts (allocating.by_parts tables.now place asked)) notes.old result notes.new }
+    ensures { Judges (onward parts allocating.by_parts) notes.old result notes.new }
 {
-    let Some((handle, (ty, value))) = parts else {
-        return Ok(None);
-    };
-    match allocates(tables, place, asked, ty, notes) {
-        Some(access) => allocated(alloc, access, ty, handle, value, notes),
-        None => {
-            drop((handle, value));
-            Ok(None)
+    match parts {
+        Some((handle, (ty, (access, value)))) => {
+            allocated(alloc, access, ty, handle, value, notes)
         }
+        None => Ok(None),
     }
 }

@@ -1,21 +1,20 @@
 //! Conversions, and functions on mark pools (RM 4.6, 13.11.4).
 
-ghost use Rattle.std.specs.Prelude.{◌≡◌};
+ghost use Rattle.std.specs.Prelude.{◌≡◌, IfOk};
 ghost use Rattle.ctl_typing.specs.declared.notes.Notes.{Notes as Noted};
 ghost use Rattle.ctl_typing.specs.Judgement.{Answers, Judges, onward};
+ghost use Rattle.ctl_typing.specs.Lookup as lookup;
 ghost use Rattle.ctl_typing.specs.Senses as senses;
 ghost use Rattle.ctl_typing.specs.Typing as spec;
 
-use crate::actuals::as_variable;
 use crate::found::{Found, Place, Typed};
-use crate::judging::{is_same, refused, wrong};
+use crate::judging::{doing, is_same, refused, wrong};
 use crate::lookup::{descends, designated_by, is_general, level_of_access};
 use crate::names::{given_place, name_at};
-use crate::notes::Notes;
+use crate::notes::{Deed, Notes};
 use crate::table::Tables;
 use crate::values::at_level;
 use ctl_program::expression::Expr;
-use ctl_program::library::MARK_RELEASE_POOL;
 use ctl_program::operators::SubpoolFunction;
 use ctl_program::types::Ty;
 use ctl_tree::fault::FaultCode;
@@ -40,7 +39,7 @@ pub fn converted_number(
 
 /// Tells whether a type converts to an access type: between those of one designated type, to a general one (RM 4.6).
 fn is_convertible(tables: &Tables, access: usize, ty: Ty) -> bool
-    ensures { result ≡ spec.is_convertible tables.now access ty }
+    ensures { result ≡ lookup.is_convertible tables.now access ty }
 {
     let Ty::Access(from) = ty else {
         return false;
@@ -56,7 +55,7 @@ fn is_convertible(tables: &Tables, access: usize, ty: Ty) -> bool
 
 /// Answers how many masters stand around the declaration of a value's type.
 fn level_of(tables: &Tables, ty: Ty) -> usize
-    ensures { result ≡ spec.level_of tables.now ty }
+    ensures { result ≡ lookup.level_of tables.now ty }
 {
     match ty {
         Ty::Access(access) => level_of_access(tables, access),
@@ -64,20 +63,21 @@ fn level_of(tables: &Tables, ty: Ty) -> usize
     }
 }
 
-/// Converts an access value to an access type (RM 4.6, 3.10.2).
+/// Converts an access value, which begins at `inner`, to an access type (RM 4.6, 3.10.2).
 pub fn converted_access(
     alloc: Global,
     tables: &Tables,
     place: Span,
+    inner: Span,
     access: usize,
     typed: Typed,
     notes: &mut Notes,
 ) -> Option<Found>
-    ensures { Answers (spec.converted_access tables.now place access typed) notes.old result notes.new }
+    ensures { Answers (spec.converted_access tables.now place inner access typed) notes.old result notes.new }
 {
     if !is_convertible(tables, access, typed.ty) {
         drop(typed);
-        return wrong(FaultCode::Type, place, notes);
+        return wrong(FaultCode::Type, inner, notes);
     }
     let operand = level_of(tables, typed.ty);
     let converted = Typed {
@@ -88,27 +88,37 @@ pub fn converted_access(
     at_level(place, operand, level_of_access(tables, access), part, notes)
 }
 
-/// Views a part as a record type, its ancestor (RM 4.6).
+/// Answers a part as one of another type.
+fn as_type(ty: Ty, part: Place) -> Place
+    ensures { result ≡ spec.as_type ty part }
+{
+    Place {
+        head: part.head,
+        steps: part.steps,
+        ty,
+        mutability: part.mutability,
+        aliasing: part.aliasing,
+    }
+}
+
+/// Views a part as a record type, its ancestor; the part freezes its own type (RM 4.6, 13.14).
 fn viewed_as(
     tables: &Tables,
     place: Span,
     number: usize,
     part: Place,
     notes: &mut Notes,
-) -> Option<Found>
-    ensures { Answers (spec.viewed_as tables.now place number part part.ty) notes.old result notes.new }
+) -> Result<Option<Found>, AllocError>
+    ensures { Judges (spec.viewed_as tables.now place number part part.ty) notes.old result notes.new }
 {
     match part.ty {
-        Ty::Record(from) if descends(tables, number, from) => Some(Found::View(Place {
-            head: part.head,
-            steps: part.steps,
-            ty: Ty::Record(number),
-            mutability: part.mutability,
-            aliasing: part.aliasing,
-        })),
+        Ty::Record(from) if descends(tables, number, from) => {
+            let view = Found::View(as_type(Ty::Record(number), part));
+            doing(Deed::Freezes(Ty::Record(from)), view, notes)
+        }
         _ => {
             drop(part);
-            wrong(FaultCode::Type, place, notes)
+            Ok(wrong(FaultCode::Type, place, notes))
         }
     }
 }
@@ -121,44 +131,29 @@ pub fn viewed(
     number: usize,
     found: Found,
     notes: &mut Notes,
-) -> Option<Found>
-    ensures { Answers (spec.viewed tables.now place inner number found) notes.old result notes.new }
+) -> Result<Option<Found>, AllocError>
+    ensures { Judges (spec.viewed tables.now place inner number found) notes.old result notes.new }
 {
     match found {
         Found::Part(part) => viewed_as(tables, place, number, part, notes),
-        Found::View(_) => refused(found, FaultCode::Type, inner, notes),
-        _ => refused(found, FaultCode::Type, place, notes),
+        Found::View(_) => Ok(refused(found, FaultCode::Type, inner, notes)),
+        _ => Ok(refused(found, FaultCode::Type, place, notes)),
     }
 }
 
-/// Judges a call of a function on a mark pool, of which the argument is a variable (RM 13.11.4).
+/// Answers a call of a function on a mark pool (RM 13.11.4).
 pub fn subpool_of(
     alloc: Global,
-    place: Span,
     function: SubpoolFunction,
-    found: Found,
-    notes: &mut Notes,
-) -> Result<Option<Found>, AllocError>
-    ensures { Judges (spec.subpool_of place function found) notes.old result notes.new }
+    pool: Place,
+) -> Result<Found, AllocError>
+    ensures { IfOk result (λ found. found ≡ senses.subpool_of function pool) }
 {
-    let Found::Part(part) = found else {
-        return Ok(refused(found, FaultCode::Type, place, notes));
-    };
-    match part.ty {
-        Ty::Record(number) if number == MARK_RELEASE_POOL => {
-            let name = name_at(alloc, part.head, part.steps)?;
-            let value = Expr::Subpool(function, name);
-            let typed = Typed {
-                ty: Ty::Handle,
-                value,
-            };
-            Ok(as_variable(place, part.mutability, Found::Computed(typed), notes))
-        }
-        _ => {
-            drop(part);
-            Ok(wrong(FaultCode::Type, place, notes))
-        }
-    }
+    let name = name_at(alloc, pool.head, pool.steps)?;
+    Ok(Found::Computed(Typed {
+        ty: Ty::Handle,
+        value: Expr::Subpool(function, name),
+    }))
 }
 
 /// Answers the image of a value, where that is known (RM 3.5).

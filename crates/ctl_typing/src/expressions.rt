@@ -6,12 +6,12 @@ ghost use Rattle.ctl_typing.specs.Judgement.{Judges};
 ghost use Rattle.ctl_typing.specs.Senses as senses;
 ghost use Rattle.ctl_typing.specs.Typing as spec;
 
-use crate::actuals::{record_handed_on, written_found};
-use crate::adopting::place_of;
-use crate::allocators::{allocator, handle_of, mark_judged, value_asked};
+use crate::actuals::{by_name, record_handed_on, record_in_parentheses};
+use crate::adopting::{place_of, place_within};
+use crate::allocators::{allocates_known, allocator, handle_of, mark_judged, told_at, value_asked};
 use crate::attributes::attributed;
 use crate::conversions::{converted_access, converted_number, imaged, subpool_of, viewed};
-use crate::found::{Asked, Found, Typed, discard};
+use crate::found::{Asked, Found, Place, Typed, discard};
 use crate::joining::{appended_with, paired_with, value_of};
 use crate::judging::wrong;
 use crate::literals::{first_found, null, number};
@@ -21,7 +21,9 @@ use crate::notes::Notes;
 use crate::operations::{chain, logical, relation, unary};
 use crate::table::{FormalEntry, Tables};
 use crate::values::name_value;
+use crate::variables::{no_variable, variable_named};
 use ctl_program::expression::{Actual, Expr};
+use ctl_program::library::MARK_RELEASE_POOL;
 use ctl_program::operators::SubpoolFunction;
 use ctl_program::types::Ty;
 use ctl_syntax::denoted::Use;
@@ -243,7 +245,7 @@ fn with_one(
     }
 }
 
-/// Judges the argument of a function on a mark pool: it is a name (RM 13.11.4).
+/// Judges the argument of a function on a mark pool: a variable of the type of such pools (RM 13.11.4).
 #[cycle(expression)]
 fn with_pool(
     alloc: Global,
@@ -252,11 +254,10 @@ fn with_pool(
     function: SubpoolFunction,
     notes: &mut Notes,
 ) -> Result<Option<Found>, AllocError>
-    ensures { Judges (spec.subpool_by tables.now function (spec.sense x.now).place (spec.sense x.now).bare) notes.old result notes.new }
+    ensures { Judges (spec.subpool_by tables.now function (spec.sense x.now)) notes.old result notes.new }
 {
-    let place = place_of(x);
-    match bare(alloc, tables, x, FaultCode::Mode, place, notes)? {
-        Some(part) => subpool_of(alloc, place, function, part, notes),
+    match variable_of(alloc, tables, x, Ty::Record(MARK_RELEASE_POOL), notes)? {
+        Some(pool) => Ok(Some(subpool_of(alloc, function, pool)?)),
         None => Ok(None),
     }
 }
@@ -277,11 +278,14 @@ fn converted(
         Ty::Integer => number_as(alloc, tables, x, Ty::Integer, notes),
         Ty::Count => number_as(alloc, tables, x, Ty::Count, notes),
         Ty::Access(access) => match expression(alloc, tables, x, Asked::Anything, notes)? {
-            Some(typed) => Ok(converted_access(alloc, tables, place, access, typed, notes)),
+            Some(typed) => {
+                let inner = place_within(x);
+                Ok(converted_access(alloc, tables, place, inner, access, typed, notes))
+            }
             None => Ok(None),
         },
-        Ty::Record(number) => match bare(alloc, tables, x, FaultCode::Type, place, notes)? {
-            Some(part) => Ok(viewed(tables, place, place_of(x), number, part, notes)),
+        Ty::Record(number) => match bare(alloc, tables, x, place, notes)? {
+            Some(part) => viewed(tables, place, place_of(x), number, part, notes),
             None => Ok(None),
         },
         Ty::Boolean | Ty::Address | Ty::Handle => Ok(wrong(FaultCode::Type, place, notes)),
@@ -303,25 +307,47 @@ fn number_as(
     converted_number(alloc, ty, typed)
 }
 
-/// Judges an expression that is to be a name alone; any other is told with a code at a place.
+/// Judges an expression that is to be a name alone; any other is told at a place.
 #[cycle(expression)]
 fn bare(
     alloc: Global,
     tables: &Tables,
     x: &Expression<Use>,
-    code: FaultCode,
     place: Span,
     notes: &mut Notes,
 ) -> Result<Option<Found>, AllocError>
-    ensures { Judges (senses.bare_found code place (spec.sense x.now).bare tables.now) notes.old result notes.new }
+    ensures { Judges (senses.bare_found place (spec.sense x.now).bare tables.now) notes.old result notes.new }
 {
     match x {
         Expression::Name(_, name) => found(alloc, tables, name, notes),
-        _ => Ok(wrong(code, place, notes)),
+        _ => Ok(wrong(FaultCode::Type, place, notes)),
     }
 }
 
-/// Judges the actual of a formal that is written to: it is a name (RM 6.4.1).
+/// Judges what is written to: a variable of a type, which a name denotes (RM 6.4.1).
+#[cycle(expression)]
+pub fn variable_of(
+    alloc: Global,
+    tables: &Tables,
+    x: &Expression<Use>,
+    ty: Ty,
+    notes: &mut Notes,
+) -> Result<Option<Place>, AllocError>
+    ensures { Judges (spec.variable_of tables.now ty (spec.sense x.now)) notes.old result notes.new }
+{
+    match x {
+        Expression::Name(place, name) => {
+            let found = found(alloc, tables, name, notes)?;
+            variable_named(alloc, tables, *place, ty, found, notes)
+        }
+        _ => {
+            let typed = expression(alloc, tables, x, Asked::Exactly(ty), notes)?;
+            Ok(no_variable(place_of(x), typed, notes))
+        }
+    }
+}
+
+/// Judges the actual of a formal that is written to (RM 6.4.1).
 #[cycle(expression)]
 fn written_by(
     alloc: Global,
@@ -331,11 +357,10 @@ fn written_by(
     ty: Ty,
     notes: &mut Notes,
 ) -> Result<Option<Actual>, AllocError>
-    ensures { Judges (spec.written_by tables.now (spec.sense x.now).place mode ty (spec.sense x.now).bare) notes.old result notes.new }
+    ensures { Judges (senses.written_by tables.now mode ty (spec.sense x.now)) notes.old result notes.new }
 {
-    let place = place_of(x);
-    match bare(alloc, tables, x, FaultCode::Mode, place, notes)? {
-        Some(part) => written_found(alloc, place, mode, ty, part, notes),
+    match variable_of(alloc, tables, x, ty, notes)? {
+        Some(part) => Ok(Some(by_name(alloc, mode, part)?)),
         None => Ok(None),
     }
 }
@@ -357,26 +382,44 @@ fn actual_value(
     }
 }
 
-/// Judges a record that is handed on, by reference where a name denotes it, perhaps in parentheses; told at a place (RM 6.2).
+/// Judges a record that is handed on, by reference where a name denotes it, perhaps in parentheses (RM 6.2).
 #[cycle(expression)]
 fn record_by(
     alloc: Global,
     tables: &Tables,
     x: &Expression<Use>,
-    place: Span,
     ty: Ty,
     notes: &mut Notes,
 ) -> Result<Option<Actual>, AllocError>
-    ensures { Judges (senses.record_at tables.now place ty (spec.sense x.now)) notes.old result notes.new }
+    ensures { Judges (senses.record_handed tables.now ty (spec.sense x.now)) notes.old result notes.new }
 {
     match x {
-        Expression::Name(_, name) => {
+        Expression::Name(place, name) => {
             let found = found(alloc, tables, name, notes)?;
-            record_handed_on(alloc, tables, place, ty, found, notes)
+            record_handed_on(alloc, tables, *place, ty, found, notes)
         }
-        Expression::Parentheses(_, inner) => {
-            record_by(alloc, tables, inner.get(), place, ty, notes)
+        Expression::Parentheses(_, inner) => record_inside(alloc, tables, inner.get(), ty, notes),
+        _ => actual_value(alloc, tables, x, ty, notes),
+    }
+}
+
+/// Judges what stands in parentheses as a record that is handed on (RM 6.2).
+#[cycle(expression)]
+fn record_inside(
+    alloc: Global,
+    tables: &Tables,
+    x: &Expression<Use>,
+    ty: Ty,
+    notes: &mut Notes,
+) -> Result<Option<Actual>, AllocError>
+    ensures { Judges (senses.record_inside tables.now ty (spec.sense x.now)) notes.old result notes.new }
+{
+    match x {
+        Expression::Name(place, name) => {
+            let found = found(alloc, tables, name, notes)?;
+            record_in_parentheses(alloc, tables, *place, ty, found, notes)
         }
+        Expression::Parentheses(_, inner) => record_inside(alloc, tables, inner.get(), ty, notes),
         _ => actual_value(alloc, tables, x, ty, notes),
     }
 }
@@ -393,7 +436,7 @@ fn actual_of(
     ensures { Judges (spec.actual_of tables.now (formal, spec.sense x.now)) notes.old result notes.new }
 {
     match (formal.mode, formal.ty) {
-        (Mode::In, Ty::Record(_)) => { record_by(alloc, tables, x, place_of(x), formal.ty, notes) }
+        (Mode::In, Ty::Record(_)) => record_by(alloc, tables, x, formal.ty, notes),
         (Mode::In, _) => actual_value(alloc, tables, x, formal.ty, notes),
         _ => written_by(alloc, tables, x, formal.mode, formal.ty, notes),
     }
@@ -484,9 +527,9 @@ fn allocation(
     ensures { Judges (spec.new_judged place (option_map senses.name_sense handle.now) mark.now (option_map spec.sense value.now) tables.now asked) notes.old result notes.new }
 {
     let handle = handle_or_none(alloc, tables, handle, asked, notes)?;
-    let object = new_object(alloc, tables, mark, value, place, notes);
+    let object = new_object(alloc, tables, mark, value, place, asked, notes);
     let parts = paired_with(handle, object)?;
-    allocator(alloc, tables, place, asked, parts, notes)
+    allocator(alloc, parts, notes)
 }
 
 /// Judges the handle of an allocator, where it has one, by the type that is asked of the allocator (RM 13.11.4).
@@ -498,7 +541,7 @@ fn handle_or_none(
     asked: Asked,
     notes: &mut Notes,
 ) -> Result<Option<Option<Expr>>, AllocError>
-    ensures { Judges (spec.held (option_map (spec.handle_judged tables.now asked) (option_map senses.name_sense handle.now))) notes.old result notes.new }
+    ensures { Judges (spec.handle_given tables.now asked (option_map senses.name_sense handle.now)) notes.old result notes.new }
 {
     let Some(name) = handle else {
         return Ok(Some(None));
@@ -508,7 +551,7 @@ fn handle_or_none(
     handle_of(alloc, tables, name.first.span, asked, found, notes)
 }
 
-/// Judges the type of a new object and then its value, where it has one (RM 4.8).
+/// Judges the type of a new object, and by it the rest: the access type that is asked, and the value (RM 4.8).
 #[cycle(expression)]
 fn new_object(
     alloc: Global,
@@ -516,12 +559,34 @@ fn new_object(
     mark: &Mark<Use>,
     value: &Option<Boxed<Expression<Use>>>,
     place: Span,
+    asked: Asked,
     notes: &mut Notes,
-) -> Result<Option<(Ty, Option<Expr>)>, AllocError>
-    ensures { Judges (judgement.following (spec.mark_judged tables.now mark.now.first mark.now.rest) (λ ty. spec.value_judged tables.now place ty (option_map spec.sense value.now))) notes.old result notes.new }
+) -> Result<Option<(Ty, (usize, Option<Expr>))>, AllocError>
+    ensures { Judges (judgement.following (spec.mark_judged tables.now (spec.told_at place mark.now.first) mark.now.rest) (spec.object_judged tables.now place asked (option_map spec.sense value.now))) notes.old result notes.new }
 {
-    let ty = mark_judged(alloc, tables, mark.first, mark.rest.as_slice(), notes)?;
-    paired_with(ty, value_or_none(alloc, tables, value, place, ty, notes))
+    let first = told_at(place, mark.first);
+    let ty = mark_judged(alloc, tables, first, mark.rest.as_slice(), notes)?;
+    paired_with(ty, object(alloc, tables, value, place, asked, ty, notes))
+}
+
+/// Judges the access type that is asked of an allocator, and the value of the new object (RM 4.8).
+#[cycle(expression)]
+fn object(
+    alloc: Global,
+    tables: &Tables,
+    value: &Option<Boxed<Expression<Use>>>,
+    place: Span,
+    asked: Asked,
+    ty: Option<Ty>,
+    notes: &mut Notes,
+) -> Result<Option<(usize, Option<Expr>)>, AllocError>
+    ensures { Judges (spec.object_judged tables.now place asked (option_map spec.sense value.now) ty) notes.old result notes.new }
+{
+    let access = allocates_known(tables, place, asked, ty, notes);
+    paired_with(
+        access,
+        value_or_none(alloc, tables, value, place, ty, notes),
+    )
 }
 
 /// Judges the value of an allocator, where it has one, by the type of the new object, where that is known (RM 4.8).

@@ -21,3 +21,4 @@ pub mod operators;
 pub mod table;
 pub mod texts;
 pub mod values;
+pub mod variables;

@@ -99,7 +99,7 @@ pub fn designated_by(tables: &Tables, access: usize) -> Option<Ty>
 {
     match access_at(tables, access)?.designated {
         Designated::Known(ty) => Some(ty),
-        Designated::Unclear | Designated::Awaited(_) => None,
+        Designated::Unclear | Designated::Awaited(_, _) => None,
     }
 }
 

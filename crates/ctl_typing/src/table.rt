@@ -150,8 +150,8 @@ pub enum Designated {
     Known(Ty),
     /// a type that is wrong itself
     Unclear,
-    /// a type of which the full declaration has not come yet, by the number of its declaration
-    Awaited(usize),
+    /// a type of which the full declaration has not come yet, by the number of its declaration, and where it is named
+    Awaited(usize, Span),
 }
 
 /// An access type.

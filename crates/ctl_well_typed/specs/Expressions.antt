@@ -19,7 +19,12 @@ use Rattle.ctl_program.specs.declared.operators.BinaryOp.{BinaryOp}
 use Rattle.ctl_program.specs.declared.operators.Shortcut.{Shortcut}
 use Rattle.ctl_program.specs.declared.operators.SubpoolFunction.{SubpoolFunction}
 use Rattle.ctl_well_typed.specs.Setting.{Passing, In, Formal, Holding, Declared, Stands, Frames, Names, Signature, Setting, HasAccess, InView, Callable}
-use Rattle.ctl_well_typed.specs.Types.{is_number, is_scalar, IsCell, Covers, HasRoot, HasDiscriminant, Walks, Takes, Joins, copy_of, is_written}
+use Rattle.ctl_well_typed.specs.Types.{is_number, is_scalar, IsCell, Covers, HasRoot, HasDiscriminant, HasSubpools, Walks, Takes, Joins, copy_of, is_written}
+
+-- what stands for no object: a value of one cell, or the result of a call (4.1, 6.2)
+pub data IsValue : Expr → Ty → Type 0 where
+  of_one_cell : {x : Expr} {t : Ty} → is_scalar t ≡ true → IsValue x t
+  of_call : (s : ℕ) (actuals : List Actual) (t : Ty) → IsValue (e.Call s actuals t) t
 
 mutual
   -- an expression, and its type
@@ -34,14 +39,19 @@ mutual
     -- access values of one designated type are converted without a sign in the program (4.6)
     as_access : {x : Expr} {a b : ℕ} {from to : AccessType} → slice_get k.accesses a ≡ Some from → slice_get k.accesses b ≡ Some to → from.designated ≡ to.designated → Typed k env x (ty.Access a) → Typed k env x (ty.Access b)
     access : {v : Var} {t a : ℕ} {x : AccessType} → Names env v (Declared (ty.Record t)) → slice_get k.accesses a ≡ Some x → x.designated ≡ ty.Record t → Typed k env (e.Access v) (ty.Access a)
-    allocate : {a : ℕ} {t : Ty} {handle value : Option Expr} → (to : HasAccess k env a) → to.is.designated ≡ t → InView k env t → Perhaps k env handle ty.Handle → Perhaps k env value t → Typed k env (e.New a t handle value) (ty.Access a)
-    subpool : {which : SubpoolFunction} {x : Name} {t : ℕ} → Denotes k env x (ty.Record t) → HasRoot k t root.MarkPool → Typed k env (e.Subpool which x) ty.Handle
+    allocate : {a : ℕ} {t : Ty} {handle value : Option Expr} → (to : HasAccess k env a) → to.is.designated ≡ t → InView k to.home t → Handled k env to.home to.is handle → Perhaps k env value t → Typed k env (e.New a t handle value) (ty.Access a)
+    subpool : {which : SubpoolFunction} {x : Name} {t : ℕ} {s : Ty} → Covers k (ty.Record t) s → Denotes k env x s → HasRoot k t root.MarkPool → Typed k env (e.Subpool which x) ty.Handle
     discriminant : {x : Name} {t i : ℕ} {r : Root} → Denotes k env x (ty.Record t) → HasRoot k t r → HasDiscriminant r i → Typed k env (e.Discriminant x i) ty.Count
 
   -- an expression that may be left out
   pub data Perhaps (k : Setting) (env : Frames) : Option Expr → Ty → Type 0 where
     left_out : {t : Ty} → Perhaps k env None t
     given : {x : Expr} {t : Ty} → Typed k env x t → Perhaps k env (Some x) t
+
+  -- a handle stands where the objects of the access type stand in subpools; without one the object stands where its pool puts it (4.8, 13.11.4)
+  pub data Handled (k : Setting) (env : Frames) : Frames → AccessType → Option Expr → Type 0 where
+    by_pool : {home : Frames} {to : AccessType} → Handled k env home to None
+    in_subpool : {home : Frames} {to : AccessType} {x : Expr} → HasSubpools k home to.pool → Typed k env x ty.Handle → Handled k env home to (Some x)
 
   -- operands of `and then` or `or else`
   pub data Truths (k : Setting) (env : Frames) : List Expr → Type 0 where
@@ -60,7 +70,7 @@ mutual
 
   -- an actual for a formal (6.4.1): a value, a record that a name denotes, or a variable that is copied
   pub data Fits (k : Setting) (env : Frames) : Formal → Actual → Type 0 where
-    by_value : {x : Expr} {s t : Ty} → Covers k t s → Typed k env x s → Fits k env (record { passing = In; ty = t }) (actual.ByValue x t)
+    by_value : {x : Expr} {s t : Ty} → Covers k t s → IsValue x s → Typed k env x s → Fits k env (record { passing = In; ty = t }) (actual.ByValue x t)
     by_reference : {x : Name} {p : Passing} {u : ℕ} {s t : Ty} → Covers k (ty.Record u) s → Covers k t s → Denotes k env x s → Fits k env (record { passing = p; ty = ty.Record u }) (actual.Part x t)
     by_copy : {x : Name} {p : Passing} {t : Ty} → is_written p ≡ true → is_scalar t ≡ true → Denotes k env x t → Fits k env (record { passing = p; ty = t }) (actual.Copied x t (copy_of p t))
 

@@ -1,8 +1,9 @@
 -- When a program is well typed: its types, its subprograms, and its main procedure (3.8 to 3.10, 6.1, 6.3, 7.6, 10.2, 13.11).
-use Rattle.std.specs.Prelude.{◌≡◌, ◌<◌, ◌≤◌, ℕ, true, false, List, [], ◌∷◌, ◌++◌, length, map, slice_get, Option, Some, None}
+use Rattle.std.specs.Prelude.{◌≡◌, ◌<◌, ◌≤◌, ℕ, Bool, true, false, List, [], ◌∷◌, ◌++◌, length, map, slice_get, Option, Some, None}
 use Rattle.ctl_program.specs.declared.types.Ty.{Ty}
 use Rattle.ctl_program.specs.declared.types.Ty.TheVariants as ty
 use Rattle.ctl_program.specs.declared.types.Root.{Root}
+use Rattle.ctl_program.specs.declared.types.Root.TheVariants as root
 use Rattle.ctl_program.specs.declared.types.Var.{Var}
 use Rattle.ctl_program.specs.declared.types.Component.{Component}
 use Rattle.ctl_program.specs.declared.types.Operations.{Operations}
@@ -13,7 +14,7 @@ use Rattle.ctl_program.specs.declared.operators.SubprogramKind.TheVariants as ki
 use Rattle.ctl_program.specs.declared.program.Checked.{Checked}
 use Rattle.ctl_program.specs.declared.program.Subprogram.{Subprogram}
 use Rattle.ctl_well_typed.specs.Setting.{Passing, In, Out, InOut, Formal, Declared, OfFormal, Collection, Frame, Frames, Names, Signature, Setting, HasRecord, InView, Callable}
-use Rattle.ctl_well_typed.specs.Types.{Descends, HasRoot}
+use Rattle.ctl_well_typed.specs.Types.{Descends, HasRoot, HasSubpools}
 use Rattle.ctl_well_typed.specs.Expressions.{Perhaps}
 use Rattle.ctl_well_typed.specs.Statements.{is_pool, Mastered}
 
@@ -49,11 +50,37 @@ pub record Overridden (k : Setting) (home : Frames) (n : ℕ) (os : Operations) 
   pub allocate : Overrides k home n (formal Out ty.Address ∷ formal In ty.Count ∷ formal In ty.Count ∷ []) os.allocate
   pub deallocate : Overrides k home n (formal In ty.Address ∷ formal In ty.Count ∷ formal In ty.Count ∷ []) os.deallocate
 
+abbrev pub is_tagged : Root → Bool
+is_tagged root.Untagged = false
+is_tagged r = true
+
+abbrev pub may_adjust : Root → Bool
+may_adjust root.Controlled = true
+may_adjust r = false
+
+abbrev pub is_block_pool : Root → Bool
+is_block_pool root.BlockPool = true
+is_block_pool r = false
+
+-- what a type does not have it does not override
+abbrev pub OnlyWhere : Bool → Option ℕ → Type 0
+OnlyWhere true o = Unit {0}
+OnlyWhere false o = o ≡ None
+
+-- Initialize and Finalize are operations of tagged types, Adjust of those that are no pools, Allocate and Deallocate of block pools (7.6, 13.11)
+pub record Provided (r : Root) (os : Operations) : Type 0 where
+  pub initialize : OnlyWhere (is_tagged r) os.initialize
+  pub adjust : OnlyWhere (may_adjust r) os.adjust
+  pub finalize : OnlyWhere (is_tagged r) os.finalize
+  pub allocate : OnlyWhere (is_block_pool r) os.allocate
+  pub deallocate : OnlyWhere (is_block_pool r) os.deallocate
+
 pub record RecordFine (k : Setting) (n : ℕ) (r : RecordType) (home : Frames) : Type 0 where
   pub level : r.level ≡ length home
   pub parent : Parent k home n r.root r.parent
   pub own : Added k home n r.own
   pub operations : Overridden k home n r.operations
+  pub provided : Provided r.root r.operations
 
 -- the pool of an access type is a declared object of a pool type (13.11, profile)
 pub data Pooled (k : Setting) (home : Frames) : Option Var → Type 0 where
@@ -65,6 +92,8 @@ pub record AccessFine (k : Setting) (n : ℕ) (a : AccessType) (home : Frames) :
   pub collection : Names home a.collection (Collection n)
   pub designated : InView k home a.designated
   pub pool : Pooled k home a.pool
+  -- one with subpools is no deeper than its pool (13.11.4)
+  pub subpools : (v : Var) → a.pool ≡ Some v → HasSubpools k home (Some v) → length home ≤ v.level
 
 -- Subprograms ------------------------------------------------------------------------------------
 

@@ -63,6 +63,16 @@ pub data Given (k : Setting) (env : Frames) (r : Root) : List Association → Ty
   no_more_values : Given k env r []
   one_more_value : {i : ℕ} {x : Expr} {more : List Association} → HasDiscriminant r i → Typed k env x ty.Count → Given k env r more → Given k env r (record { position = i; value = x } ∷ more)
 
+-- no value is given at this position
+abbrev pub NoneAt : ℕ → List Association → Type 0
+NoneAt i [] = Unit {0}
+NoneAt i (a ∷ more) = (a.position ≡ i → ⊥) × NoneAt i more
+
+-- no discriminant is given twice (3.7.1)
+abbrev pub EachOnce : List Association → Type 0
+EachOnce [] = Unit {0}
+EachOnce (a ∷ more) = NoneAt a.position more × EachOnce more
+
 -- how many discriminants a pool type has (13.11, profile)
 abbrev pub discriminants : Root → ℕ
 discriminants root.BlockPool = 2
@@ -75,9 +85,9 @@ is_pool root.MarkPool = true
 is_pool r = false
 
 pub data Elaborated (k : Setting) (env : Frames) : Item → Type 0 where
-  collections : {as' : List ℕ} → Gathers k env as' → Elaborated k env (item.Collections as')
+  collections : {a : ℕ} {as' : List ℕ} → Gathers k env (a ∷ as') → Elaborated k env (item.Collections (a ∷ as'))
   object : {number : ℕ} {t : Ty} {value : Option Expr} → Fills env number (Declared t) → InView k env t → Perhaps k env value t → Elaborated k env (item.Object number t value)
-  pool : {number t : ℕ} {r : Root} {ds : List Association} → Fills env number (Declared (ty.Record t)) → InView k env (ty.Record t) → HasRoot k t r → is_pool r ≡ true → length ds ≡ discriminants r → Given k env r ds → Elaborated k env (item.Pool number t ds)
+  pool : {number t : ℕ} {r : Root} {ds : List Association} → Fills env number (Declared (ty.Record t)) → InView k env (ty.Record t) → HasRoot k t r → is_pool r ≡ true → length ds ≡ discriminants r → EachOnce ds → Given k env r ds → Elaborated k env (item.Pool number t ds)
   silent : Elaborated k env item.Silent
 
 pub data ElaboratedEach (k : Setting) (env : Frames) : List Item → Type 0 where

@@ -1,9 +1,10 @@
 -- What the tables say of types (3.4, 3.8, 3.9.1, 3.10), and what operators take (4.5).
-use Rattle.std.specs.Prelude.{◌≡◌, ◌≤◌, ◌<◌, ◌⊎◌, ℕ, suc, Bool, true, false, List, [], ◌∷◌, ◌++◌, slice_get, Some, None}
+use Rattle.std.specs.Prelude.{◌≡◌, ◌≤◌, ◌<◌, ◌⊎◌, ℕ, suc, Bool, true, false, List, [], ◌∷◌, ◌++◌, slice_get, Option, Some, None}
 use Rattle.ctl_program.specs.declared.types.Ty.{Ty}
 use Rattle.ctl_program.specs.declared.types.Ty.TheVariants as ty
 use Rattle.ctl_program.specs.declared.types.Root.{Root}
 use Rattle.ctl_program.specs.declared.types.Root.TheVariants as root
+use Rattle.ctl_program.specs.declared.types.Var.{Var}
 use Rattle.ctl_program.specs.declared.types.Component.{Component}
 use Rattle.ctl_program.specs.declared.types.RecordType.{RecordType}
 use Rattle.ctl_program.specs.declared.types.AccessType.{AccessType}
@@ -16,7 +17,7 @@ use Rattle.ctl_program.specs.declared.operators.BinaryOp.TheVariants as op
 use Rattle.ctl_program.specs.declared.operators.CopyStart.{CopyStart}
 use Rattle.ctl_program.specs.declared.operators.CopyStart.TheVariants as copy
 use Rattle.ctl_program.specs.Limits.{integer_last, integer_first_cell}
-use Rattle.ctl_well_typed.specs.Setting.{Passing, In, InOut, Setting}
+use Rattle.ctl_well_typed.specs.Setting.{Passing, In, InOut, Declared, Frames, Names, Setting}
 
 -- Kinds of types ------------------------------------------------------------------------
 
@@ -70,6 +71,10 @@ pub data HasDiscriminant : Root → ℕ → Type 0 where
   block_size : HasDiscriminant root.BlockPool 0
   block_count : HasDiscriminant root.BlockPool 1
   pool_size : HasDiscriminant root.MarkPool 0
+
+-- an access type with this pool has its objects in subpools: the pool is a declared object of a mark pool's type (13.11.4)
+pub data HasSubpools (k : Setting) (home : Frames) : Option Var → Type 0 where
+  of_mark_pool : {v : Var} {t : ℕ} → Names home v (Declared (ty.Record t)) → HasRoot k t root.MarkPool → HasSubpools k home (Some v)
 
 -- Names -------------------------------------------------------------------------------------------
 

@@ -6,9 +6,8 @@ use Rattle.ctl_syntax.specs.declared.denoted.Use.{Use}
 use Rattle.ctl_syntax.specs.declared.expression.Expression.{Expression, size-Expression, size_is-Expression}
 use Rattle.ctl_syntax.specs.declared.expression.Expression.TheVariants.{Logical, outs-Logical, New, outs-New, Relation, outs-Relation}
 use Rattle.ctl_typing.specs.Judgement.{◌>>=◌, beside, each, following, known, onward, then_beside, with_known}
-use Rattle.ctl_program.specs.declared.types.Ty.{Ty}
 use Rattle.ctl_syntax.specs.declared.operators.Operand.{Operand}
-use Rattle.ctl_typing.specs.Allocating.{by_parts, given, handle_of}
+use Rattle.ctl_typing.specs.Allocating.{by_parts, handle_of}
 use Rattle.ctl_typing.specs.declared.found.Typed.{Typed}
 use Rattle.ctl_typing.specs.declared.notes.Notes.{Notes}
 use Rattle.ctl_typing.specs.Senses as senses
@@ -19,7 +18,7 @@ use Rattle.ctl_typing.proofs.Depths.{around_one, chain_depth}
 use Rattle.ctl_typing.proofs.Logical.{logical_judged_is}
 use Rattle.ctl_typing.proofs.Matching.{no_more, no_more_formals}
 use Rattle.ctl_typing.proofs.Parting.{second_is_typed, further_is_typed, led_by}
-use Rattle.ctl_typing.proofs.Senses.{sense_name, sense_chain, sense_logical, sense_new, sense_number, sense_null, sense_parentheses, sense_relation, sense_string, sense_unary}
+use Rattle.ctl_typing.proofs.Senses.{record_enclosed_is, sense_name, sense_chain, sense_logical, sense_new, sense_number, sense_null, sense_parentheses, sense_relation, sense_string, sense_unary}
 use Rattle.ctl_typing.proofs.Stages.{judged_as, onward_is, both_are, both_judged, following_judged, swapped_is}
 use Rattle.ctl_typing.proofs.Turns.{each_added, first_added, next_of}
 use Rattle.ctl_typing.proofs.+expression.Goals as goal
@@ -79,27 +78,45 @@ expressions::allocation-returns t c =
     let place = c.args.place in
     let asked = c.args.asked in
     let mark = c.args.mark.now in
+    let value = option_map spec.sense c.args.value.now in
     let start = c.args.notes.now in
     let held = c.handle_or_none.new.notes in
     let ended = c.new_object-object.new.notes in
-    let handle = spec.held (option_map (spec.handle_judged tables asked) (option_map senses.name_sense c.args.handle.now)) in
-    let object = following (spec.mark_judged tables mark.first mark.rest) (λ (ty : Option Ty). spec.value_judged tables place ty (option_map spec.sense c.args.value.now)) in
+    let handle = spec.handle_given tables asked (option_map senses.name_sense c.args.handle.now) in
+    let object = following (spec.mark_judged tables (spec.told_at place mark.first) mark.rest) (spec.object_judged tables place asked value) in
     let parts = both_judged handle object start held ended c.in_ok-handle.handle c.in_ok-parts.parts c.in_ok-handle.ensures (c.in_ok-parts.ensures object held ended c.new_object-object.ensures) in
-    judged_as (spec.new_judged place (option_map senses.name_sense c.args.handle.now) mark (option_map spec.sense c.args.value.now) tables asked) (onward c.in_ok-parts.parts (by_parts tables place asked))
+    judged_as (spec.new_judged place (option_map senses.name_sense c.args.handle.now) mark value tables asked) (onward c.in_ok-parts.parts by_parts)
     start ended c.allocator.new.notes c.allocator.result
-    (ap (with_known (by_parts tables place asked)) parts) c.allocator.ensures
+    (ap (with_known by_parts) parts) c.allocator.ensures
 
 pub expressions::new_object-returns : goal.expressions::new_object-returns
 expressions::new_object-returns t c =
     let tables = c.args.tables.now in
     let mark = c.args.mark.now in
-    let object = λ (ty : Option Ty). spec.value_judged tables c.args.place ty (option_map spec.sense c.args.value.now) in
+    let rest = spec.object_judged tables c.args.place c.args.asked (option_map spec.sense c.args.value.now) in
+    let first = spec.told_at c.args.place mark.first in
     let ty = c.in_ok-ty.ty in
     let start = c.args.notes.now in
     let marked = c.mark_judged.new.notes in
-    let typed = ap (λ is'. spec.mark_judged tables mark.first is' start) (sym c.as_slice.ensures) ∙ c.in_ok-ty.ensures in
-    judged_as (following (spec.mark_judged tables mark.first mark.rest) object) (λ n. beside (object ty) (ty, n)) start marked c.value_or_none.new.notes c.paired_with.result
-    (ap (then_beside object) typed) (c.paired_with.ensures (object ty) marked c.value_or_none.new.notes c.value_or_none.ensures)
+    let typed =
+    ap (λ u. spec.mark_judged tables u mark.rest start) (sym c.told_at-first.ensures)
+    ∙ ap (λ is'. spec.mark_judged tables c.told_at-first.result is' start) (sym c.as_slice.ensures)
+    ∙ c.in_ok-ty.ensures in
+    judged_as (following (spec.mark_judged tables first mark.rest) rest) (λ n. beside (rest ty) (ty, n)) start marked c.object.new.notes c.paired_with.result
+    (ap (then_beside rest) typed) (c.paired_with.ensures (rest ty) marked c.object.new.notes c.object.ensures)
+
+pub expressions::object-returns : goal.expressions::object-returns
+expressions::object-returns t c =
+    let tables = c.args.tables.now in
+    let place = c.args.place in
+    let ty = c.args.ty in
+    let access = c.allocates_known-access.result in
+    let value = spec.value_judged tables place ty (option_map spec.sense c.args.value.now) in
+    let start = c.args.notes.now in
+    let asked = c.allocates_known-access.new.notes in
+    let ended = c.value_or_none.new.notes in
+    judged_as (spec.object_judged tables place c.args.asked (option_map spec.sense c.args.value.now) ty) (λ n. beside value (access, n)) start asked ended c.paired_with.result
+    (ap (beside value) c.allocates_known-access.ensures) (c.paired_with.ensures value asked ended c.value_or_none.ensures)
 
 pub expressions::expression-logical-requires : goal.expressions::expression-logical-requires
 expressions::expression-logical-requires t c =
@@ -512,6 +529,25 @@ expressions::actuals_behind-returns-in_default t c =
     sym c.loop-at.invariant
     ∙ no_more_formals (spec.actual_of c.args.tables.now) spec.sense c.loop-at.done c.args.formals.now c.args.more.now c.loop-at.at c.loop-at.notes (ltb-false c.loop-at.at (length c.args.formals.now) (sym c.in_default.ensures.lookup.0))
 
+pub expressions::actuals_behind-loop-at-preserved : goal.expressions::actuals_behind-loop-at-preserved
+expressions::actuals_behind-loop-at-preserved t c =
+    let all = c.args.more.now in
+    let formals = c.args.formals.now in
+    let i = c.loop-at.at in
+    let y = c.index-more-at.result in
+    let p = c.in-Some.formal.now in
+    let f = spec.actual_of c.args.tables.now in
+    let before = c.loop-at.notes in
+    let judged = c.actual_of-one.new.notes in
+    let read = c.in-Some.ensures.lookup in
+    let one = next_of all i y c.loop-at-test.true c.index-more-at.is in
+    let formal = next_of formals i p read.3.0 read.1 in
+    each_added f c.loop-at.done c.in_ok-done.done (p, spec.sense y) (spec.matched (drop (i + 1) formals) (map spec.sense (drop (i + 1) all))) before judged
+    (c.in_ok-done.ensures (f (p, spec.sense y)) before judged c.actual_of-one.ensures)
+    ∙ ap (λ fs. each f c.loop-at.done (spec.matched fs (map spec.sense (y ∷ drop (i + 1) all))) before) (sym formal)
+    ∙ ap (λ ys. each f c.loop-at.done (spec.matched (drop i formals) (map spec.sense ys)) before) (sym one)
+    ∙ c.loop-at.invariant
+
 pub expressions::bare-returns-in-Name : goal.expressions::bare-returns-in-Name
 expressions::bare-returns-in-Name t c = let i = c.in-Name in rw (i.is, sense_name i.field-0 i.name) c.found.ensures
 
@@ -519,11 +555,41 @@ pub expressions::record_by-returns-in_ok-found-in-Name : goal.expressions::recor
 expressions::record_by-returns-in_ok-found-in-Name t c =
     let i = c.in-Name in
     let tables = c.args.tables.now in
-    let place = c.args.place in
-    rw (i.is, sense_name i.field-0 i.name)
+    let place = i.place in
+    rw (i.is, sense_name i.place i.name)
     (judged_as (spec.found i.name.first (map suffix_sense i.name.suffixes) tables >>= spec.settled tables place >>= spec.record_found place c.args.ty) (senses.record_handed_on tables place c.args.ty c.in_ok-found-in-Name.found)
     c.args.notes.now c.found.new.notes c.record_handed_on.new.notes c.record_handed_on.result
     (ap (λ q. with_known (spec.record_found place c.args.ty) (with_known (spec.settled tables place) q)) c.in_ok-found-in-Name.ensures) c.record_handed_on.ensures)
+
+pub expressions::record_by-returns-in-Parentheses : goal.expressions::record_by-returns-in-Parentheses
+expressions::record_by-returns-in-Parentheses t c =
+    let i = c.in-Parentheses in
+    rw (i.is, sense_parentheses i.field-0 i.inner, ← c.get.ensures, record_enclosed_is c.args.tables.now c.args.ty i.field-0 (spec.sense c.get.result.now) (spec.sense c.get.result.now).named) c.record_inside.ensures
+
+pub expressions::record_inside-returns-in_ok-found-in-Name : goal.expressions::record_inside-returns-in_ok-found-in-Name
+expressions::record_inside-returns-in_ok-found-in-Name t c =
+    let i = c.in-Name in
+    let tables = c.args.tables.now in
+    let place = i.place in
+    rw (i.is, sense_name i.place i.name)
+    (judged_as (spec.found i.name.first (map suffix_sense i.name.suffixes) tables >>= spec.settled tables place >>= spec.record_enclosed place c.args.ty) (senses.record_in_parentheses tables place c.args.ty c.in_ok-found-in-Name.found)
+    c.args.notes.now c.found.new.notes c.record_in_parentheses.new.notes c.record_in_parentheses.result
+    (ap (λ q. with_known (spec.record_enclosed place c.args.ty) (with_known (spec.settled tables place) q)) c.in_ok-found-in-Name.ensures) c.record_in_parentheses.ensures)
+
+pub expressions::record_inside-returns-in-Parentheses : goal.expressions::record_inside-returns-in-Parentheses
+expressions::record_inside-returns-in-Parentheses t c =
+    let i = c.in-Parentheses in
+    rw (i.is, sense_parentheses i.field-0 i.inner, ← c.get.ensures, record_enclosed_is c.args.tables.now c.args.ty i.field-0 (spec.sense c.get.result.now) (spec.sense c.get.result.now).named) c.record_inside.ensures
+
+pub expressions::variable_of-returns-in_ok-found-in-Name : goal.expressions::variable_of-returns-in_ok-found-in-Name
+expressions::variable_of-returns-in_ok-found-in-Name t c =
+    let i = c.in-Name in
+    let tables = c.args.tables.now in
+    let place = i.place in
+    rw (i.is, sense_name i.place i.name)
+    (judged_as (spec.found i.name.first (map suffix_sense i.name.suffixes) tables >>= spec.settled tables place >>= spec.variable_found tables place c.args.ty) (senses.variable_named tables place c.args.ty c.in_ok-found-in-Name.found)
+    c.args.notes.now c.found.new.notes c.variable_named.new.notes c.variable_named.result
+    (ap (λ q. with_known (spec.variable_found tables place c.args.ty) (with_known (spec.settled tables place) q)) c.in_ok-found-in-Name.ensures) c.variable_named.ensures)
 
 pub expressions::handle_or_none-returns : goal.expressions::handle_or_none-returns
 expressions::handle_or_none-returns t c =
@@ -532,8 +598,8 @@ expressions::handle_or_none-returns t c =
     let place = name.first.span in
     let asked = c.args.asked in
     rw (c.in-Some.is, ← c.get-name.ensures)
-    (judged_as (spec.handle_judged tables asked (senses.name_sense name) >>= given) (handle_of tables place asked c.in_ok-found.found) c.args.notes.now c.found.new.notes c.handle_of.new.notes c.handle_of.result
-    (ap (λ q. with_known given (with_known (spec.in_subpools tables place asked) (with_known (spec.handle_found place) (with_known (spec.settled tables place) q)))) c.in_ok-found.ensures) c.handle_of.ensures)
+    (judged_as (spec.handle_judged tables asked (senses.name_sense name)) (handle_of tables place asked c.in_ok-found.found) c.args.notes.now c.found.new.notes c.handle_of.new.notes c.handle_of.result
+    (ap (λ q. with_known (spec.in_subpools tables place asked) (with_known (spec.handle_found place) (with_known (spec.settled tables place) q))) c.in_ok-found.ensures) c.handle_of.ensures)
 
 pub expressions::number_as-returns : goal.expressions::number_as-returns
 expressions::number_as-returns t c =
@@ -567,8 +633,8 @@ expressions::with_one-with_pool-requires t c = (omega (arith, c.decreases), tt)
 pub expressions::with_one-expression-requires : goal.expressions::with_one-expression-requires
 expressions::with_one-expression-requires t c = (omega (arith, c.decreases), tt)
 
-pub expressions::with_pool-bare-requires : goal.expressions::with_pool-bare-requires
-expressions::with_pool-bare-requires t c = (omega (arith, c.decreases), tt)
+pub expressions::with_pool-variable_of-requires : goal.expressions::with_pool-variable_of-requires
+expressions::with_pool-variable_of-requires t c = (omega (arith, c.decreases), tt)
 
 pub expressions::converted-number_as-requires : goal.expressions::converted-number_as-requires
 expressions::converted-number_as-requires t c = (omega (arith, c.decreases), tt)
@@ -585,8 +651,8 @@ expressions::converted-bare-requires t c = (omega (arith, c.decreases), tt)
 pub expressions::number_as-expression-requires : goal.expressions::number_as-expression-requires
 expressions::number_as-expression-requires t c = (omega (arith, c.decreases), tt)
 
-pub expressions::written_by-bare-requires : goal.expressions::written_by-bare-requires
-expressions::written_by-bare-requires t c = (omega (arith, c.decreases), tt)
+pub expressions::written_by-variable_of-requires : goal.expressions::written_by-variable_of-requires
+expressions::written_by-variable_of-requires t c = (omega (arith, c.decreases), tt)
 
 pub expressions::actual_value-expression-requires : goal.expressions::actual_value-expression-requires
 expressions::actual_value-expression-requires t c = (omega (arith, c.decreases), tt)
@@ -623,3 +689,15 @@ operations::short-truths-requires t c = (omega (arith, c.decreases), tt)
 
 pub operations::unary-expression-requires : goal.operations::unary-expression-requires
 operations::unary-expression-requires t c = (omega (arith, c.decreases), tt)
+
+pub expressions::new_object-object-requires : goal.expressions::new_object-object-requires
+expressions::new_object-object-requires t c = (omega (arith, c.decreases), tt)
+
+pub expressions::object-value_or_none-requires : goal.expressions::object-value_or_none-requires
+expressions::object-value_or_none-requires t c = (omega (arith, c.decreases), tt)
+
+pub expressions::record_inside-actual_value-requires : goal.expressions::record_inside-actual_value-requires
+expressions::record_inside-actual_value-requires t c = (omega (arith, c.decreases), tt)
+
+pub expressions::variable_of-expression-requires : goal.expressions::variable_of-expression-requires
+expressions::variable_of-expression-requires t c = (omega (arith, c.decreases), tt)

@@ -105,13 +105,16 @@ abbrev pub decreases-expressions::actual_value : goal.decreases-expressions::act
 decreases-expressions::actual_value l = goal.size-expressions::actual_value l * 16 + 1
 
 abbrev pub decreases-expressions::written_by : goal.decreases-expressions::written_by
-decreases-expressions::written_by l = goal.size-expressions::written_by l * 16 + 1
+decreases-expressions::written_by l = goal.size-expressions::written_by l * 16 + 2
+
+abbrev pub decreases-expressions::variable_of : goal.decreases-expressions::variable_of
+decreases-expressions::variable_of l = goal.size-expressions::variable_of l * 16 + 1
 
 abbrev pub decreases-expressions::number_as : goal.decreases-expressions::number_as
 decreases-expressions::number_as l = goal.size-expressions::number_as l * 16 + 1
 
 abbrev pub decreases-expressions::with_pool : goal.decreases-expressions::with_pool
-decreases-expressions::with_pool l = goal.size-expressions::with_pool l * 16 + 1
+decreases-expressions::with_pool l = goal.size-expressions::with_pool l * 16 + 2
 
 abbrev pub decreases-expressions::converted : goal.decreases-expressions::converted
 decreases-expressions::converted l = goal.size-expressions::converted l * 16 + 2
@@ -120,13 +123,19 @@ abbrev pub decreases-expressions::value_or_none : goal.decreases-expressions::va
 decreases-expressions::value_or_none l = goal.size-expressions::value_or_none l * 16 + 1
 
 abbrev pub decreases-expressions::new_object : goal.decreases-expressions::new_object
-decreases-expressions::new_object l = goal.size-expressions::new_object l * 16 + 2
+decreases-expressions::new_object l = goal.size-expressions::new_object l * 16 + 3
+
+abbrev pub decreases-expressions::object : goal.decreases-expressions::object
+decreases-expressions::object l = goal.size-expressions::object l * 16 + 2
 
 abbrev pub decreases-expressions::with_one : goal.decreases-expressions::with_one
 decreases-expressions::with_one l = goal.size-expressions::with_one l * 16 + 3
 
 abbrev pub decreases-expressions::record_by : goal.decreases-expressions::record_by
 decreases-expressions::record_by l = goal.size-expressions::record_by l * 16 + 2
+
+abbrev pub decreases-expressions::record_inside : goal.decreases-expressions::record_inside
+decreases-expressions::record_inside l = goal.size-expressions::record_inside l * 16 + 2
 
 abbrev pub decreases-expressions::actual_of : goal.decreases-expressions::actual_of
 decreases-expressions::actual_of l = goal.size-expressions::actual_of l * 16 + 3

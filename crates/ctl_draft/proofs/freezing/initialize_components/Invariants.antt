@@ -1,7 +1,0 @@
-use Rattle.std.proofs.Common.{◌≡◌, drop}
-use Rattle.ctl_draft.specs.Freezing as spec
-use Rattle.ctl_draft.proofs.freezing.initialize_components.Given as goal
-
--- what is left to do, after what was done, is all
-abbrev pub invariant-loop-component : goal.invariant-loop-component
-invariant-loop-component l = spec.initialize_components (drop l.component-index l.own) l.states ≡ spec.initialize_components l.own l.fn.states
