@@ -3,13 +3,14 @@
 
     legality.py PATH_OF_ADACTL [--only WORD]
 
-`--only` takes the files whose names have this word. A text is legal where it is accepted, and where it is left out: that is said only
-of a text that breaks no rule.
+`--only` takes the files whose names have this word.
 
-A file `legality/NN_name.txt` has the cases of the rule with the number NN. A case is a line `-- what it shows`, and its text up to
-the next such line at a line's beginning. The mark ▸ stands just before the character where the fault is told, and is no
-part of the text; a case without a mark is legal. A fault with another number than the file's is named first in its line:
-`-- 30: what it shows`. A case that begins `-- not yet: what it shows` is one that is still judged otherwise; where it no longer is, that is told.
+A file `legality/NN_name.txt` has the cases of the rule with the number NN; `pairs.txt` has texts that break two rules at one token, of
+which the smaller number is told, and `subset.txt` those of docs/subset.md. A case is a line `-- what it shows`, and its text up to the next such line at a line's beginning. The
+mark ▸ stands just before the character where the fault is told, and is no part of the text; a case without a mark is accepted. A fault
+with another number than the file's is named first in its line: `-- 30: what it shows`. A case that begins `-- left out: what it shows` is
+legal, and is told 12 at its mark, as this version does not run it. A case that begins `-- not yet: what it shows` is one that is still
+judged otherwise; where it no longer is, that is told.
 
 A text stands in a frame: all with and use clauses of the library, on one line, and a main procedure. It is the part of
 the main procedure and, behind a line `begin`, its statements. Behind a line `[whole]` texts stand as they are; behind
@@ -22,18 +23,19 @@ import re
 import sys
 import tempfile
 
-from answers import FAULTS, answer, fault_told, tell
+from answers import answer, fault_told, tell
 
 HERE = os.path.dirname(os.path.abspath(__file__))
 
-# what is said of a legal text
+# what is said of a text that is accepted
 LEGAL = "legal"
-
-LEFT_OUT = f"12 {FAULTS[12]}"
 
 MARK = "▸"
 
 NOT_YET = "not yet: "
+
+# what the line of a case begins with whose text breaks no rule and is not run
+LEFT_OUT = "left out: "
 
 UNITS = """Ada.Finalization Ada.Text_IO Ada.Unchecked_Deallocation Ada.Unchecked_Deallocate_Subpool System System.Storage_Elements
 System.Storage_Pools.Subpools Block_Pools MR_Pools""".split()
@@ -44,16 +46,16 @@ CONTEXT = " ".join([f"with {unit};" for unit in UNITS] + [f"use {unit};" for uni
 
 
 class Case:
-    """A text, and where a rule is broken the number, line and column of the fault."""
+    """A text, and where a fault is told its number, line and column."""
 
     def __init__(self, file, what, lines, framed):
         self.name = f"{file}: {what}"
         self.is_open = what.startswith(NOT_YET)
-        number = re.match(r"(\d+): ", what.removeprefix(NOT_YET)) or re.match(r"(\d+)_", file)
         marked = framed_text(lines) if framed else "\n".join(lines) + "\n"
         before, mark, after = marked.partition(MARK)
         self.text = before + after
-        self.fault = (int(number[1]), before.count("\n") + 1, len(before) - before.rfind("\n")) if mark else None
+        number = number_of(file, what.removeprefix(NOT_YET))
+        self.fault = (number, before.count("\n") + 1, len(before) - before.rfind("\n")) if mark else None
 
     def complaint(self, said):
         """What differs in this answer, or None."""
@@ -64,6 +66,14 @@ class Case:
         if self.is_open:
             return f"{self.name}: {said!r}, as it should be" if said == wanted else None
         return None if said == wanted else f"{self.name}: {said!r}, not {wanted!r}"
+
+
+def number_of(file, what):
+    """The number of the fault that the line of a case names, or that its file is named after."""
+    if what.startswith(LEFT_OUT):
+        return 12
+    number = re.match(r"(\d+): ", what) or re.match(r"(\d+)_", file)
+    return int(number[1]) if number else None
 
 
 def framed_text(lines):
@@ -92,7 +102,7 @@ def verdict(adactl, path, text):
     with open(path, "w", encoding="utf-8") as file:
         file.write(text)
     status, said = answer(adactl, path)
-    return LEGAL if status == 0 or said.endswith(LEFT_OUT) else said
+    return LEGAL if status == 0 else said
 
 
 def main():

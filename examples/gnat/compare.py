@@ -1,10 +1,11 @@
 #!/usr/bin/env python3
 """The programs of examples/ under GNAT: each is compiled with the package of this folder, run, and what it prints compared with its `.out`.
 
-    compare.py [NAME ..]
+    compare.py [NAME | PATH ..]
 
-Without names, each program of examples/ whose run ends by itself and without a stop. One line for each; the last line counts them. Where there
-is no gnatmake it says so, and succeeds. DIFFERS has the programs of which GNAT makes another run, with the reason; they are run too."""
+Without words, each program of examples/ whose run ends by itself and without a stop. A PATH, which ends in `.adb`, is that of any other
+program; where no `.out` stands beside it, what it prints is shown. One line for each; the last line counts them. Where there is no gnatmake
+it says so, and succeeds. DIFFERS has the programs of which GNAT makes another run, with the reason; they are run too."""
 import os
 import shutil
 import subprocess
@@ -44,10 +45,15 @@ def names_of_all():
                 yield stem
 
 
+def stem_of(word):
+    """The path of a program that is named, or whose path is given, without its ending."""
+    return os.path.abspath(word.removesuffix(".adb")) if word.endswith(".adb") else os.path.join(EXAMPLES, word)
+
+
 def printed(stem, folder):
     """What the program prints, or why there is nothing to compare."""
-    source = os.path.join(EXAMPLES, stem + ".adb")
-    program = os.path.join(folder, stem)
+    source = stem + ".adb"
+    program = os.path.join(folder, os.path.basename(stem))
     made = subprocess.run(
         ["gnatmake", "-q", "-gnat2012", "-gnatws", f"-I{HERE}", source, "-o", program], cwd=folder, capture_output=True, timeout=LIMIT
     )
@@ -64,20 +70,32 @@ def verdict(stem, folder):
         return f"no end in {LIMIT} seconds"
     if got is None:
         return f"not compiled: {said}"
-    return "same" if got == read(os.path.join(EXAMPLES, stem + ".out")) else f"printed {got!r}; {said}"
+    if not os.path.exists(stem + ".out"):
+        return f"printed {got!r}; {said}"
+    return "same" if got == read(stem + ".out") else f"printed {got!r}; {said}"
 
 
-def main(names):
+def kind_of(word, stem, said):
+    """How what GNAT said of a program is counted."""
+    if said == "same":
+        return said
+    if word in DIFFERS:
+        return "known to differ"
+    return "different" if os.path.exists(stem + ".out") or not said.startswith("printed") else "shown"
+
+
+def main(words):
     if shutil.which("gnatmake") is None:
         print("no gnatmake here: nothing is compared")
         return 0
-    counts = {"same": 0, "known to differ": 0, "different": 0}
+    counts = {"same": 0, "known to differ": 0, "shown": 0, "different": 0}
     with tempfile.TemporaryDirectory() as folder:
-        for stem in names or names_of_all():
+        for word in words or names_of_all():
+            stem = stem_of(word)
             said = verdict(stem, folder)
-            kind = said if said == "same" else "known to differ" if stem in DIFFERS else "different"
+            kind = kind_of(word, stem, said)
             counts[kind] += 1
-            print(f"{stem}: {kind}" + ("" if kind == "same" else f": {DIFFERS.get(stem, said)}"))
+            print(f"{word}: {kind}" + ("" if kind == "same" else f": {DIFFERS.get(word, said)}"))
     print(", ".join(f"{count} {kind}" for kind, count in counts.items()))
     return 1 if counts["different"] else 0
 

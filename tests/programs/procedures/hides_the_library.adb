@@ -1,4 +1,5 @@
---  A procedure of the text hides the library's of the same name and profile, which a use clause makes visible (RM 8.3, 8.4).
+--  A procedure of the text hides the library's of the same name, which a use clause makes visible, whatever their parameters are (RM 8.3, 8.4;
+--  in Ada the first call is ambiguous, since the library's has a parameter with a default).
 with Ada.Text_IO; use Ada.Text_IO;
 procedure Main is
    procedure New_Line is
