@@ -1,12 +1,13 @@
 #!/usr/bin/env python3
 """Proves the crates that the program adactl is made of, and builds it; `./adactl` calls this where it has to. Says on standard output how
-many of the crates are proved; all that the prover says goes to crates/adactl/out/build.log. Ends with status 1 where a crate is not proved
-or the program is not built.
+many of the crates are proved, and how long the rest takes by reckoning; all that the prover says goes to crates/adactl/out/build.log. Ends
+with status 1, and the end of that log, where a crate is not proved or the program is not built.
 
 It calls the prover as `rt ci` does: from nothing, and for a library that only states what it proves. Over the libraries that `rt` keeps for
 the work on a crate, which hold each proof, a check of one of the last crates takes minutes to read them. Of the crates that can be begun,
 that with the longest chain of others behind it comes first, as many side by side as there are processors. A library stays in
-crates/adactl/out/rlib, and is used until its sources, or those below it, are others."""
+crates/adactl/out/rlib, and is used until its sources, or those below it, are others; so does the program. Where this is ended by SIGTERM,
+what is proved by then is kept."""
 
 import contextlib
 import fcntl
@@ -16,6 +17,7 @@ import pathlib
 import signal
 import subprocess
 import sys
+import time
 from concurrent.futures import FIRST_COMPLETED, ThreadPoolExecutor, wait
 
 ROOT = pathlib.Path(__file__).resolve().parent.parent
@@ -38,6 +40,16 @@ READING = 300
 LATE = 1.6
 # How many processors a late crate has at least, though others have them too.
 LATE_JOBS = 3
+# How many lines of code take as long to prove as it takes to compile and link the program.
+BUILDING = 1000
+# How many processors a chain of crates uses, one behind the other.
+CHAIN_PROCESSORS = 1.35
+# What is said of a crate whose library was there before.
+THERE = b"its library is there\n"
+# Of how many parts of the work one has to be done before the time left is reckoned.
+PARTS_OF_WORK = 10
+# How many lines of the log are shown where the program is not built.
+SHOWN = 20
 
 
 class Crate:
@@ -123,6 +135,7 @@ class Schedule:
             self.behind[crate] = crate.work() + max(above, default=0)
         self.left = sorted(crates, key=lambda it: -self.behind[it])
         self.under_way, self.proved = {}, set()
+        self.begun, self.work_done = time.monotonic(), 0
 
     def is_late(self, crate):
         """Tells whether processors would idle behind a crate: its chain takes longer than all that is left, over all of them."""
@@ -144,17 +157,29 @@ class Schedule:
         self.under_way[crate] = share
         return crate, share
 
-    def end(self, crate):
-        """Notes that a crate is proved."""
+    def end(self, crate, was_there):
+        """Notes that a crate is proved, and whether its library was there before."""
         del self.under_way[crate]
         self.proved.add(crate)
+        if not was_there:
+            self.work_done += crate.work()
+
+    def time_left(self):
+        """Says how long the rest takes, by what was proved since the start; nothing where that was little."""
+        under_way = sum(it.work() for it in self.under_way) / 2
+        left = sum(it.work() for it in self.left) + under_way
+        if not self.work_done or self.work_done * PARTS_OF_WORK < self.work_done + left:
+            return ""
+        pace = (time.monotonic() - self.begun) / (self.work_done + under_way)
+        chain = max((self.behind[it] for it in [*self.left, *self.under_way]), default=0) * self.processors / CHAIN_PROCESSORS
+        return f", about {max(1, round(pace * (max(left, chain) + BUILDING) / 60))} min left"
 
 
 def prove(crate, jobs, kit, stamps):
     """Proves a crate, and makes its library, where it is not there. Gives the crate with what was said, and whether it is proved."""
     stamp, kept = crate.stamp(kit.name, stamps), crate.library.with_suffix(".stamp")
     if kept.is_file() and kept.read_text(encoding="ascii") == stamp:
-        return crate, b"its library is there\n", True
+        return crate, THERE, True
     kept.unlink(missing_ok=True)
     said, is_proved = kit.check("build", crate, jobs, "--statements", "-o", crate.library)
     if is_proved:
@@ -162,9 +187,9 @@ def prove(crate, jobs, kit, stamps):
     return crate, said, is_proved
 
 
-def prove_all(schedule, kit, log):
+def prove_all(schedule, kit, stamps, log):
     """Proves all crates, and tells whether they are; begins no further one where one is not."""
-    count, running, is_well, stamps = len(schedule.left), set(), True, {}
+    count, running, is_well = len(schedule.left), set(), True
     with ThreadPoolExecutor(schedule.processors) as pool:
         while True:
             while is_well and (next_one := schedule.begin()):
@@ -176,8 +201,9 @@ def prove_all(schedule, kit, log):
                 log.write(f"== {crate.name}\n".encode() + said)
                 log.flush()
                 is_well = is_well and is_proved
-                schedule.end(crate)
-                print(f"adactl: {len(schedule.proved)} of {count}: {crate.name}{'' if is_proved else ' is not proved'}", flush=True)
+                schedule.end(crate, said == THERE)
+                more = schedule.time_left() if is_proved else " is not proved"
+                print(f"adactl: {len(schedule.proved)} of {count}: {crate.name}{more}", flush=True)
 
 
 def build(program, processors, kit, log):
@@ -197,6 +223,25 @@ def build(program, processors, kit, log):
         if not is_well:
             return False
     return True
+
+
+def build_where_needed(program, processors, kit, stamps, log):
+    """Builds the program where it is not the one that was built of these sources; tells whether it is there."""
+    built, kept = OUT / PROGRAM, LIBRARIES / f"{PROGRAM}.stamp"
+    stamp = program.stamp(kit.name, stamps)
+    if built.is_file() and kept.is_file() and kept.read_text(encoding="ascii") == f"{stamp} {sum_of(built)}":
+        return True
+    print("adactl: building", flush=True)
+    kept.unlink(missing_ok=True)
+    if not build(program, processors, kit, log):
+        return False
+    kept.write_text(f"{stamp} {sum_of(built)}", encoding="ascii")
+    return True
+
+
+def sum_of(file):
+    """Gives the checksum of a file."""
+    return hashlib.sha256(file.read_bytes()).hexdigest()
 
 
 @contextlib.contextmanager
@@ -219,25 +264,28 @@ def large_pages():
     SIGTERM. It is a setting of the whole machine: who may not ask for it does without."""
     try:
         before = PAGES.read_text(encoding="ascii").partition("[")[2].partition("]")[0]
-        PAGES.write_text("always", encoding="ascii")
     except OSError:
+        before = ""
+    if not before or not os.access(PAGES, os.W_OK):
         yield
         return
 
-    def set_back():
-        PAGES.write_text(before, encoding="ascii")
+    def ask(word):
+        with contextlib.suppress(OSError):
+            PAGES.write_text(word, encoding="ascii")
 
     def end(number, _frame):
-        set_back()
+        ask(before)
         signal.signal(number, signal.SIG_DFL)
         signal.raise_signal(number)
 
     ended_by = signal.signal(signal.SIGTERM, end)
     try:
+        ask("always")
         yield
     finally:
+        ask(before)
         signal.signal(signal.SIGTERM, ended_by)
-        set_back()
 
 
 def free_memory():
@@ -247,19 +295,31 @@ def free_memory():
     return int(found[0]) * 1024
 
 
-def main():
-    """Proves and builds the program."""
+def prove_and_build(log):
+    """Proves and builds the program; tells whether it is built."""
     kit, crates = Kit(), read_crates()
     *libraries, program = crates
     processors = max(1, min(len(os.sched_getaffinity(0)), free_memory() // CHECK_MEMORY))
-    with log_of_build() as log, large_pages():
-        print(f"adactl: proving the {len(libraries)} libraries of the program, and then building it: twenty minutes to an hour on a new machine"
-              " with four processors", flush=True)
-        is_well = prove_all(Schedule(libraries, processors), kit, log)
-        if is_well:
-            print("adactl: building", flush=True)
-            is_well = build(program, processors, kit, log)
-    return 0 if is_well else 1
+    print(f"adactl: proving the {len(libraries)} libraries of the program, and then building it: twenty minutes to an hour on a new machine"
+          " with four processors", flush=True)
+    stamps = {}
+    return prove_all(Schedule(libraries, processors), kit, stamps, log) and build_where_needed(program, processors, kit, stamps, log)
+
+
+def main():
+    """Proves and builds the program, and says how that went wrong where it did."""
+    try:
+        with log_of_build() as log, large_pages():
+            if prove_and_build(log):
+                # It is newer than its sources from now on, so that `./adactl` runs it at once.
+                (OUT / PROGRAM).touch()
+                return 0
+    except OSError as error:
+        print(f"adactl: the program cannot be proved and built in {OUT}: {error}", flush=True)
+        return 1
+    said = (OUT / "build.log").read_text(encoding="utf-8", errors="replace").splitlines()
+    print(*said[-SHOWN:], f"adactl: the program was not built: {OUT / 'build.log'} has all that was said", sep="\n", flush=True)
+    return 1
 
 
 if __name__ == "__main__":
